@@ -35,7 +35,8 @@ use Rattle.end_laws.proofs.Known.{added-none, added-case, contains-here, contain
 use Rattle.end_laws.proofs.KnownLemmas.{run-more, call-later, servers-later, jobs-later, tied-later}
 use Rattle.end_laws.proofs.KnownLemmas.{server-more-end, ends-more}
 use Rattle.end_laws.proofs.KnownLemmas.{start-more, ask-more}
-use Rattle.end_laws.proofs.ListLemmas.{length-first, Placed, first-each, set-first, set-placed}
+use Rattle.node_laws.proofs.JoinLemmas.{length-first}
+use Rattle.end_laws.proofs.ListLemmas.{Placed, first-each, set-first, set-placed}
 use Rattle.end_laws.proofs.ListLemmas.{length-slice_set, all-first, all-add, all-found}
 use Rattle.end_laws.proofs.SlotLemmas.{find-any}
 

@@ -39,7 +39,8 @@ use Rattle.end_laws.proofs.Known.{added, added-here, added-keeps, added-none, ad
 use Rattle.end_laws.proofs.Known.{contains-here, contains-more, noting, later-noting}
 use Rattle.end_laws.proofs.KnownLemmas.{run-more, servers-later, jobs-later, server-more-end, start-more}
 use Rattle.end_laws.proofs.KnownLemmas.{ask-more}
-use Rattle.end_laws.proofs.ListLemmas.{Placed, add-placed, all-add, first-each, length-first}
+use Rattle.node_laws.proofs.JoinLemmas.{length-first}
+use Rattle.end_laws.proofs.ListLemmas.{Placed, add-placed, all-add, first-each}
 
 -- a session is opened
 module _ (k : Known) (n peer credits clock : ℕ) (l : Lists) (valid : Valid l)

@@ -34,7 +34,8 @@ use Rattle.end_laws.proofs.JobSteps.{jobs-good}
 use Rattle.end_laws.proofs.Known.{Known, Later, Speaks, is_joined, GoodClient, GoodNode, Unmade}
 use Rattle.end_laws.proofs.Known.{noting, later-noting}
 use Rattle.end_laws.proofs.KnownLemmas.{call-later, servers-later, jobs-later, tied-later}
-use Rattle.end_laws.proofs.ListLemmas.{all-map, length-first}
+use Rattle.node_laws.proofs.JoinLemmas.{length-first}
+use Rattle.end_laws.proofs.ListLemmas.{all-map}
 use Rattle.end_laws.proofs.QueueLemmas.{RightNode}
 use Rattle.end_laws.proofs.ServerLemmas.{servers-quiet}
 

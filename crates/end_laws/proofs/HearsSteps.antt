@@ -41,7 +41,7 @@ use Rattle.rpc_laws.specs.declared.tables.Lists.{Lists}
 use Rattle.rpc_laws.specs.declared.tables.Queued.{Queued}
 use Rattle.rpc_laws.specs.declared.tables.Served.{Served}
 use Rattle.rpc_laws.specs.declared.tables.Server.{Server}
-use Rattle.rpc_laws.specs.BufferSafety.{OwnControl}
+use Rattle.rpc_laws.specs.BufferSafety.{OwnControl, TakesNoSession}
 use Rattle.rpc_laws.specs.ControlSteps.{control_fact, Hears, HearsAll, Speaks, SpeaksIf}
 use Rattle.rpc_laws.specs.ControlTable.{closed_row, confirm_row, connect_reply, control_facts}
 use Rattle.rpc_laws.specs.ControlTable.{control_reply}
@@ -200,6 +200,7 @@ pub record MayEnd (l : Lists) (peer : ℕ) (h : ControlHeader) : Type 0 where
 -- what each row needs of the lists and of what is in hand
 abbrev pub RowMay : ControlRow → Option InFlight → Lists → ℕ → ControlHeader → Type 0
 RowMay (Confirms t credits) hand l peer h = OwnControl l peer (connect_reply h (Some t) credits 0)
+RowMay Declines hand l peer h = TakesNoSession l peer h.client h.credits
 RowMay (Accepts t) hand l peer h = t ≡ l.server_numbers
 RowMay Ends hand l peer h = MayEnd l peer h
 RowMay Misses hand l peer h = named_end peer h.client h.server l.servers ≡ None
@@ -268,7 +269,7 @@ ended-walk hand latest clock l m peer h said i k e me servers s =
       tt,
       said-walk hand (Some f) clock (after clock m f) l.me peer
           (disconnect_as DisconnectReply h 0) said me
-          (OwnControl.over 0 refl gone) s,
+          (OwnControl.ends refl gone) s,
     )
 
 -- the facts of a row, and what is sent then
@@ -286,7 +287,7 @@ row-walk Declines hand latest clock l peer h said i k m s = (
   (let f : Fact = plain l.me (Declined peer h.client h.credits) in
       said-walk hand (Some f) clock (after clock l f) l.me peer
       (connect_reply h None h.credits 1) said refl
-      (OwnControl.declines refl) s),
+      (OwnControl.declines refl (record { unknown = m.unknown; full = m.full })) s),
 )
 row-walk Starves hand latest clock l peer h said i k m s = (
   record { who = refl; may = tt },
@@ -329,7 +330,7 @@ row-walk Ends hand latest clock l peer h said i k m s =
     (λ before u me servers. ended-walk hand before clock l u peer h said i k m me servers s))
 row-walk Misses hand latest clock l peer h said i k m s =
     said-walk hand latest clock l l.me peer (disconnect_as DisconnectReply h 2) said refl
-    (OwnControl.over 2 refl m) s
+    (OwnControl.misses refl m) s
 row-walk (Connects t) hand latest clock l peer h said i k m s = (
   record { who = refl; may = (m, refl, refl) },
   tt,
@@ -353,16 +354,18 @@ row-walk Closes hand latest clock l peer h said i k m s = (
 
 -- what a connect request's row needs
 new-may : (a b : Bool) (hand : Option InFlight) (l : Lists) (peer : ℕ) (h : ControlHeader)
+    → find (is_end_of peer h.client) l.servers ≡ None
+    → (has_no_room h.credits l || servers_spent l) ≡ a
     → RowMay (cond a Declines (cond b Starves (Accepts l.server_numbers))) hand l peer h
-new-may true b hand l peer h = tt
-new-may false true hand l peer h = tt
-new-may false false hand l peer h = refl
+new-may true b hand l peer h none full = record { unknown = none; full = full }
+new-may false true hand l peer h none full = tt
+new-may false false hand l peer h none full = refl
 
 confirm-may : (lacks : Bool) (hand : Option InFlight) (l : Lists) (peer : ℕ) (h : ControlHeader)
     (o : Option Server) → RightNode l → find (is_end_of peer h.client) l.servers ≡ o
     → RowMay (confirm_row lacks h l o) hand l peer h
 confirm-may lacks hand l peer h None i e =
-    new-may (has_no_room h.credits l || servers_spent l) lacks hand l peer h
+    new-may (has_no_room h.credits l || servers_spent l) lacks hand l peer h e refl
 confirm-may lacks hand l peer h (Some v) i e =
     let number = v.way.number in
     let found = found-own (is_end_of peer h.client) (is_server number) l.servers v

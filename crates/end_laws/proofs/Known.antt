@@ -172,6 +172,19 @@ pub record SaysRequest (k : Known) (from to : ℕ) (h : MessageHeader) (body : L
   pub size : h.size ≡ length start.what.ask
   pub piece : body ≡ part start.what.ask h.number
 
+-- a request for a response is for a session of its sender
+pub record SaysAsk (k : Known) (from to : ℕ) (h : MessageHeader) : Type 0 where
+  pub session : ℕ
+  pub credits : ℕ
+  pub end : k.ends to h.session 0
+      ≡ Some (record { home = from; client = session; credits = credits })
+
+-- a credit return is from the peer of a call that began
+pub record SaysCredit (k : Known) (from to : ℕ) (h : MessageHeader) : Type 0 where
+  pub start : Begin
+  pub begun : k.starts to h.session h.request ≡ Some start
+  pub peer : from ≡ start.way.peer
+
 -- a Response is a part of the answer to a call that began
 pub record SaysResponse (k : Known) (from to : ℕ) (h : MessageHeader) (body : List ℕ) : Type 0 where
   pub start : Begin
@@ -184,8 +197,8 @@ pub record SaysResponse (k : Known) (from to : ℕ) (h : MessageHeader) (body : 
 
 abbrev pub Says : Kind → Known → (from to : ℕ) → MessageHeader → List ℕ → Type 0
 Says Request k from to h body = SaysRequest k from to h body
-Says Rfr k from to h body = Unit {0}
-Says Cr k from to h body = Unit {0}
+Says Rfr k from to h body = SaysAsk k from to h
+Says Cr k from to h body = SaysCredit k from to h
 Says Response k from to h body = SaysResponse k from to h body
 
 -- a server session was made for this end, with so many credits

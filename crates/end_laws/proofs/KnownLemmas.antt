@@ -65,8 +65,16 @@ module _ (j k : Known) (later : Later j k) where
   says-later : (kind : Kind) (from to : ℕ) (h : MessageHeader) (body : List ℕ)
       → Says kind j from to h body → Says kind k from to h body
   says-later Request from to h body s = says-request from to h body s
-  says-later Rfr from to h body s = tt
-  says-later Cr from to h body s = tt
+  says-later Rfr from to h body s = record {
+    session = s.session;
+    credits = s.credits;
+    end = later.ends to h.session 0 _ s.end;
+  }
+  says-later Cr from to h body s = record {
+    start = s.start;
+    begun = later.starts to h.session h.request s.start s.begun;
+    peer = s.peer;
+  }
   says-later Response from to h body s = says-response from to h body s
 
   made-later : (m t n s credits : ℕ) → IsMade j.past m t n s credits → IsMade k.past m t n s credits

@@ -332,8 +332,9 @@ sent-gone l v peer t h (inr (OwnControl.asks x opened own)) kind names =
     found-gone l v h.client t x opened.found (closing-gone x t mine.1)
 sent-gone l v peer t h (inr (OwnControl.confirms u w e found ends)) kind names =
     kind-no h _ e kind (λ k. cc)
-sent-gone l v peer t h (inr (OwnControl.declines e)) kind names = kind-no h _ e kind (λ k. cc)
+sent-gone l v peer t h (inr (OwnControl.declines e none)) kind names =
+    kind-no h _ e kind (λ k. cc)
 sent-gone l v peer t h (inr (OwnControl.disowns x opened e row)) kind names =
     found-gone l v h.client t x opened.found (disown-gone h.server x t names row)
-sent-gone l v peer t h (inr (OwnControl.over status e none)) kind names =
-    kind-no h _ e kind (λ k. cc)
+sent-gone l v peer t h (inr (OwnControl.ends e none)) kind names = kind-no h _ e kind (λ k. cc)
+sent-gone l v peer t h (inr (OwnControl.misses e none)) kind names = kind-no h _ e kind (λ k. cc)

@@ -251,13 +251,3 @@ module _ {A : Type 0} where
   pub find-add : (q : A → Bool) (xs : List A) (y v : A) → find q xs ≡ Some v → find q (xs ++ y ∷ []) ≡ Some v
   find-add q [] y v h = cc
   find-add q (z ∷ zs) y v h = find-add-cons q z zs y v (q z) h (find-add q zs y v)
-
-length-cons : {A : Type 0} (p : A → Bool) (f : A → A) (z : A) (zs : List A) (b : Bool)
-    → length (at_first p f zs) ≡ length zs
-    → length (cond b (f z ∷ zs) (z ∷ at_first p f zs)) ≡ length (z ∷ zs)
-length-cons p f z zs true ih = refl
-length-cons p f z zs false ih = omega arith
-
-pub length-first : {A : Type 0} (p : A → Bool) (f : A → A) (xs : List A) → length (at_first p f xs) ≡ length xs
-length-first p f [] = refl
-length-first p f (z ∷ zs) = length-cons p f z zs (p z) (length-first p f zs)

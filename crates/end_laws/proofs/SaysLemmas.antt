@@ -99,7 +99,12 @@ module _ (k : Known) (n : ℕ) where
     size = refl;
     piece = refl;
   }
-  client-says false i x c r j g joined begun = tt
+  client-says false i x c r j g joined begun = record {
+    session = x.way.number;
+    credits = x.limit;
+    end = joined.end ∙ ap (λ (s : ℕ). Some (record { home = n; client = s; credits = x.limit }))
+        (sym g.number);
+  }
 
   call-begun : (way : Way) (a : Asking) (p : Option Progress) (r : ℕ) → has_request r p ≡ true
       → IfSome p (GoodProgress k n way a)
@@ -184,7 +189,23 @@ module _ (k : Known) (n : ℕ) where
         body = part answer (j + 1 - packet_count q.size);
       }) answer)
       ≡ Some out → OutSays out
-  server-says true way q j answer out e g h = some-says _ out h tt
+  server-says true way q j answer out e g h =
+      some-says (record {
+        peer = way.peer;
+        packet = Message (record {
+          kind = Cr;
+          req_type = 0;
+          size = 0;
+          session = way.other;
+          number = j;
+          request = q.number;
+        });
+        body = [];
+      }) out h (record {
+        start = g.start;
+        begun = g.begun;
+        peer = sym (ap (λ (w : Way). w.peer) g.way_is);
+      })
   server-says false way q j None out e g h = cc
   server-says false way q j (Some a) out e g h =
       some-says _ out h (answer-says way q j a g (some-run way q (Some a) a g.start.what e refl g.answer))
@@ -286,11 +307,13 @@ module _ (k : Known) (n : ℕ) where
   own-tells l peer h g (OwnControl.confirms t v e found ends) =
       subst (λ (c : ControlHeader). Tells c.kind k n peer c) (sym e)
       (confirm-tells l peer t h v g found ends)
-  own-tells l peer h g (OwnControl.declines e) =
+  own-tells l peer h g (OwnControl.declines e none) =
       subst (λ (c : ControlHeader). Tells c.kind k n peer c) (sym e) (λ one. absurd (omega arith))
   own-tells l peer h g (OwnControl.disowns x opened e row) =
       subst (λ (c : ControlHeader). Tells c.kind k n peer c) (sym e) tt
-  own-tells l peer h g (OwnControl.over status e none) =
+  own-tells l peer h g (OwnControl.ends e none) =
+      subst (λ (c : ControlHeader). Tells c.kind k n peer c) (sym e) tt
+  own-tells l peer h g (OwnControl.misses e none) =
       subst (λ (c : ControlHeader). Tells c.kind k n peer c) (sym e) tt
 
   says-tells : (l : Lists) (peer : ℕ) (h : ControlHeader) → GoodNode k n l

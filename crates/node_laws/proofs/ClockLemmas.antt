@@ -1,8 +1,9 @@
 -- No packet tells of a clock: nodes that note the same facts at other clocks send the same.
-use Rattle.std.proofs.Common.{◌≡◌, ℕ, ◌+◌, Bool, true, false, ◌==◌, cond, Option, Some, None, List, []}
-use Rattle.std.proofs.Common.{◌∷◌, ◌++◌, refl, sym, ap, ◌∙◌, subst}
-use Rattle.std.specs.Prelude.{map, option_map}
+use Rattle.std.proofs.Common.{◌≡◌, ℕ, ◌+◌, Bool, true, false, ◌==◌, ◌||◌, cond, Option, Some, None, List, []}
+use Rattle.std.proofs.Common.{◌∷◌, ◌++◌, refl, sym, ap, ap₂, ◌∙◌, subst}
+use Rattle.std.specs.Prelude.{map, nat_le, nat_lt, option_map, sum_by}
 use Rattle.std.specs.List.{find}
+use Rattle.std.proofs.lemmas.List.Sums.{sum_by-cons}
 use Rattle.packet_header.specs.declared.packet.ControlHeader.{ControlHeader}
 use Rattle.packet_header.specs.declared.packet.MessageHeader.{MessageHeader}
 use Rattle.rpc_base.specs.Tables.{at_first}
@@ -15,6 +16,7 @@ use Rattle.rpc_base.specs.declared.event.Event.TheVariants.{ClosedUnheard, Asked
 use Rattle.rpc_base.specs.declared.event.Event.TheVariants.{Sent, Took, Rolled, Broken, DoneOk}
 use Rattle.rpc_base.specs.declared.event.Event.TheVariants.{DoneTooSmall, DonePeerLost}
 use Rattle.rpc_base.specs.declared.fact.Fact.{Fact}
+use Rattle.rpc_base.specs.declared.limits.TheConstants.{SESSION_NUMBERS}
 use Rattle.rpc_base.specs.declared.owner.Owner.{Owner}
 use Rattle.rpc_base.specs.declared.owner.Owner.TheVariants.{Ask, Reply, Control}
 use Rattle.rpc_base.specs.declared.state.SessionState.TheVariants.{Closed, Closing, Failed}
@@ -23,14 +25,17 @@ use Rattle.rpc_laws.specs.declared.tables.Call.{Call}
 use Rattle.rpc_laws.specs.declared.tables.Client.{Client}
 use Rattle.rpc_laws.specs.declared.tables.Lists.{Lists}
 use Rattle.rpc_laws.specs.declared.tables.Progress.{Progress}
-use Rattle.rpc_laws.specs.BufferSafety.{IsOpened, OwnControl, SentRight, SpellsOwn}
+use Rattle.rpc_laws.specs.declared.tables.Server.{Server}
+use Rattle.rpc_laws.specs.BufferSafety.{IsOpened, OwnControl, SentRight, SpellsOwn, TakesNoSession}
 use Rattle.rpc_laws.specs.ControlSteps.{own_request}
 use Rattle.rpc_laws.specs.ControlTable.{reply_row}
 use Rattle.rpc_laws.specs.Calls.{begun, is_active, is_call, is_response, has_request, moved}
 use Rattle.rpc_laws.specs.Calls.{posted_up_to, rolled_back, sent_packet, took_reply}
 use Rattle.rpc_laws.specs.Front.{control_of, front_header, front_body}
+use Rattle.rpc_laws.specs.Groups.{has_no_room, live_credits, servers_spent, shares}
 use Rattle.rpc_laws.specs.NodeLists.{after}
 use Rattle.rpc_laws.specs.Packets.{ask_packet, call_packet, owner_packet}
+use Rattle.rpc_laws.specs.Requests.{server_numbers_after}
 use Rattle.rpc_laws.specs.Sessions.{asks, begins, breaks, client_end, clients_after, clients_told}
 use Rattle.rpc_laws.specs.Sessions.{comes_to, connects, ends, has_call, is_client, is_request_of}
 use Rattle.rpc_laws.specs.Sessions.{opened_end, posts, requests, rolls, sends, takes}
@@ -222,6 +227,8 @@ pub record AtOtherClocks (s t : Lists) : Type 0 where
   pub clients : map bare s.clients ≡ map bare t.clients
   pub servers : s.servers ≡ t.servers
   pub ring : s.ring ≡ t.ring
+  pub room : s.room ≡ t.room
+  pub server_numbers : s.server_numbers ≡ t.server_numbers
 
 pub clocks-after : (c d : ℕ) (s t : Lists) (f : Fact) → AtOtherClocks s t
     → AtOtherClocks (after c s f) (after d t f)
@@ -236,6 +243,8 @@ clocks-after c d s t f k = record {
       ∙ (ap (clients_after 0 f.event f.first head body) k.clients ∙ there));
   servers = rw (k.servers, k.ring) refl;
   ring = rw k.ring refl;
+  room = k.room;
+  server_numbers = ap (server_numbers_after f.event) k.server_numbers;
 }
 
 -- packets of calls are those without clocks
@@ -297,6 +306,33 @@ reply-bare : (o : Option ℕ) (x : Client) → reply_row o 0 (bare x) ≡ reply_
 reply-bare None x = refl
 reply-bare (Some n) x = refl
 
+-- there is as much room at other clocks
+credits-bare : (xs : List Client) → sum_by live_credits (map bare xs) ≡ sum_by live_credits xs
+credits-bare [] = refl
+credits-bare (x ∷ xs) =
+    sum_by-cons live_credits (bare x) (map bare xs)
+    ∙ (ap (λ n. live_credits x + n) (credits-bare xs) ∙ sym (sum_by-cons live_credits x xs))
+
+shares-same : (s t : Lists) → AtOtherClocks s t → shares s ≡ shares t
+shares-same s t e =
+    ap₂ (λ (n : ℕ) (vs : List Server). n + sum_by (λ v. v.credits) vs)
+    (sym (credits-bare s.clients) ∙ (ap (sum_by live_credits) e.clients ∙ credits-bare t.clients))
+    e.servers
+
+pub no-room-same : (s t : Lists) (credits : ℕ) → AtOtherClocks s t
+    → has_no_room credits s ≡ has_no_room credits t
+no-room-same s t credits e =
+    ap₂ (λ room n. nat_lt room (n + credits)) e.room (shares-same s t e)
+
+takes-none-same : (s t : Lists) (peer client credits : ℕ) → AtOtherClocks s t
+    → TakesNoSession s peer client credits → TakesNoSession t peer client credits
+takes-none-same s t peer client credits e k = record {
+  unknown = rw (← e.servers) k.unknown;
+  full =
+      sym (ap₂ (λ a b. a || b) (no-room-same s t credits e)
+      (ap (λ n. nat_le SESSION_NUMBERS n) e.server_numbers)) ∙ k.full;
+}
+
 control-same : (s t : Lists) (peer : ℕ) (h : ControlHeader) → AtOtherClocks s t
     → OwnControl s peer h → OwnControl t peer h
 control-same s t peer h e (OwnControl.asks x opened own) =
@@ -305,14 +341,17 @@ control-same s t peer h e (OwnControl.asks x opened own) =
     (ap own_request o.same ∙ own)
 control-same s t peer h e (OwnControl.confirms n v named found is_end) =
     OwnControl.confirms n v named (rw (← e.servers) found) is_end
-control-same s t peer h e (OwnControl.declines named) = OwnControl.declines named
+control-same s t peer h e (OwnControl.declines named none) =
+    OwnControl.declines named (takes-none-same s t peer h.client h.credits e none)
 control-same s t peer h e (OwnControl.disowns x opened named row) =
     let o = other-client h.client s.clients t.clients x e.clients opened.found in
     OwnControl.disowns o.client (opened-same s t peer h.client x o opened) named
     (sym (reply-bare h.server o.client)
     ∙ (ap (reply_row h.server 0) o.same ∙ (reply-bare h.server x ∙ row)))
-control-same s t peer h e (OwnControl.over status named gone) =
-    OwnControl.over status named (rw (← e.servers) gone)
+control-same s t peer h e (OwnControl.ends named gone) =
+    OwnControl.ends named (rw (← e.servers) gone)
+control-same s t peer h e (OwnControl.misses named gone) =
+    OwnControl.misses named (rw (← e.servers) gone)
 
 first-is : (s l : Lists) → Some s ≡ Some l → s ≡ l
 first-is s l e = cc

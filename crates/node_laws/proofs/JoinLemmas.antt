@@ -40,9 +40,10 @@ long-cons : (n m : ℕ) (b : Bool) {A : Type 0} (x y : A) (xs ys : List A) → l
 long-cons n m true x y xs ys e = refl
 long-cons n m false x y xs ys e = ap suc e
 
-first-long : {A : Type 0} (p : A → Bool) (f : A → A) (xs : List A) → length (at_first p f xs) ≡ length xs
-first-long p f [] = refl
-first-long p f (x ∷ xs) = long-cons 0 0 (p x) (f x) x (at_first p f xs) xs (first-long p f xs)
+pub length-first : {A : Type 0} (p : A → Bool) (f : A → A) (xs : List A)
+    → length (at_first p f xs) ≡ length xs
+length-first p f [] = refl
+length-first p f (x ∷ xs) = long-cons 0 0 (p x) (f x) x (at_first p f xs) xs (length-first p f xs)
 
 -- what waits for its number
 next-taken : (k n s : ℕ) → n ≡ k → cond (n == s) 1 0 + to_come (k + 1) s ≤ to_come k s
@@ -60,7 +61,7 @@ module _ (t : ℕ) where
 module _ (s : ℕ) where
   stays : (p : Client → Bool) (f : Client → Client) (xs : List Client)
       → 0 + to_come (length (at_first p f xs)) s ≤ to_come (length xs) s
-  stays p f xs = rw (first-long p f xs) (omega arith)
+  stays p f xs = rw (length-first p f xs) (omega arith)
 
   told-stays : (clock : ℕ) (o : Option ControlHeader) (xs : List Client)
       → 0 + to_come (length (clients_told clock o xs)) s ≤ to_come (length xs) s

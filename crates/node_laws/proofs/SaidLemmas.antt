@@ -28,7 +28,7 @@ use Rattle.rpc_laws.specs.declared.rows.ControlRow.TheVariants.{Connects, Disown
 use Rattle.rpc_laws.specs.declared.tables.Client.{Client}
 use Rattle.rpc_laws.specs.declared.tables.Lists.{Lists}
 use Rattle.rpc_laws.specs.declared.tables.Server.{Server}
-use Rattle.rpc_laws.specs.BufferSafety.{IsOpened, OwnControl}
+use Rattle.rpc_laws.specs.BufferSafety.{IsOpened, OwnControl, TakesNoSession}
 use Rattle.rpc_laws.specs.ControlSteps.{Speaks, SpeaksIf}
 use Rattle.rpc_laws.specs.ControlTable.{closed_row, confirm_row, connect_reply, control_facts}
 use Rattle.rpc_laws.specs.ControlTable.{control_reply, control_row_of, disconnect_as, end_row}
@@ -61,6 +61,7 @@ pub record Disowned (s : Lists) (peer : ℕ) (h : ControlHeader) : Type 0 where
 -- what the rows that say something tell of the lists before them
 abbrev pub Tied : Lists → ℕ → ControlHeader → ControlRow → Type 0
 Tied s peer h (Confirms t credits) = Confirmed s peer h.client t credits
+Tied s peer h Declines = TakesNoSession s peer h.client h.credits
 Tied s peer h (Accepts t) = t ≡ s.server_numbers
 Tied s peer h Misses = named_end peer h.client h.server s.servers ≡ None
 Tied s peer h Disowns = Disowned s peer h
@@ -70,16 +71,18 @@ few-there : (s : Lists) → Valid s → (t : ℕ) → count_by (is_server t) s.s
 few-there s v t = let few = v.alone t in omega arith
 
 new-tied : (a b : Bool) (s : Lists) (peer : ℕ) (h : ControlHeader)
+    → find (is_end_of peer h.client) s.servers ≡ None
+    → (has_no_room h.credits s || servers_spent s) ≡ a
     → Tied s peer h (cond a Declines (cond b Starves (Accepts s.server_numbers)))
-new-tied true b s peer h = tt
-new-tied false true s peer h = tt
-new-tied false false s peer h = refl
+new-tied true b s peer h none full = record { unknown = none; full = full }
+new-tied false true s peer h none full = tt
+new-tied false false s peer h none full = refl
 
 confirm-tied : (lacks : Bool) (s : Lists) (peer : ℕ) (h : ControlHeader) (o : Option Server)
     → Valid s → find (is_end_of peer h.client) s.servers ≡ o
     → Tied s peer h (confirm_row lacks h s o)
 confirm-tied lacks s peer h None v e =
-    new-tied (has_no_room h.credits s || servers_spent s) lacks s peer h
+    new-tied (has_no_room h.credits s || servers_spent s) lacks s peer h e refl
 confirm-tied lacks s peer h (Some w) v e =
     let number = w.way.number in
     record {
@@ -220,7 +223,7 @@ module _ (clock : ℕ) (s : Lists) (valid : Valid s) (peer : ℕ) (h : ControlHe
       → AllAllowed clock (after_all clock heard (session_end s.me s.queued o)) x
   ended-said None e k =
       speaks-allowed clock heard s.me peer (disconnect_as DisconnectReply h 0) x
-      (OwnControl.over 0 refl e) k
+      (OwnControl.ends refl e) k
   ended-said (Some w) e k =
       let slots = slots-flushed clock heard s.me s.queued w (0 ∷ 1 ∷ 2 ∷ 3 ∷ 4 ∷ 5 ∷ 6 ∷ 7 ∷ [])
       (no-more-same s.queued) in
@@ -232,7 +235,7 @@ module _ (clock : ℕ) (s : Lists) (valid : Valid s) (peer : ℕ) (h : ControlHe
       ∙ ap (λ l. after clock l ended) slots.flushes.same in
       let gone = gone-by peer h.client h.server s.servers w (few-there s valid) e in
       rw left (speaks-allowed clock (after clock flushed ended) s.me peer
-      (disconnect_as DisconnectReply h 0) x (OwnControl.over 0 refl gone) k)
+      (disconnect_as DisconnectReply h 0) x (OwnControl.ends refl gone) k)
 
   accepted-said : (t : ℕ) → t ≡ s.server_numbers
       → Speaks s.me peer (connect_reply h (Some t) h.credits 0) x
@@ -262,13 +265,14 @@ module _ (clock : ℕ) (s : Lists) (valid : Valid s) (peer : ℕ) (h : ControlHe
       (OwnControl.confirms t tied.server named tied.found tied.ends) k
   row-said Declines tied k =
       speaks-allowed clock (after clock heard (plain s.me (Declined peer h.client h.credits))) s.me
-      peer (connect_reply h None h.credits 1) x (OwnControl.declines refl) k
+      peer (connect_reply h None h.credits 1) x
+      (OwnControl.declines refl (record { unknown = tied.unknown; full = tied.full })) k
   row-said Starves tied k = rw k tt
   row-said (Accepts t) tied k = accepted-said t tied k
   row-said Ends tied k = ended-said (named_end peer h.client h.server s.servers) refl k
   row-said Misses tied k =
       speaks-allowed clock heard s.me peer (disconnect_as DisconnectReply h 2) x
-      (OwnControl.over 2 refl tied) k
+      (OwnControl.misses refl tied) k
   row-said (Connects t) tied k = rw k tt
   row-said Disowns tied k =
       speaks-allowed clock heard s.me peer (disconnect_as DisconnectRequest h 0) x

@@ -1,6 +1,6 @@
 -- What a node sends is what its own tables have, of every run.
 use Rattle.std.proofs.Common.{◌≡◌, ℕ, ◌≤◌, true, Option, Some, None, List, []}
-use Rattle.std.proofs.Common.{◌∷◌, slice_get, refl, arith}
+use Rattle.std.proofs.Common.{◌∷◌, slice_get, refl, sym, arith}
 use Rattle.std.specs.List.{AllByRecursion, find}
 use Rattle.std.proofs.lemmas.Bool.{eq-eqb}
 use Rattle.packet_header.proofs.Heads.{spells-append}
@@ -132,5 +132,11 @@ sends-from s t u (f ∷ g) k l same = (
 
 pub sends_own : SendsItsOwn
 sends_own p me limits g t r =
-    λ other others. sends-from (new_lists me limits) (new_lists other others) t.lists g
-    (knows-new me limits) (run_leads_by r) (record { clients = refl; servers = refl; ring = refl })
+    λ other others same. sends-from (new_lists me limits) (new_lists other others) t.lists g
+    (knows-new me limits) (run_leads_by r) (record {
+      clients = refl;
+      servers = refl;
+      ring = refl;
+      room = sym same;
+      server_numbers = refl;
+    })

@@ -1,11 +1,12 @@
 -- The table of calls says what the facts tell.
 use Rattle.std.proofs.Common.{◌≡◌, ℕ, ◌+◌, ◌≤◌, Bool, true, false, not, ◌&&◌, cond, leb, Option}
-use Rattle.std.proofs.Common.{Some, None, List, [], ◌∷◌, refl, subst, ◌∙◌, inl, arith}
+use Rattle.std.proofs.Common.{Some, None, List, [], ◌∷◌, refl, ap, subst, ◌∙◌, inl, arith}
 use Rattle.std.specs.Prelude.{count_by, slice_get, sum_by, is_none}
 use Rattle.std.specs.List.{find, list_any}
 use Rattle.std.proofs.lemmas.Bool.{eq-eqb}
 use Rattle.rpc_base.specs.declared.fact.Fact.{Fact}
 use Rattle.rpc_base.specs.declared.limits.Limits.{Limits}
+use Rattle.rpc_laws.specs.declared.tables.Arrival.{Arrival}
 use Rattle.rpc_laws.specs.declared.tables.Call.{Call}
 use Rattle.rpc_laws.specs.declared.tables.Client.{Client}
 use Rattle.rpc_laws.specs.declared.tables.Lists.{Lists}
@@ -14,9 +15,11 @@ use Rattle.rpc_laws.specs.AtMostOnce.{begins_call, ends_call}
 use Rattle.rpc_laws.specs.Calls.{is_call}
 use Rattle.rpc_laws.specs.Front.{front_header, front_body}
 use Rattle.rpc_laws.specs.NodeLists.{after, new_lists}
+use Rattle.rpc_laws.specs.Queues.{ring_after}
 use Rattle.rpc_laws.specs.Sessions.{is_client, has_call}
 use Rattle.node_laws.specs.CallHistory.{latest_first, asks_call, TellsProgress, TellsCall, TellsTable}
 use Rattle.node_laws.specs.Laws.{TablesTellTheHistory}
+use Rattle.node_laws.specs.RequestHistory.{ring_by}
 use Rattle.node_laws.proofs.Allowed.{Allowed, Leads}
 use Rattle.node_laws.proofs.BeginLemmas.{begin-spends}
 use Rattle.node_laws.proofs.CountLemmas.{holders-after, asks-after, none-held}
@@ -35,6 +38,7 @@ use Rattle.node_laws.specs.Valid.{client_no, holders, to_come}
 -- what is told at a moment
 record Tells (past : List Fact) (s : Lists) : Type 0 where
   knows : Knows past s
+  ring : ring_by past ≡ s.ring
   fresh : NoneTaken past s
   told : (c n : ℕ) → Told past c n (find (is_client n) s.clients)
   listed : (c : ℕ) → holders c s.clients + count_by (λ f. ends_call c f.event) past
@@ -46,8 +50,10 @@ tells-after : (clock : ℕ) (past : List Fact) (s : Lists) (f : Fact) → Tells 
     → Allowed s f.event → Tells (f ∷ past) (after clock s f)
 tells-after clock past s f k a = record {
   knows = knows-after clock past s f k.knows a;
+  ring = ap (λ (d : List Arrival). ring_after f.event f.first d) k.ring;
   fresh = none-taken-after clock past f s k.fresh k.knows.eight k.knows.few a;
-  told = λ c n. told-after clock f.who f.event f.first f.second past s k.knows.valid k.fresh a c n (k.told c n);
+  told = λ c n. told-after clock f.who f.event f.first f.second past s k.knows.valid k.ring k.fresh a c n
+      (k.told c n);
   listed = λ c.
       let was = k.listed c in
       let now = holders-after c clock f.event f.first (front_header s.ring) (front_body s.ring) s k.knows.valid a in
@@ -71,6 +77,7 @@ tells-after clock past s f k a = record {
 tells-new : (me : ℕ) (limits : Limits) → Tells [] (new_lists me limits)
 tells-new me limits = record {
   knows = knows-new me limits;
+  ring = refl;
   fresh = record { taken = λ n r. inl refl };
   told = λ c n. tt;
   listed = λ c. refl;

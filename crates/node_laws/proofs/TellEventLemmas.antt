@@ -15,14 +15,17 @@ use Rattle.rpc_laws.specs.declared.tables.Call.{Call}
 use Rattle.rpc_laws.specs.declared.tables.Client.{Client}
 use Rattle.rpc_laws.specs.declared.tables.Progress.{Progress}
 use Rattle.rpc_laws.specs.Calls.{is_call, is_active, moved, sent_packet}
+use Rattle.rpc_laws.specs.Front.{front_body, front_header}
 use Rattle.rpc_laws.specs.Sessions.{is_client, has_call, client_end, opened_end, requests, clients_told, sends, ends}
 use Rattle.node_laws.specs.CallHistory.{takes_of, posted_by, rolls_by, TellsActive}
+use Rattle.node_laws.specs.CallHistory.{told_size, told_parts, size_by, parts_by}
 use Rattle.node_laws.specs.EndedCalls.{asks_on, begins_as}
+use Rattle.node_laws.specs.RequestHistory.{ring_by}
 use Rattle.rpc_base.proofs.FindLemmas.{changed-holds, push-kept, push-found, push-other, skip-found}
 use Rattle.rpc_base.proofs.FindLemmas.{count-out, none-found}
 use Rattle.node_laws.proofs.SoundLemmas.{both-at, sent-request, sent-got, sent-posted}
 use Rattle.rpc_base.proofs.FirstLemmas.{found-le}
-use Rattle.node_laws.proofs.TellLemmas.{count-new, ToldProgress, ToldCall, Told}
+use Rattle.node_laws.proofs.TellLemmas.{count-new, parts-new, size-new, ToldProgress, ToldCall, Told}
 use Rattle.node_laws.proofs.ToldSame.{told-same}
 use Rattle.node_laws.specs.Valid.{holders}
 
@@ -35,30 +38,74 @@ own-test : (n r t : ℕ) → r ≡ t → (n == n && r == t) ≡ true
 own-test n r t e = and_from (n == n) (r == t) (eq-eqb n n refl) (eq-eqb r t e)
 
 -- what is told, by the request number alone
-record TellsAt (past : List Fact) (c n r got posted rolls : ℕ) : Type 0 where
+record TellsAt (past : List Fact) (c n r got posted rolls : ℕ) (answer : Option ℕ)
+    (parts : List ℕ) : Type 0 where
   begins : list_any (λ f. begins_as c r f.event) past ≡ true
   gets : got ≡ count_by (λ f. takes_of n r f.event) past
   posts : posted ≡ posted_by c n r past
   rolls_back : rolls ≡ rolls_by c n r past
+  sizes : answer ≡ size_by n r past
+  joins : parts ≡ parts_by n r past
 
 tells-at : (past : List Fact) (c n r : ℕ) (p : Progress) → p.request ≡ r → TellsActive past c n p
-    → TellsAt past c n r p.got p.posted p.rolls
+    → TellsAt past c n r p.got p.posted p.rolls p.answer p.parts
 tells-at past c n r p e t =
-    let here : TellsAt past c n p.request p.got p.posted p.rolls =
-    record { begins = t.begun; gets = t.got; posts = t.posted; rolls_back = t.rolls } in
-    subst (λ (i : ℕ). TellsAt past c n i p.got p.posted p.rolls) e here
+    let here : TellsAt past c n p.request p.got p.posted p.rolls p.answer p.parts =
+    record {
+      begins = t.begun;
+      gets = t.got;
+      posts = t.posted;
+      rolls_back = t.rolls;
+      sizes = t.answer;
+      joins = t.parts;
+    } in
+    subst (λ (i : ℕ). TellsAt past c n i p.got p.posted p.rolls p.answer p.parts) e here
 
 same-active : (past : List Fact) (c n : ℕ) (p q : Progress) → q.request ≡ p.request → q.got ≡ p.got
-    → q.posted ≡ p.posted → q.rolls ≡ p.rolls → TellsActive past c n p → TellsActive past c n q
-same-active past c n p q request got posted same t =
+    → q.posted ≡ p.posted → q.rolls ≡ p.rolls → q.answer ≡ p.answer → q.parts ≡ p.parts
+    → TellsActive past c n p → TellsActive past c n q
+same-active past c n p q request got posted same answer parts t =
     let at = tells-at past c n q.request p (sym request) t in
-    record { begun = at.begins; got = got ∙ at.gets; posted = posted ∙ at.posts; rolls = same ∙ at.rolls_back }
+    record {
+      begun = at.begins;
+      got = got ∙ at.gets;
+      posted = posted ∙ at.posts;
+      rolls = same ∙ at.rolls_back;
+      answer = answer ∙ at.sizes;
+      parts = parts ∙ at.joins;
+    }
+
+-- nothing is told of a request none of whose replies was taken
+none-by : (n r : ℕ) (f : Fact) (past : List Fact) (b : Bool) → takes_of n r f.event ≡ b
+    → count_by (λ g. takes_of n r g.event) (f ∷ past) ≡ 0
+    → (b ≡ false) × (count_by (λ g. takes_of n r g.event) past ≡ 0)
+none-by n r f past true e none =
+    let count = count-new (takes_of n r) f past true e in absurd (omega arith)
+none-by n r f past false e none =
+    let count = count-new (takes_of n r) f past false e in (refl, omega arith)
+
+no-size : (n r : ℕ) (past : List Fact) → count_by (λ f. takes_of n r f.event) past ≡ 0
+    → size_by n r past ≡ None
+no-size n r [] none = refl
+no-size n r (f ∷ past) none =
+    let parts = none-by n r f past (takes_of n r f.event) refl none in
+    size-new n r f past false parts.0 ∙ no-size n r past parts.1
+
+no-parts : (n r : ℕ) (past : List Fact) → count_by (λ f. takes_of n r f.event) past ≡ 0
+    → parts_by n r past ≡ []
+no-parts n r [] none = refl
+no-parts n r (f ∷ past) none =
+    let parts = none-by n r f past (takes_of n r f.event) refl none in
+    parts-new n r f past false parts.0 ∙ no-parts n r past parts.1
 
 module _ (who : Who) (bytes second : List ℕ) (past : List Fact) (c n : ℕ) where
   pub took-active : (r k : ℕ) (p q : Progress) → r ≡ p.request → q.request ≡ p.request
-      → q.got ≡ p.got + 1 → q.posted ≡ p.posted → q.rolls ≡ 0 → TellsActive past c n p
+      → q.got ≡ p.got + 1 → q.posted ≡ p.posted → q.rolls ≡ 0
+      → q.answer ≡ told_size (front_header (ring_by past)) p.answer
+      → q.parts ≡ told_parts (front_header (ring_by past)) (front_body (ring_by past)) p.parts
+      → TellsActive past c n p
       → TellsActive (noted who (Took (Ask n r) k) bytes second ∷ past) c n q
-  took-active r k p q own request got posted none t =
+  took-active r k p q own request got posted none size parts t =
       let test : (n == n && r == q.request) ≡ true = own-test n r q.request (own ∙ sym request) in
       let at = tells-at past c n q.request p (sym request) t in
       record {
@@ -69,12 +116,19 @@ module _ (who : Who) (bytes second : List ℕ) (past : List Fact) (c n : ℕ) wh
             omega arith;
         posted = posted ∙ at.posts;
         rolls = none ∙ sym (ap (λ b. cond b 0 (rolls_by c n q.request past)) test);
+        answer =
+            size ∙ (ap (told_size (front_header (ring_by past))) at.sizes
+            ∙ sym (size-new n q.request (noted who (Took (Ask n r) k) bytes second) past true test));
+        parts =
+            parts ∙ (ap (told_parts (front_header (ring_by past)) (front_body (ring_by past))) at.joins
+            ∙ sym (parts-new n q.request (noted who (Took (Ask n r) k) bytes second) past true test));
       }
 
   pub posted-active : (r k : ℕ) (p q : Progress) → r ≡ p.request → q.request ≡ p.request
-      → q.got ≡ p.got → q.posted ≡ k + 1 → q.rolls ≡ p.rolls → TellsActive past c n p
+      → q.got ≡ p.got → q.posted ≡ k + 1 → q.rolls ≡ p.rolls → q.answer ≡ p.answer
+      → q.parts ≡ p.parts → TellsActive past c n p
       → TellsActive (noted who (Posted (Ask n r) k) bytes second ∷ past) c n q
-  posted-active r k p q own request got posted same t =
+  posted-active r k p q own request got posted same answer parts t =
       let test : (n == n && r == q.request) ≡ true = own-test n r q.request (own ∙ sym request) in
       let at = tells-at past c n q.request p (sym request) t in
       record {
@@ -86,12 +140,19 @@ module _ (who : Who) (bytes second : List ℕ) (past : List Fact) (c n : ℕ) wh
             omega arith;
         posted = posted ∙ sym (ap (λ b. cond b (k + 1) (posted_by c n q.request past)) test);
         rolls = same ∙ at.rolls_back;
+        answer =
+            answer ∙ (at.sizes
+            ∙ sym (size-new n q.request (noted who (Posted (Ask n r) k) bytes second) past false refl));
+        parts =
+            parts ∙ (at.joins
+            ∙ sym (parts-new n q.request (noted who (Posted (Ask n r) k) bytes second) past false refl));
       }
 
   pub rolled-active : (posted got : ℕ) (p q : Progress) → q.request ≡ p.request → q.got ≡ p.got
-      → q.posted ≡ got → q.rolls ≡ p.rolls + 1 → TellsActive past c n p
+      → q.posted ≡ got → q.rolls ≡ p.rolls + 1 → q.answer ≡ p.answer → q.parts ≡ p.parts
+      → TellsActive past c n p
       → TellsActive (noted who (Rolled c posted got) bytes second ∷ past) c n q
-  rolled-active posted got p q request same back more t =
+  rolled-active posted got p q request same back more answer parts t =
       let test : (c == c) ≡ true = eq-eqb c c refl in
       let at = tells-at past c n q.request p (sym request) t in
       record {
@@ -105,12 +166,18 @@ module _ (who : Who) (bytes second : List ℕ) (past : List Fact) (c n : ℕ) wh
         rolls = more ∙ (ap (λ i. i + 1) at.rolls_back
             ∙ sym (ap (λ b. cond b (rolls_by c n q.request past + 1) (rolls_by c n q.request past))
             test));
+        answer =
+            answer ∙ (at.sizes
+            ∙ sym (size-new n q.request (noted who (Rolled c posted got) bytes second) past false refl));
+        parts =
+            parts ∙ (at.joins
+            ∙ sym (parts-new n q.request (noted who (Rolled c posted got) bytes second) past false refl));
       }
 
   pub begun-active : (r : ℕ) (p : Progress) → p.request ≡ r → p.got ≡ 0 → p.posted ≡ 0 → p.rolls ≡ 0
-      → count_by (λ f. takes_of n r f.event) past ≡ 0
+      → p.answer ≡ None → p.parts ≡ [] → count_by (λ f. takes_of n r f.event) past ≡ 0
       → TellsActive (noted who (Begun c r) bytes second ∷ past) c n p
-  begun-active r p request got posted none zero =
+  begun-active r p request got posted none answer parts zero =
       let test : (c == c) ≡ true = eq-eqb c c refl in
       let own : (c == c && r == p.request) ≡ true = own-test c r p.request (sym request) in
       let first : count_by (λ f. takes_of n p.request f.event) past ≡ 0 = rw request zero in
@@ -121,6 +188,12 @@ module _ (who : Who) (bytes second : List ℕ) (past : List Fact) (c n : ℕ) wh
             omega arith;
         posted = posted ∙ sym (ap (λ b. cond b 0 (posted_by c n p.request past)) test);
         rolls = none ∙ sym (ap (λ b. cond b 0 (rolls_by c n p.request past)) test);
+        answer =
+            answer ∙ (sym (no-size n p.request past first)
+            ∙ sym (size-new n p.request (noted who (Begun c r) bytes second) past false refl));
+        parts =
+            parts ∙ (sym (no-parts n p.request past first)
+            ∙ sym (parts-new n p.request (noted who (Begun c r) bytes second) past false refl));
       }
 
 pub own-moved : (past now : List Fact) (c n : ℕ) (g : Progress → Progress) (o : Option Progress)
@@ -133,12 +206,18 @@ own-moved past now c n g o p e h t =
 sent-rolls : (clock k : ℕ) (p : Progress) → (sent_packet clock k p).rolls ≡ p.rolls
 sent-rolls clock k p = both-at (λ (q : Progress). q.rolls) (p.got == k) _ _ _ refl refl
 
+sent-answer : (clock k : ℕ) (p : Progress) → (sent_packet clock k p).answer ≡ p.answer
+sent-answer clock k p = both-at (λ (q : Progress). q.answer) (p.got == k) _ _ _ refl refl
+
+sent-parts : (clock k : ℕ) (p : Progress) → (sent_packet clock k p).parts ≡ p.parts
+sent-parts clock k p = both-at (λ (q : Progress). q.parts) (p.got == k) _ _ _ refl refl
+
 sent-told : (past : List Fact) (c n clock k : ℕ) (o : Option Progress) → ToldProgress past c n o
     → ToldProgress past c n (option_map (sent_packet clock k) o)
 sent-told past c n clock k None t = tt
 sent-told past c n clock k (Some p) t =
     same-active past c n p (sent_packet clock k p) (sent-request clock k p) (sent-got clock k p)
-    (sent-posted clock k p) (sent-rolls clock k p) t
+    (sent-posted clock k p) (sent-rolls clock k p) (sent-answer clock k p) (sent-parts clock k p) t
 
 -- events that concern no call
 module _ (now : List Fact) (c n : ℕ) (xs : List Client) where

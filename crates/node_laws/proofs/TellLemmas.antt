@@ -15,8 +15,11 @@ use Rattle.rpc_laws.specs.declared.tables.Client.{Client}
 use Rattle.rpc_laws.specs.declared.tables.Lists.{Lists}
 use Rattle.rpc_laws.specs.declared.tables.Progress.{Progress}
 use Rattle.rpc_laws.specs.Calls.{is_call, is_active}
+use Rattle.rpc_laws.specs.Front.{front_body, front_header}
 use Rattle.rpc_laws.specs.Sessions.{is_client, has_call}
 use Rattle.node_laws.specs.CallHistory.{takes_of, posted_next, posted_by, rolls_next, rolls_by, TellsActive}
+use Rattle.node_laws.specs.CallHistory.{told_size, told_parts, size_by, parts_by}
+use Rattle.node_laws.specs.RequestHistory.{ring_by}
 use Rattle.node_laws.specs.EndedCalls.{asks_on, begins_as}
 use Rattle.rpc_base.proofs.FindLemmas.{this-changed}
 use Rattle.node_laws.proofs.NumberLemmas.{by_number}
@@ -58,6 +61,21 @@ count-new test f past b e =
     sum_by-cons (λ g. cond (test g.event) 1 0) f past
     ∙ ap (λ c. cond c 1 0 + count_by (λ g. test g.event) past) e
 
+-- a reply that is of the request, and a fact that isn't
+pub size-new : (n r : ℕ) (f : Fact) (past : List Fact) (b : Bool) → takes_of n r f.event ≡ b
+    → size_by n r (f ∷ past)
+    ≡ cond b (told_size (front_header (ring_by past)) (size_by n r past)) (size_by n r past)
+size-new n r f past b e =
+    ap (λ c. cond c (told_size (front_header (ring_by past)) (size_by n r past)) (size_by n r past)) e
+
+pub parts-new : (n r : ℕ) (f : Fact) (past : List Fact) (b : Bool) → takes_of n r f.event ≡ b
+    → parts_by n r (f ∷ past)
+    ≡ cond b (told_parts (front_header (ring_by past)) (front_body (ring_by past)) (parts_by n r past))
+    (parts_by n r past)
+parts-new n r f past b e =
+    ap (λ c. cond c (told_parts (front_header (ring_by past)) (front_body (ring_by past))
+    (parts_by n r past)) (parts_by n r past)) e
+
 active-stays : (past : List Fact) (f : Fact) (c n : ℕ) (p : Progress)
     → concerns c n p.request f.event ≡ false → TellsActive past c n p → TellsActive (f ∷ past) c n p
 active-stays past f c n p h t = record {
@@ -68,6 +86,8 @@ active-stays past f c n p h t = record {
       omega arith;
   posted = t.posted ∙ sym (posted-off c n p.request f.event (posted_by c n p.request past) h);
   rolls = t.rolls ∙ sym (rolls-off c n p.request f.event (rolls_by c n p.request past) h);
+  answer = t.answer ∙ sym (size-new n p.request f past false (takes-off c n p.request f.event h));
+  parts = t.parts ∙ sym (parts-new n p.request f past false (takes-off c n p.request f.event h));
 }
 
 -- of a call that is found

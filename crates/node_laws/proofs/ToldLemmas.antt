@@ -1,6 +1,6 @@
 -- What is told of each call stays told, fact by fact.
 use Rattle.std.proofs.Common.{◌≡◌, ℕ, ◌+◌, ◌*◌, ◌/◌, ◌%◌, ◌≤◌, ◌<◌, Bool, true, false, ◌&&◌, ◌||◌}
-use Rattle.std.proofs.Common.{cond, leb, ltb, Option, Some, None, List, [], ◌∷◌, refl, sym, ap, ◌∙◌}
+use Rattle.std.proofs.Common.{cond, leb, ltb, Option, Some, None, List, [], ◌∷◌, ◌++◌, refl, sym, ap, ◌∙◌}
 use Rattle.std.proofs.Common.{inl, inr, arith}
 use Rattle.std.specs.Prelude.{◌==◌, ◌⊎◌, count_by, slice_index}
 use Rattle.std.specs.List.{find}
@@ -21,16 +21,22 @@ use Rattle.rpc_base.specs.declared.owner.Owner.TheVariants.{Ask, Control}
 use Rattle.rpc_base.specs.declared.state.SessionState.TheVariants.{Closing, Closed, Failed}
 use Rattle.rpc_laws.specs.declared.tables.Client.{Client}
 use Rattle.rpc_laws.specs.declared.tables.Lists.{Lists}
-use Rattle.rpc_laws.specs.Calls.{is_call, is_active, moved, begun, posted_up_to, rolled_back, took_reply}
+use Rattle.rpc_laws.specs.Calls.{is_call, is_active, moved, begun, posted_up_to, rolled_back}
+use Rattle.rpc_laws.specs.Calls.{is_response, took_reply, with_reply}
 use Rattle.rpc_laws.specs.Front.{control_of, front_header, front_body}
 use Rattle.rpc_laws.specs.Sessions.{is_client, has_call, comes_to, connects, asks, begins, posts}
 use Rattle.rpc_laws.specs.Sessions.{takes, rolls, breaks, clients_after}
-use Rattle.node_laws.specs.CallHistory.{takes_of}
+use Rattle.packet_header.specs.declared.packet.MessageHeader.{MessageHeader}
+use Rattle.rpc_laws.specs.declared.tables.Arrival.{Arrival}
+use Rattle.rpc_laws.specs.declared.tables.Progress.{Progress}
+use Rattle.node_laws.specs.CallHistory.{takes_of, told_size, told_parts}
+use Rattle.node_laws.specs.RequestHistory.{ring_by}
 use Rattle.node_laws.proofs.Allowed.{Allowed, MayAsk, MayBegin, MayPost, MayTake, MayRoll}
 use Rattle.rpc_base.proofs.FindLemmas.{changed-holds, none-found}
 use Rattle.node_laws.proofs.NumberLemmas.{by_number}
 use Rattle.node_laws.proofs.OpenLemmas.{future}
-use Rattle.node_laws.proofs.SoundLemmas.{by_request, took-request, reply-got, reply-posted}
+use Rattle.node_laws.proofs.SoundLemmas.{by_request, took-request, reply-answer, reply-got}
+use Rattle.node_laws.proofs.SoundLemmas.{reply-posted}
 use Rattle.rpc_base.proofs.FirstLemmas.{found-holds, found-le}
 use Rattle.node_laws.proofs.TellEventLemmas.{noted, own-moved, took-active, posted-active}
 use Rattle.node_laws.proofs.TellEventLemmas.{rolled-active, begun-active, told-sent, told-kept}
@@ -53,12 +59,25 @@ future_for n r xs = future_of r (find (is_client n) xs)
 pub record NoneTaken (past : List Fact) (s : Lists) : Type 0 where
   pub taken : (n r : ℕ) → (count_by (λ f. takes_of n r f.event) past ≡ 0) ⊎ (future_for n r s.clients ≤ 0)
 
+-- what a reply adds to the answer
+reply-parts : (h : MessageHeader) (body : List ℕ) (p : Progress)
+    → (with_reply h body p).parts ≡ told_parts (Some h) body p.parts
+reply-parts h body p = by (is_response h.kind)
+  where
+    by : (b : Bool) → (cond b (record p {
+      got = p.got + 1;
+      answer = Some h.size;
+      parts = p.parts ++ body;
+    }) (record p { got = p.got + 1 })).parts ≡ cond b (p.parts ++ body) p.parts
+    by true = refl
+    by false = refl
+
 module _ (who : Who) (bytes second : List ℕ) (past : List Fact) (s : Lists) (v : Valid s) (c n : ℕ) where
-  took-told : (clock m r k : ℕ) → MayTake s m r k → Told past c n (find (is_client n) s.clients)
+  took-told : (clock m r k : ℕ) → ring_by past ≡ s.ring → MayTake s m r k → Told past c n (find (is_client n) s.clients)
       → Told (noted who (Took (Ask m r) k) bytes second ∷ past) c n
       (find (is_client n) (at_first (is_client m)
       (takes clock r (front_header s.ring) (front_body s.ring)) s.clients))
-  took-told clock m r k a t =
+  took-told clock m r k ring a t =
       let place = a.active.place in
       let sound = found-holds (is_client m) Sound s.clients a.client v.sound place.client in
       let active : find (is_active r) a.client.calls ≡ Some a.call =
@@ -75,7 +94,14 @@ module _ (who : Who) (bytes second : List ℕ) (past : List Fact) (s : Lists) (v
       let counts = took-active who bytes second past a.call.what.number m r k a.progress
       (step a.progress) (sym a.same) (took-request clock (Some a.header)
       (front_body s.ring) a.progress) (reply-got a.header (front_body s.ring) a.progress)
-      (reply-posted a.header (front_body s.ring) a.progress) refl in
+      (reply-posted a.header (front_body s.ring) a.progress) refl
+      (reply-answer a.header (front_body s.ring) a.progress
+      ∙ ap (λ o. told_size o a.progress.answer) (sym (ap front_header ring ∙ a.front)))
+      (reply-parts a.header (front_body s.ring) a.progress
+      ∙ (ap (λ o. told_parts o (front_body s.ring) a.progress.parts)
+      (sym (ap front_header ring ∙ a.front))
+      ∙ ap (λ (d : List Arrival). told_parts (front_header (ring_by past)) (front_body d)
+      a.progress.parts) (sym ring))) in
       rw a.front (focus-told past (noted who (Took (Ask m r) k) bytes second) s.clients
       (at_first (is_client m) change s.clients) m a.client (change a.client) a.call.what.number
       a.call (moved step a.call) focus (λ u. (
@@ -102,7 +128,7 @@ module _ (who : Who) (bytes second : List ℕ) (past : List Fact) (s : Lists) (v
       (moved (posted_up_to k)) a.call.what.number a.call place.client place.client refl refl
       active own.call refl in
       let counts = posted-active who bytes second past a.call.what.number m r k a.progress
-      (posted_up_to k a.progress) a.same refl refl refl refl in
+      (posted_up_to k a.progress) a.same refl refl refl refl refl refl in
       focus-told past (noted who (Posted (Ask m r) k) bytes second) s.clients
       (at_first (is_client m) (posts r k) s.clients) m a.client (posts r k a.client)
       a.call.what.number a.call (moved (posted_up_to k) a.call) focus
@@ -128,7 +154,7 @@ module _ (who : Who) (bytes second : List ℕ) (past : List Fact) (s : Lists) (v
       (moved (rolled_back got)) j a.call own.client place.client refl refl own.call own.call
       refl in
       let counts = rolled-active who bytes second past j a.session posted got a.progress
-      (rolled_back got a.progress) refl refl refl refl in
+      (rolled_back got a.progress) refl refl refl refl refl refl in
       rw a.same (focus-told past (noted who (Rolled j posted got) bytes second) s.clients
       (at_first (has_call j) (rolls j posted got) s.clients) a.session a.client
       (rolls j posted got a.client) j a.call (moved (rolled_back got) a.call) focus
@@ -188,7 +214,7 @@ module _ (who : Who) (bytes second : List ℕ) (past : List Fact) (s : Lists) (v
               mark = 0;
               answer = None;
               parts = [];
-            }) refl refl refl refl zero,
+            }) refl refl refl refl refl refl zero,
       )) c n
       (λ x b p client call here apart. other-number s v a.session a.client a.call a.place c n x
       b p client call here apart (j == c) refl) t)
@@ -230,85 +256,85 @@ module _ (who : Who) (bytes second : List ℕ) (past : List Fact) (s : Lists) (v
           few k l asked number h g e = grind (arith, nat_tests)
 
 pub told-after : (clock : ℕ) (who : Who) (e : Event) (bytes second : List ℕ) (past : List Fact)
-    (s : Lists) → Valid s → NoneTaken past s → Allowed s e → (c n : ℕ)
+    (s : Lists) → Valid s → ring_by past ≡ s.ring → NoneTaken past s → Allowed s e → (c n : ℕ)
     → Told past c n (find (is_client n) s.clients)
     → Told (noted who e bytes second ∷ past) c n
     (find (is_client n) (clients_after clock e bytes (front_header s.ring)
     (front_body s.ring) s.clients))
-told-after clock who (PairedClient i peer t credits) bytes second past s v k a c n told =
+told-after clock who (PairedClient i peer t credits) bytes second past s v ring k a c n told =
     told-made (noted who (PairedClient i peer t credits) bytes second ∷ past) c n s.clients i peer t
     credits (told-stays past (noted who (PairedClient i peer t credits) bytes second) c n
     (find (is_client n) s.clients) (λ x d p e g h. refl) told)
-told-after clock who (Opened i peer credits) bytes second past s v k a c n told =
+told-after clock who (Opened i peer credits) bytes second past s v ring k a c n told =
     told-opened (noted who (Opened i peer credits) bytes second ∷ past) c n s.clients i peer credits
     (told-stays past (noted who (Opened i peer credits) bytes second) c n
     (find (is_client n) s.clients) (λ x d p e g h. refl) told)
-told-after clock who (FailedNoRoom m) bytes second past s v k a c n told =
+told-after clock who (FailedNoRoom m) bytes second past s v ring k a c n told =
     told-kept (noted who (FailedNoRoom m) bytes second ∷ past) c n s.clients (is_client m)
     (comes_to Failed) (λ x. refl) (λ x. refl)
     (told-stays past (noted who (FailedNoRoom m) bytes second) c n
     (find (is_client n) s.clients) (λ x d p e g h. refl) told)
-told-after clock who (FailedNoAnswer m) bytes second past s v k a c n told =
+told-after clock who (FailedNoAnswer m) bytes second past s v ring k a c n told =
     told-kept (noted who (FailedNoAnswer m) bytes second ∷ past) c n s.clients (is_client m)
     (comes_to Failed) (λ x. refl) (λ x. refl)
     (told-stays past (noted who (FailedNoAnswer m) bytes second) c n
     (find (is_client n) s.clients) (λ x d p e g h. refl) told)
-told-after clock who (BeginsClosing m) bytes second past s v k a c n told =
+told-after clock who (BeginsClosing m) bytes second past s v ring k a c n told =
     told-kept (noted who (BeginsClosing m) bytes second ∷ past) c n s.clients (is_client m)
     (comes_to Closing) (λ x. refl) (λ x. refl)
     (told-stays past (noted who (BeginsClosing m) bytes second) c n
     (find (is_client n) s.clients) (λ x d p e g h. refl) told)
-told-after clock who (ClosedHeard m) bytes second past s v k a c n told =
+told-after clock who (ClosedHeard m) bytes second past s v ring k a c n told =
     told-kept (noted who (ClosedHeard m) bytes second ∷ past) c n s.clients (is_client m)
     (comes_to Closed) (λ x. refl) (λ x. refl)
     (told-stays past (noted who (ClosedHeard m) bytes second) c n (find (is_client n) s.clients)
     (λ x d p e g h. refl) told)
-told-after clock who (ClosedUnheard m) bytes second past s v k a c n told =
+told-after clock who (ClosedUnheard m) bytes second past s v ring k a c n told =
     told-kept (noted who (ClosedUnheard m) bytes second ∷ past) c n s.clients (is_client m)
     (comes_to Closed) (λ x. refl) (λ x. refl)
     (told-stays past (noted who (ClosedUnheard m) bytes second) c n
     (find (is_client n) s.clients) (λ x d p e g h. refl) told)
-told-after clock who (IsConnected m t) bytes second past s v k a c n told =
+told-after clock who (IsConnected m t) bytes second past s v ring k a c n told =
     told-kept (noted who (IsConnected m t) bytes second ∷ past) c n s.clients (is_client m)
     (connects t) (λ x. refl) (λ x. refl) (told-stays past
     (noted who (IsConnected m t) bytes second) c n (find (is_client n) s.clients)
     (λ x d p e g h. refl) told)
-told-after clock who (Sent peer Control j) bytes second past s v k a c n told =
+told-after clock who (Sent peer Control j) bytes second past s v ring k a c n told =
     told-requests (noted who (Sent peer Control j) bytes second ∷ past) c n s.clients clock
     (control_of bytes) (told-stays past (noted who (Sent peer Control j) bytes second) c n
     (find (is_client n) s.clients) (λ x d p e g h. refl) told)
-told-after clock who (Asked i m y room) bytes second past s v k a c n told =
+told-after clock who (Asked i m y room) bytes second past s v ring k a c n told =
     asked-told who bytes second past s v c n i m y room a told
-told-after clock who (Begun i r) bytes second past s v k a c n told =
+told-after clock who (Begun i r) bytes second past s v ring k a c n told =
     begun-told who bytes second past s v c n i r a k told
-told-after clock who (Posted (Ask m r) j) bytes second past s v k a c n told =
+told-after clock who (Posted (Ask m r) j) bytes second past s v ring k a c n told =
     posted-told who bytes second past s v c n m r j a told
-told-after clock who (Sent peer (Ask m r) j) bytes second past s v k a c n told =
+told-after clock who (Sent peer (Ask m r) j) bytes second past s v ring k a c n told =
     told-sent (noted who (Sent peer (Ask m r) j) bytes second ∷ past) c n s.clients clock m r j
     (told-stays past (noted who (Sent peer (Ask m r) j) bytes second) c n
     (find (is_client n) s.clients) (λ x d p e g h. refl) told)
-told-after clock who (Took (Ask m r) j) bytes second past s v k a c n told =
-    took-told who bytes second past s v c n clock m r j a told
-told-after clock who (Rolled i posted got) bytes second past s v k a c n told =
+told-after clock who (Took (Ask m r) j) bytes second past s v ring k a c n told =
+    took-told who bytes second past s v c n clock m r j ring a told
+told-after clock who (Rolled i posted got) bytes second past s v ring k a c n told =
     rolled-told who bytes second past s v c n i posted got a told
-told-after clock who (Broken m) bytes second past s v k a c n told =
+told-after clock who (Broken m) bytes second past s v ring k a c n told =
     told-kept (noted who (Broken m) bytes second ∷ past) c n s.clients (is_client m) breaks
     (λ x. refl) (λ x. refl) (told-stays past (noted who (Broken m) bytes second) c n
     (find (is_client n) s.clients) (λ x d p e g h. refl) told)
-told-after clock who (DoneOk i) bytes second past s v k a c n told =
+told-after clock who (DoneOk i) bytes second past s v ring k a c n told =
     let once = v.once c in
     told-ended (noted who (DoneOk i) bytes second ∷ past) c n s.clients i (omega arith)
     (told-stays past (noted who (DoneOk i) bytes second) c n (find (is_client n) s.clients)
     (λ x d p e g h. refl) told)
-told-after clock who (DoneTooSmall i size) bytes second past s v k a c n told =
+told-after clock who (DoneTooSmall i size) bytes second past s v ring k a c n told =
     let once = v.once c in
     told-ended (noted who (DoneTooSmall i size) bytes second ∷ past) c n s.clients i (omega arith)
     (told-stays past (noted who (DoneTooSmall i size) bytes second) c n
     (find (is_client n) s.clients) (λ x d p e g h. refl) told)
-told-after clock who (DonePeerLost i) bytes second past s v k a c n told =
+told-after clock who (DonePeerLost i) bytes second past s v ring k a c n told =
     let once = v.once c in
     told-ended (noted who (DonePeerLost i) bytes second ∷ past) c n s.clients i (omega arith)
     (told-stays past (noted who (DonePeerLost i) bytes second) c n
     (find (is_client n) s.clients) (λ x d p e g h. refl) told)
-told-after clock who e bytes second past s v k a c n told =
+told-after clock who e bytes second past s v ring k a c n told =
     told-stays past (noted who e bytes second) c n (find (is_client n) s.clients) (λ x d p h g i. refl) told

@@ -1,8 +1,9 @@
 -- What the facts tell of a call, against what the table of calls says of it. The facts so far stand
 -- with the newest first: each reading goes by the latest fact that concerns it.
 use Rattle.std.specs.Prelude.{ℕ, ◌≡◌, ◌+◌, ◌==◌, ◌&&◌, not, Bool, true, false, Option, Some, None}
-use Rattle.std.specs.Prelude.{List, [], ◌∷◌, count_by, slice_get, if◌then◌else◌}
+use Rattle.std.specs.Prelude.{List, [], ◌∷◌, ◌++◌, count_by, slice_get, if◌then◌else◌}
 use Rattle.std.specs.List.{list_any}
+use Rattle.packet_header.specs.declared.packet.MessageHeader.{MessageHeader}
 use Rattle.rpc_base.specs.declared.event.Event.{Event}
 use Rattle.rpc_base.specs.declared.event.Event.TheVariants.{Asked, Begun, Posted, Took, Rolled}
 use Rattle.rpc_base.specs.declared.fact.Fact.{Fact}
@@ -12,8 +13,11 @@ use Rattle.rpc_laws.specs.declared.tables.Client.{Client}
 use Rattle.rpc_laws.specs.declared.tables.Lists.{Lists}
 use Rattle.rpc_laws.specs.declared.tables.Progress.{Progress}
 use Rattle.rpc_laws.specs.AtMostOnce.{begins_call, ends_call}
+use Rattle.rpc_laws.specs.Calls.{is_response}
+use Rattle.rpc_laws.specs.Front.{front_body, front_header}
 use Rattle.rpc_laws.specs.Sessions.{has_call}
 use Rattle.node_laws.specs.EndedCalls.{asks_on, begins_as}
+use Rattle.node_laws.specs.RequestHistory.{ring_by}
 
 -- these facts, and then the others before them, the newest first
 abbrev pub latest_first : List Fact → List Fact → List Fact
@@ -55,13 +59,40 @@ abbrev pub rolls_by : (call session request : ℕ) → List Fact → ℕ
 rolls_by c s r [] = 0
 rolls_by c s r (f ∷ past) = rolls_next c s r f.event (rolls_by c s r past)
 
+-- the size of the answer that a reply tells, where it is a part of it
+abbrev pub told_size : Option MessageHeader → Option ℕ → Option ℕ
+told_size None size = size
+told_size (Some h) size = if is_response h.kind then Some h.size else size
+
+-- and the bytes that it adds to the answer
+abbrev pub told_parts : Option MessageHeader → List ℕ → List ℕ → List ℕ
+told_parts None body parts = parts
+told_parts (Some h) body parts = if is_response h.kind then parts ++ body else parts
+
+-- the answer's size by the replies that were taken; each stood at the front of the ring
+abbrev pub size_by : (session request : ℕ) → List Fact → Option ℕ
+size_by s r [] = None
+size_by s r (f ∷ past) =
+    if takes_of s r f.event then told_size (front_header (ring_by past)) (size_by s r past)
+    else size_by s r past
+
+-- the bodies of those that are parts of the answer, joined
+abbrev pub parts_by : (session request : ℕ) → List Fact → List ℕ
+parts_by s r [] = []
+parts_by s r (f ∷ past) =
+    if takes_of s r f.event
+    then told_parts (front_header (ring_by past)) (front_body (ring_by past)) (parts_by s r past)
+    else parts_by s r past
+
 -- an active call of session s began as its request; it has got as many replies as were taken, and
--- its other counts are those of the facts
+-- its other counts, the size of its answer and the bytes of that so far are those of the facts
 pub record TellsActive (past : List Fact) (call s : ℕ) (p : Progress) : Type 0 where
   pub begun : list_any (λ f. begins_as call p.request f.event) past ≡ true
   pub got : p.got ≡ count_by (λ f. takes_of s p.request f.event) past
   pub posted : p.posted ≡ posted_by call s p.request past
   pub rolls : p.rolls ≡ rolls_by call s p.request past
+  pub answer : p.answer ≡ size_by s p.request past
+  pub parts : p.parts ≡ parts_by s p.request past
 
 -- a call that waits didn't begin
 abbrev pub TellsProgress : List Fact → ℕ → ℕ → Option Progress → Type 0

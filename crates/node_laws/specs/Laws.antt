@@ -84,7 +84,7 @@ NumbersAreUsedOnce = OfEveryRun (λ ring g t. UsedOnce g)
 
 -- what a node sends is what its own tables have
 abbrev pub SendsItsOwn : Type 0
-SendsItsOwn = OfEveryRun (λ ring g t. SendsOwn g)
+SendsItsOwn = OfEveryRun (λ ring g t. SendsOwn ring g)
 
 -- what is bad, overflowed, dropped or heard changes nothing but its list and its count
 abbrev pub DatagramsArePassedOver : Type 0

@@ -1,6 +1,6 @@
 -- What one node sends is what its own tables have: each packet goes to the peer of its session, and
 -- its head and body spell the packet that its owner has.
-use Rattle.std.specs.Prelude.{ℕ, List, [], ◌∷◌}
+use Rattle.std.specs.Prelude.{ℕ, ◌≡◌, List, [], ◌∷◌}
 use Rattle.rpc_base.specs.declared.fact.Fact.{Fact}
 use Rattle.rpc_base.specs.declared.limits.Limits.{Limits}
 use Rattle.rpc_laws.specs.declared.tables.Lists.{Lists}
@@ -13,6 +13,8 @@ SendsFrom s [] = Unit {0}
 SendsFrom s (f ∷ g) =
     SentRight (s ∷ []) 0 f.event f.first f.second × ((clock : ℕ) → SendsFrom (after clock s f) g)
 
--- of the facts of one node, from when it is made: no packet tells of its number or its limits
-abbrev pub SendsOwn : List Fact → Type 0
-SendsOwn facts = (me : ℕ) (limits : Limits) → SendsFrom (new_lists me limits) facts
+-- of the facts of one node, from when it is made with a ring of so many places: no packet tells of
+-- its number or of another limit
+abbrev pub SendsOwn : (ring : ℕ) → List Fact → Type 0
+SendsOwn ring facts =
+    (me : ℕ) (limits : Limits) → limits.ring ≡ ring → SendsFrom (new_lists me limits) facts

@@ -6,14 +6,11 @@ use Rattle.std.specs.Prelude.{◌||◌, option_to_list, sum_by}
 use Rattle.std.specs.List.{find, remove, AllByRecursion}
 use Rattle.std.proofs.lemmas.List.Sums.{sum_by-cons}
 use Rattle.rpc_base.specs.Tables.{at_first, without_first}
+use Rattle.rpc_base.specs.Totals.{total}
 
 abbrev pub count : {A : Type 0} → (A → Bool) → List A → ℕ
 count p [] = 0
 count p (x ∷ xs) = cond (p x) 1 0 + count p xs
-
-abbrev pub total : {A : Type 0} → (A → ℕ) → List A → ℕ
-total f [] = 0
-total f (x ∷ xs) = f x + total f xs
 
 pub total-sum_by : {A : Type 0} (f : A → ℕ) (xs : List A) → sum_by f xs ≡ total f xs
 total-sum_by f [] = refl

@@ -1,6 +1,7 @@
 -- What is sent: each packet goes to the session's peer, and its head and body spell the packet of
 -- its owner. A control packet spells a request or an answer of the session that it names.
-use Rattle.std.specs.Prelude.{ℕ, ◌≡◌, ◌+◌, true, Option, Some, None, List, [], ◌∷◌, ◌++◌, length, slice_get}
+use Rattle.std.specs.Prelude.{ℕ, ◌≡◌, ◌+◌, true, ◌||◌, Option, Some, None, List, [], ◌∷◌, ◌++◌}
+use Rattle.std.specs.Prelude.{length, slice_get}
 use Rattle.std.specs.List.{find, slice_set}
 use Rattle.rpc_base.specs.declared.limits.TheConstants.{HEAD_BYTES}
 use Rattle.packet_header.specs.declared.packet.ControlHeader.{ControlHeader}
@@ -21,6 +22,7 @@ use Rattle.rpc_laws.specs.declared.tables.Outgoing.{Outgoing}
 use Rattle.rpc_laws.specs.declared.tables.Server.{Server}
 use Rattle.rpc_laws.specs.ControlSteps.{own_request}
 use Rattle.rpc_laws.specs.ControlTable.{connect_reply, disconnect_as, is_end_of, named_end, reply_row}
+use Rattle.rpc_laws.specs.Groups.{has_no_room, servers_spent}
 use Rattle.rpc_laws.specs.NodeLists.{after, new_lists}
 use Rattle.rpc_laws.specs.Packets.{owner_packet}
 use Rattle.rpc_laws.specs.Requests.{is_server}
@@ -71,19 +73,29 @@ pub record IsOpened (s : Lists) (peer session : ℕ) (x : Client) : Type 0 where
   pub found : find (is_client session) s.clients ≡ Some x
   pub to_peer : x.way.peer ≡ peer
 
--- a control packet that a node may send to a peer: a session's own request; the answer that a live
--- server session is the other end of the peer's, with its credits; that there is no room; the
--- request to end a server session that the client session doesn't have; or the answer that a server
--- session isn't there any more
+-- a node takes no session of so many credits for a peer's client session: no server session is its
+-- other end, and there is no room for one, or no number
+pub record TakesNoSession (s : Lists) (peer client credits : ℕ) : Type 0 where
+  pub unknown : find (is_end_of peer client) s.servers ≡ None
+  pub full : (has_no_room credits s || servers_spent s) ≡ true
+
+-- a control packet that a node may send to a peer, by the rows of the control rule: a session's own
+-- request; the answer that a live server session is the other end of the peer's, with its credits;
+-- that the node takes no session of these credits; the request to end a server session that the
+-- client session doesn't have; or the answer that a server session isn't there, with status 0 where
+-- it ended, and with 2 where the request missed it
 pub data OwnControl (s : Lists) (peer : ℕ) (h : ControlHeader) : Type 0 where
   asks : (x : Client) → IsOpened s peer h.client x → own_request x ≡ Some h → OwnControl s peer h
   confirms : (t : ℕ) → (v : Server) → h ≡ connect_reply h (Some t) v.credits 0
       → find (is_server t) s.servers ≡ Some v → is_end_of peer h.client v ≡ true
       → OwnControl s peer h
-  declines : h ≡ connect_reply h None h.credits 1 → OwnControl s peer h
+  declines : h ≡ connect_reply h None h.credits 1 → TakesNoSession s peer h.client h.credits
+      → OwnControl s peer h
   disowns : (x : Client) → IsOpened s peer h.client x → h ≡ disconnect_as DisconnectRequest h 0
       → reply_row h.server 0 x ≡ Disowns → OwnControl s peer h
-  over : (status : ℕ) → h ≡ disconnect_as DisconnectReply h status
+  ends : h ≡ disconnect_as DisconnectReply h 0
+      → named_end peer h.client h.server s.servers ≡ None → OwnControl s peer h
+  misses : h ≡ disconnect_as DisconnectReply h 2
       → named_end peer h.client h.server s.servers ≡ None → OwnControl s peer h
 
 -- the head spells such a packet, and there is no body
