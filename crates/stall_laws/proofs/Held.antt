@@ -3,7 +3,7 @@
 use Rattle.std.proofs.Common.{◌≡◌, ◌≤◌, ◌+◌, ◌%◌, ◌==◌, ◌&&◌, ◌||◌, ◌⊎◌, inl, inr, ℕ, not, Bool}
 use Rattle.std.proofs.Common.{true, false}
 use Rattle.std.proofs.Common.{List, [], ◌∷◌, ◌++◌, Option, Some, None, slice_get, refl, sym, ap}
-use Rattle.std.proofs.Common.{◌∙◌, subst, arith}
+use Rattle.std.proofs.Common.{◌∙◌, subst, eq-eqb, arith}
 use Rattle.std.specs.Prelude.{IfSome}
 use Rattle.std.specs.List.{list_any, AllByRecursion}
 use Rattle.std.proofs.lemmas.Bool.{and_parts, and_from}
@@ -36,11 +36,13 @@ use Rattle.end_laws.proofs.Known.{Known, Good, LiveAt, End, Says, SaysRequest, S
 use Rattle.end_laws.proofs.QueueLemmas.{RightNode}
 use Rattle.end_laws.proofs.ServerLemmas.{server-at}
 use Rattle.ring_laws.proofs.Loads.{Pairing, asks, replies, ask_to, reply_to}
-use Rattle.stall_laws.specs.Caused.{WasLost, restarts, lost_by, is_of_request, asks_of, replies_of}
+use Rattle.stall_laws.specs.Caused.{WasLost, restarts, lost_by, is_between, is_of_request, asks_of}
+use Rattle.stall_laws.specs.Caused.{replies_of}
 use Rattle.stall_laws.specs.Settled.{moment_of}
 use Rattle.stall_laws.proofs.Dues.{Due, Step, IsOlder, IsCallFor}
 use Rattle.stall_laws.proofs.Fates.{JoinsAt, Passing, Fate, took, passed, lost, rolled, broken}
 use Rattle.stall_laws.proofs.Fates.{node-fate}
+use Rattle.stall_laws.proofs.Senders.{IsFrom, is-from, node-speaks, some-end}
 use Rattle.stall_laws.proofs.Standing.{standing}
 
 -- the two ends of a session of node j
@@ -99,23 +101,29 @@ or-map false true true d f g h = refl
 or-map false true false d f g h = g refl
 or-map false false c d f g h = cc
 
-of-request : (j : ℕ) (way : Way) (r k : ℕ) (c : InFlight)
+of-request : (j : ℕ) (way : Way) (r k : ℕ) (c : InFlight) → IsFrom j way r k c
     → (ask_to (is_packet r k) way.peer way.other c || reply_to (is_packet r k) j way.number c) ≡ true
     → is_of_request j way r c ≡ true
-of-request j way r k c h =
-    or-map (ask_to (is_packet r k) way.peer way.other c) (reply_to (is_packet r k) j way.number c) _ _
+of-request j way r k c f h =
+    or-map (ask_to (is_packet r k) way.peer way.other c) (reply_to (is_packet r k) j way.number c)
+    (is_between j way.peer c && asks_of way.other r (message_of c.bytes))
+    (is_between way.peer j c && replies_of way.number r (message_of c.bytes))
     (λ t. let parts = and_parts (c.to == way.peer) (asks (is_packet r k) way.other (message_of c.bytes)) t in
-    and_from (c.to == way.peer) (asks_of way.other r (message_of c.bytes)) parts.0
+    and_from (is_between j way.peer c) (asks_of way.other r (message_of c.bytes))
+    (and_from (c.from == j) (c.to == way.peer) (eq-eqb c.from j (f.asks t)) parts.0)
     (asks-request r k way.other (message_of c.bytes) parts.1))
     (λ t. let parts = and_parts (c.to == j) (replies (is_packet r k) way.number (message_of c.bytes)) t in
-    and_from (c.to == j) (replies_of way.number r (message_of c.bytes)) parts.0
+    and_from (is_between way.peer j c) (replies_of way.number r (message_of c.bytes))
+    (and_from (c.from == way.peer) (c.to == j) (eq-eqb c.from way.peer (f.replies t)) parts.0)
     (replies-request r k way.number (message_of c.bytes) parts.1)) h
 
 -- a datagram is lost now
 pub lost-now : (h : List Fact) (w : Moment) (f : Fact) (j : ℕ) (way : Way) (c r k : ℕ)
-    → w ≡ moment_of h → Passing (pair_of j way) r k (lost_by w f.who f.event f.first)
+    → w ≡ moment_of h
+    → ((d : InFlight) → lost_by w f.who f.event f.first ≡ Some d → IsFrom j way r k d)
+    → Passing (pair_of j way) r k (lost_by w f.who f.event f.first)
     → WasLost (h ++ f ∷ []) j way c r
-lost-now h w f j way c r k e p = record {
+lost-now h w f j way c r k e from p = record {
   before = h;
   fact = f;
   since = [];
@@ -123,7 +131,7 @@ lost-now h w f j way c r k e p = record {
   goes_on = refl;
   copy = p.copy;
   lost = subst (λ (v : Moment). lost_by v f.who f.event f.first ≡ Some p.copy) e p.is_lost;
-  own = of-request j way r k p.copy p.own;
+  own = of-request j way r k p.copy (from p.copy p.is_lost) p.own;
 }
 
 -- a session at its place of a node
@@ -134,9 +142,6 @@ pub record SessionAt (w : Moment) (j s : ℕ) (z : Lists) (x : Client) : Type 0 
   pub stands : LiveAt w.nodes x.way.peer x.way.other
   pub stays : (n : ℕ) (l : Lists) → slice_get w.nodes n ≡ Some l → n ≡ x.way.peer
       → MayLeave w.hand l x.way.other → ⊥
-
-some-end : (o : Option End) (a b : End) → o ≡ Some a → o ≡ Some b → a ≡ b
-some-end o a b e f = cc
 
 -- the sessions at its two ends are its own
 pub joins-of : (w : Moment) (n : ℕ) (l : Lists) (j s : ℕ) (z : Lists) (x : Client)
@@ -262,6 +267,10 @@ held-noted h w n l e first second d u step a is g i j s z x at c r k newest same
         → Held (h ++ with_two n e first second ∷ []) (noted_at w n l (with_two n e first second)) u j x.way c r k
     by (took home t) = absurd (spares.took home t)
     by (passed node t o) = absurd (never-older w n l j s z x r a.is_node g at newest node o)
-    by (lost p) = inr (lost-now h w (with_two n e first second) j x.way c r k is p)
+    by (lost p) =
+        inr (lost-now h w (with_two n e first second) j x.way c r k is
+        (λ d gone. is-from w g j s z x
+        (record { is_node = at.is_node; is_there = at.is_there; live = at.live }) r k d
+        (node-speaks w g n l e first second a d gone)) p)
     by (rolled home b po got t call) = absurd (spares.rolled home b po got t call)
     by (broken home t) = absurd (spares.broken home t)

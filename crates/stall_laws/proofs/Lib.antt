@@ -15,6 +15,7 @@ pub mod OrderSteps
 pub mod Reach
 pub mod ReachLaw
 pub mod Resting
+pub mod Senders
 pub mod Slots
 pub mod StallLaw
 pub mod Standing

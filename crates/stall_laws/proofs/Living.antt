@@ -5,8 +5,6 @@ use Rattle.std.specs.List.{slice_set}
 use Rattle.rpc_base.specs.declared.event.Event.TheVariants.{Made}
 use Rattle.rpc_base.specs.declared.fact.Fact.{Fact}
 use Rattle.rpc_base.specs.declared.fact.Who.TheVariants.{Net}
-use Rattle.rpc_base.specs.declared.state.SessionState.{SessionState}
-use Rattle.rpc_base.specs.declared.state.SessionState.TheVariants.{Connected, Connecting, Failed}
 use Rattle.rpc_laws.specs.declared.tables.Client.{Client}
 use Rattle.rpc_laws.specs.declared.tables.Lists.{Lists}
 use Rattle.rpc_laws.specs.Facts.{plain}
@@ -21,7 +19,7 @@ use Rattle.end_laws.proofs.Allowed.{MayLeave}
 use Rattle.end_laws.proofs.ClientLemmas.{connected-joined, is-joined}
 use Rattle.end_laws.proofs.Courses.{AtNode, Ends, moved-node, paired}
 use Rattle.end_laws.proofs.GoodSteps.{next-made, next-net, next-node}
-use Rattle.end_laws.proofs.Known.{Good, is_joined, LiveAt}
+use Rattle.end_laws.proofs.Known.{Good, LiveAt}
 use Rattle.end_laws.proofs.LetGoSteps.{clients-kin}
 use Rattle.end_laws.proofs.ListLemmas.{add-keeps}
 use Rattle.end_laws.proofs.OwnLaw.{next-paired}

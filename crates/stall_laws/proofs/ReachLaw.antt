@@ -12,7 +12,7 @@ use Rattle.rpc_laws.specs.Sessions.{requests}
 use Rattle.end_laws.proofs.Known.{GoodClient, is_joined, Known, Tied}
 use Rattle.end_laws.proofs.LetGoSteps.{at-number}
 use Rattle.end_laws.proofs.ListLemmas.{first-each}
-use Rattle.stall_laws.specs.Caused.{restarts_by}
+use Rattle.stall_laws.specs.Caused.{lost_by, restarts_by}
 use Rattle.stall_laws.proofs.Held.{Spares}
 use Rattle.stall_laws.proofs.Living.{Living, living-made, living-net, living-node, living-pair}
 use Rattle.std.proofs.Common.{◌≡◌, ◌==◌, inl, inr, ℕ, true, List, [], ◌∷◌}
@@ -65,6 +65,7 @@ use Rattle.stall_laws.proofs.Fates.{net-fate}
 use Rattle.stall_laws.proofs.Held.{pair_of, Held, lost-since, lost-now}
 use Rattle.stall_laws.proofs.Moves.{MovesAt, MovesBy, MovesFrom, net_due}
 use Rattle.stall_laws.proofs.Newest.{NewestClient, NewestNode, newest-after}
+use Rattle.stall_laws.proofs.Senders.{ConnectedAt, is-from, net-speaks}
 use Rattle.stall_laws.proofs.Reach.{HeldBy, HeldCall, HeldClient, HeldNode, at-false, all-kept}
 use Rattle.stall_laws.proofs.Reach.{first-kept, other-node}
 use Rattle.stall_laws.proofs.Reach.{took-held, begun-held, rolled-held, broken-held, posted-held}
@@ -288,30 +289,37 @@ reach-node h w n l f d u step a is g right valid newest reach =
 
 -- where each packet that stood does, or was lost, each one that was held is
 keeps-all : (h h2 : List Fact) (w w2 : Moment) (d u : Due)
-    → ((j : ℕ) (way : Way) (c r k : ℕ) → Held h w d j way c r k → Held h2 w2 u j way c r k)
-    → (j : ℕ) (z : Lists) → HeldNode h w d j z → HeldNode h2 w2 u j z
-keeps-all h h2 w w2 d u keep j z held s x there =
+    → ((j s : ℕ) (z : Lists) (x : Client) → ConnectedAt w j s z x → (c r k : ℕ)
+    → Held h w d j x.way c r k → Held h2 w2 u j x.way c r k)
+    → (j : ℕ) (z : Lists) → slice_get w.nodes j ≡ Some z → HeldNode h w d j z
+    → HeldNode h2 w2 u j z
+keeps-all h h2 w w2 d u keep j z is held s x there =
     λ live. all-map (HeldCall h w d j x.way) (HeldCall h2 w2 u j x.way) x.calls
-    (λ c. by x.way c.what.number c.progress) (held s x there live)
+    (λ c. by (record { is_node = is; is_there = there; live = live }) c.what.number c.progress)
+    (held s x there live)
   where
-    by : (way : Way) (c : ℕ) (o : Option Progress) → HeldBy h w d j way c o → HeldBy h2 w2 u j way c o
-    by way c None k = tt
-    by way c (Some p) k = λ m low high. keep j way c p.request m (k m low high)
+    by : ConnectedAt w j s z x → (c : ℕ) (o : Option Progress) → HeldBy h w d j x.way c o
+        → HeldBy h2 w2 u j x.way c o
+    by at c None k = tt
+    by at c (Some p) k = λ m low high. keep j s z x at c p.request m (k m low high)
 
-reach-net : (h : List Fact) (w : Moment) (f : Fact) → f.who ≡ Net → w ≡ moment_of h
+reach-net : (h : List Fact) (w : Moment) (f : Fact) → f.who ≡ Net → w ≡ moment_of h → Good w
     → Reach h w nothing → Reach (h ++ f ∷ []) (moved w f) (net_due f.event)
-reach-net h w f who is reach =
+reach-net h w f who is g reach =
     let same = nodes-net w f who in
     subst (λ (ns : List Lists). Placed (HeldNode (h ++ f ∷ []) (moved w f) (net_due f.event)) ns) (sym same)
-    (λ j z at. keeps-all h (h ++ f ∷ []) w (moved w f) nothing (net_due f.event) keep j z (reach j z at))
+    (λ j z at. keeps-all h (h ++ f ∷ []) w (moved w f) nothing (net_due f.event) keep j z at (reach j z at))
   where
-    keep : (j : ℕ) (way : Way) (c r k : ℕ) → Held h w nothing j way c r k
-        → Held (h ++ f ∷ []) (moved w f) (net_due f.event) j way c r k
-    keep j way c r k (inr v) = inr (lost-since h f j way c r v (rw who refl))
-    keep j way c r k (inl some) =
-        elim (net-fate w f (pair_of j way) r k who some) [
+    keep : (j s : ℕ) (z : Lists) (x : Client) → ConnectedAt w j s z x → (c r k : ℕ)
+        → Held h w nothing j x.way c r k
+        → Held (h ++ f ∷ []) (moved w f) (net_due f.event) j x.way c r k
+    keep j s z x at c r k (inr v) = inr (lost-since h f j x.way c r v (rw who refl))
+    keep j s z x at c r k (inl some) =
+        elim (net-fate w f (pair_of j x.way) r k who some) [
           | inl more ↦ inl more
-          | inr p ↦ inr (lost-now h w f j way c r k is p)
+          | inr p ↦ inr (lost-now h w f j x.way c r k is
+              (λ d gone. is-from w g j s z x at r k d (net-speaks w g f.event d
+              (subst (λ (v : Who). lost_by w v f.event f.first ≡ Some d) who gone))) p)
         ]
 
 reach-made : (h : List Fact) (w : Moment) (ring : ℕ) → Reach h w nothing
@@ -321,7 +329,8 @@ reach-made h w ring reach =
     let f = plain (length w.nodes) (Made ring) in
     let new = new_lists (length w.nodes) (with_ring ring) in
     add-placed (HeldNode (h ++ f ∷ []) (moved w f) nothing) w.nodes new (λ s x is. absurd (cc))
-    (λ j z at. keeps-all h (h ++ f ∷ []) w (moved w f) nothing nothing keep j z (reach j z at))
+    (λ j z at. keeps-all h (h ++ f ∷ []) w (moved w f) nothing nothing (λ i s y x here. keep i x.way) j z at
+    (reach j z at))
   where
     keep : (j : ℕ) (way : Way) (c r k : ℕ) → Held h w nothing j way c r k
         → Held (h ++ plain (length w.nodes) (Made ring) ∷ []) (moved w (plain (length w.nodes)
@@ -374,7 +383,7 @@ module _ (h : List Fact) (w : Moment) (n m credits : ℕ) (client server : Lists
   reach-paired reach =
       let h2 = (h ++ one ∷ []) ++ other ∷ [] in
       let kept : Placed (HeldNode h2 w2 nothing) w.nodes =
-      λ j z at. keeps-all h h2 w w2 nothing nothing pair-keep j z (reach j z at) in
+      λ j z at. keeps-all h h2 w w2 nothing nothing (λ i s y x here. pair-keep i x.way) j z at (reach j z at) in
       let first : Placed (HeldNode h2 w2 nothing) (nodes1 w n m credits client server e) =
       set-placed (HeldNode h2 w2 nothing) w.nodes n client (lists1 w n m credits client server e) e.is_client
       (add-placed (λ s x. HeldClient h2 w2 nothing n x) client.clients
@@ -473,7 +482,8 @@ course-reach _ _ _ (in_net w f x v who c) h d u m at =
       valid = valid-net w f who at.valid;
       living = living-net w f who at.living;
       newest = newest-net w f who at.newest;
-      reach = subst (Reach (h ++ f ∷ []) (moved w f)) (sym by.1) (reach-net h w f who at.moment reach);
+      reach = subst (Reach (h ++ f ∷ []) (moved w f)) (sym by.1) (reach-net h w f who at.moment
+          at.living.good reach);
     }))
 course-reach _ _ _ (made w ring x v c) h d u m at =
     let f = plain (length w.nodes) (Made ring) in

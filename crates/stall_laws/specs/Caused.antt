@@ -52,11 +52,15 @@ abbrev pub replies_of : (s r : ℕ) → Option MessageHeader → Bool
 replies_of s r None = false
 replies_of s r (Some h) = not (is_ask h.kind) && (h.session == s && h.request == r)
 
+-- whether a datagram goes from one node to another
+abbrev pub is_between : (from to : ℕ) → InFlight → Bool
+is_between from to copy = copy.from == from && copy.to == to
+
 -- whether a datagram is of request r of a client session of node n, in either direction
 abbrev pub is_of_request : ℕ → Way → ℕ → InFlight → Bool
 is_of_request n way r copy =
-    (copy.to == way.peer && asks_of way.other r (message_of copy.bytes))
-    || (copy.to == n && replies_of way.number r (message_of copy.bytes))
+    (is_between n way.peer copy && asks_of way.other r (message_of copy.bytes))
+    || (is_between way.peer n copy && replies_of way.number r (message_of copy.bytes))
 
 -- a fact by which call c of node n begins or is rolled back
 abbrev pub restarts_by : ℕ → Event → Bool

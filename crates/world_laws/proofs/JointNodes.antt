@@ -1,7 +1,6 @@
 -- The facts of each node of a joint run are its Made and a run.
-use Rattle.std.proofs.Common.{◌≡◌, ◌≤◌, ℕ, zero, suc, Bool, true, false, cond, List, [], ◌∷◌, ◌++◌, length, Option, Some, None}
-use Rattle.std.proofs.Common.{slice_get, refl, sym, ap, ◌∙◌, subst, append_assoc, arith, ltb-false, nat_lt}
-use Rattle.std.specs.Prelude.{count_by}
+use Rattle.std.proofs.Common.{◌≡◌, ◌≤◌, ℕ, false, List, [], ◌∷◌, ◌++◌, length, Option, Some, None}
+use Rattle.std.proofs.Common.{slice_get, refl, sym, ap, ◌∙◌, subst, append_assoc, arith}
 use Rattle.std.specs.List.{slice_set}
 use Rattle.rpc_base.specs.declared.event.Event.{Event}
 use Rattle.rpc_base.specs.declared.event.Event.TheVariants.{Made, PairedClient, PairedServer, Carried}
@@ -14,18 +13,18 @@ use Rattle.rpc_laws.specs.declared.tables.Timed.{Timed}
 use Rattle.rpc_laws.specs.Facts.{plain, of_net}
 use Rattle.rpc_laws.specs.NodeLists.{after_all, new_node}
 use Rattle.rpc_laws.specs.Service.{Answers}
-use Rattle.rpc_laws.specs.Steps.{Goes, Chain, none as no_group, more as more_groups}
-use Rattle.node_laws.specs.NodeRun.{Group, Notes, NodeRun, IsCredits, MayPair, pairs_client, pairs_server, refuses, connects}
+use Rattle.rpc_laws.specs.Steps.{Chain, none as no_group, more as more_groups}
+use Rattle.node_laws.specs.NodeRun.{Group, Notes, MayPair, pairs_client, pairs_server, refuses, connects}
 use Rattle.node_laws.specs.NodeRun.{disconnects, sets_rate, asks, delivers, polls, works, misses}
-use Rattle.end_laws.specs.JointRun.{Party, Joint, JointStep, JointSteps, JointRun, limits_of, nobody, noted_by}
-use Rattle.end_laws.specs.JointRun.{MakesNode, Acts, PairsNodes, CarriesCopy, NetActs}
+use Rattle.end_laws.specs.JointRun.{Party, Joint, JointStep, JointSteps, JointRun, limits_of, noted_by}
+use Rattle.end_laws.specs.JointRun.{MakesNode, PairsNodes, CarriesCopy}
 use Rattle.end_laws.specs.JointRun.{makes, acts, pairs, carries, of_network, none, more}
 use Rattle.end_laws.proofs.ListLemmas.{Placed, set-placed, add-placed, add-last}
 use Rattle.end_laws.proofs.OwnFacts.{Still, Owned, asks-own, connects-own, delivers-own, disconnects-own}
 use Rattle.end_laws.proofs.OwnFacts.{poll-own, rates-own}
 use Rattle.world_laws.specs.JointNodes.{IsPartyRun, PartyRunAt}
 use Rattle.world_laws.specs.NodeFacts.{facts_of}
-use Rattle.world_laws.proofs.FactLemmas.{AllAt, facts-append, facts-grow, facts-other, facts-stay, set-none, add-none}
+use Rattle.world_laws.proofs.FactLemmas.{AllAt, facts-grow, facts-other, facts-stay, set-none, add-none}
 use Rattle.world_laws.proofs.WorkLemmas.{AllNode, own-node, worked-cons, times_worked}
 use Rattle.std.proofs.lemmas.Option.{slice_get_past}
 use Rattle.rpc_laws.specs.Groups.{client_refusal, server_refusal}

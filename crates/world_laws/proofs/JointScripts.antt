@@ -1,52 +1,51 @@
 -- Each command of a script makes steps of a joint run.
-use Rattle.std.specs.Prelude.{◌≢◌}
-use Rattle.std.proofs.Common.{◌≡◌, ◌<◌, ◌≤◌, ◌⊎◌, inl, inr, ◌||◌, ℕ, zero, suc, Bool, true, false, cond, nat_lt, nat_le, List, [], ◌∷◌, ◌++◌, length, Option, Some, None}
+use Rattle.std.proofs.Common.{◌≡◌, ◌≤◌, ◌⊎◌, inl, inr, ◌||◌, ℕ, zero, suc, Bool, true, false, cond, nat_lt, List, [], ◌∷◌, ◌++◌, length, Option, Some, None}
 use Rattle.std.proofs.Common.{slice_get, refl, sym, ap, ◌∙◌, subst, append_assoc, append-nil, arith, ltb-true, leb-false}
 use Rattle.std.specs.Bool.{MatchBool}
-use Rattle.std.specs.Prelude.{map, count_by}
-use Rattle.std.specs.List.{list_any, list_all, remove, slice_set}
+use Rattle.std.specs.List.{list_all, remove, slice_set}
 use Rattle.network_model.specs.declared.stage.Stage.{Stage}
 use Rattle.rpc_base.specs.declared.event.Event.{Event}
-use Rattle.rpc_base.specs.declared.event.Event.TheVariants.{Made, PairedClient, PairedServer, Missed, Carried, Lost, Repeated, Ticked}
+use Rattle.rpc_base.specs.declared.event.Event.TheVariants.{Made, Missed, Lost, Repeated, Ticked}
 use Rattle.rpc_base.specs.declared.event.Event.TheVariants.{NconnectNumbers, NconnectRing}
 use Rattle.rpc_base.specs.declared.fact.Fact.{Fact}
 use Rattle.rpc_laws.specs.declared.tables.InFlight.{InFlight}
 use Rattle.rpc_laws.specs.declared.tables.Lists.{Lists}
 use Rattle.rpc_laws.specs.declared.tables.Timed.{Timed}
-use Rattle.rpc_laws.specs.Deliveries.{Delivers, inbox_room}
+use Rattle.rpc_laws.specs.Deliveries.{inbox_room}
 use Rattle.rpc_laws.specs.Front.{is_message, is_control}
 use Rattle.rpc_base.specs.declared.event.Event.TheVariants.{Arrived, Overflowed, Bad}
 use Rattle.world_laws.proofs.NodeLaws.{runs}
 use Rattle.rpc_laws.specs.Facts.{plain, of_net, with_bytes}
-use Rattle.rpc_laws.specs.Groups.{Asks, Connects, Disconnects, SetsRate, client_refusal, server_refusal, pair_refusal}
+use Rattle.rpc_laws.specs.Groups.{Asks, Connects, Disconnects, SetsRate, pair_refusal}
 use Rattle.rpc_laws.specs.Groups.{clients_spent, servers_spent, has_no_room, shares}
-use Rattle.rpc_base.proofs.PlaceLemmas.{set-here, set-other}
+use Rattle.rpc_base.proofs.PlaceLemmas.{set-here}
 use Rattle.rpc_laws.specs.InFlight.{flight_after, flight_after_all, flight_after_net}
-use Rattle.rpc_laws.specs.NodeLists.{after, new_node}
-use Rattle.rpc_laws.specs.Steps.{Rel, Goes, Chain, none as no_group, more as more_groups}
-use Rattle.rpc_laws.specs.Working.{worked_after_all, Works, WorksAll}
+use Rattle.rpc_laws.specs.NodeLists.{after}
+use Rattle.rpc_laws.specs.Steps.{Rel, Chain, none as no_group, more as more_groups}
+use Rattle.rpc_laws.specs.Working.{Works}
 use Rattle.rpc_outside.specs.PlainAnswer.{plain_mode}
 use Rattle.rpc_laws.proofs.PollLemmas.{poll-within}
-use Rattle.node_laws.specs.NodeRun.{Group, Notes, IsCredits, refuses, connects}
-use Rattle.node_laws.specs.NodeRun.{disconnects, sets_rate, asks, delivers, polls, works, misses}
-use Rattle.end_laws.specs.JointRun.{Party, Joint, JointStep, JointSteps, JointRun, limits_of, nobody, noted_by, usual_party}
-use Rattle.end_laws.specs.JointRun.{MakesNode, Acts, PairsNodes, CarriesCopy, NetMay, NetActs, AloneGroup}
+use Rattle.node_laws.specs.NodeRun.{Notes, IsCredits, refuses, connects}
+use Rattle.node_laws.specs.NodeRun.{disconnects, sets_rate, asks, polls}
+use Rattle.end_laws.specs.JointRun.{Party, Joint, JointSteps, JointRun, usual_party}
+use Rattle.end_laws.specs.JointRun.{NetMay, AloneGroup}
 use Rattle.end_laws.specs.JointRun.{makes, acts, pairs, carries, of_network, none, more}
 use Rattle.end_laws.specs.TwoNodes.{PairsTwo, PairsTwoNodes}
+use Rattle.end_laws.proofs.Leads.{set-twice}
 use Rattle.script_grammar.specs.declared.line.Command.{Command}
 use Rattle.script_grammar.specs.declared.line.Command.TheVariants.{Node, Pair, Connect, Disconnect}
 use Rattle.script_grammar.specs.declared.line.Command.TheVariants.{Rate, Call, Poll as PollNode}
 use Rattle.script_grammar.specs.declared.line.Command.TheVariants.{Arrive, Lose, Repeat, Tick, Work}
 use Rattle.script_grammar.specs.declared.line.Command.TheVariants.{Settle}
 use Rattle.script_grammar.specs.declared.line.Line.{Line}
-use Rattle.sim_script.specs.FollowsScript.{ask_bytes, AtNode, Makes, noted, PairsEnds}
+use Rattle.sim_script.specs.FollowsScript.{ask_bytes, AtNode, Makes}
 use Rattle.sim_script.specs.FollowsScript.{PairsBy, Pairs, OfNet, or_missed, Carries, Ticks}
 use Rattle.sim_script.specs.FollowsScript.{PollsNode, Joins, Times, PollsFirst, WorksNode}
 use Rattle.sim_script.specs.FollowsScript.{WorksFirst, WorksAndPolls, Round, is_polled, Unless}
 use Rattle.sim_script.specs.FollowsScript.{Settles, Does, FollowsFrom, Follows, empty_stage}
 use Rattle.world_laws.specs.FewCredits.{PairsFew, PairsFewCredits}
 use Rattle.world_laws.specs.JointNodes.{joint_of}
-use Rattle.world_laws.specs.NodeFacts.{facts_of, RunsOf, RunAt}
+use Rattle.world_laws.specs.NodeFacts.{facts_of, RunAt}
 use Rattle.world_laws.proofs.FactLemmas.{set-same}
 use Rattle.world_laws.proofs.WorkLemmas.{times_worked, worked-cons}
 use Rattle.world_laws.proofs.WorkSteps.{Alone, all-alone, works-alone}
@@ -84,11 +83,6 @@ act-joint P n alone s h x t r a =
     rw a.left (one-act n (joint_of s) h a.before a.now x r a.is_node (alone a.before x a.now a.step))
 
 -- many groups, one after another
-set-twice : {A : Type 0} (xs : List A) (i : ℕ) (x y : A) → slice_set (slice_set xs i x) i y ≡ slice_set xs i y
-set-twice [] i x y = refl
-set-twice (z ∷ zs) zero x y = refl
-set-twice (z ∷ zs) (suc i) x y = ap (λ ys. z ∷ ys) (set-twice zs i x y)
-
 flight-append : (copies : List InFlight) (x y : List Fact)
     → flight_after_all copies (x ++ y) ≡ flight_after_all (flight_after_all copies x) y
 flight-append copies [] y = refl

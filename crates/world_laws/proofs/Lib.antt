@@ -9,5 +9,6 @@ pub mod OrderLaws
 pub mod RequestLaws
 pub mod RunLemmas
 pub mod ScriptLaws
+pub mod TableLaws
 pub mod WorkLemmas
 pub mod WorkSteps

@@ -31,7 +31,8 @@ use Rattle.end_laws.specs.TwoNodes.{PairsTwoNodes}
 use Rattle.world_laws.specs.FewCredits.{PairsFewCredits}
 use Rattle.world_laws.specs.Laws.{CreditBalances, EndedCallsAreNotQueued, EndedSessionsAreNotQueued}
 use Rattle.world_laws.specs.Laws.{FollowsRuns, HappensAtMostOnce, InboxFits}
-use Rattle.world_laws.specs.Laws.{EachNode, KeepsRing, OlderRequestsAreNotQueued, RingFits, SendsItsOwn}
+use Rattle.world_laws.specs.Laws.{EachNode, KeepsRing, OlderRequestsAreNotQueued, RingFits}
+use Rattle.world_laws.specs.Laws.{SendsItsOwn, SendsOwnPackets}
 use Rattle.world_laws.specs.NodeFacts.{facts_of, EachRuns, IsRun, RunAt, Runs, ring_of}
 use Rattle.world_laws.proofs.ScriptLaws.{script-runs}
 
@@ -146,10 +147,10 @@ pub inbox-fits : InboxFits
 inbox-fits script h two few f = inbox-each h (script-each script h two few f)
 
 -- what is sent
-pub sends-each : (h : List Fact) → EachRuns h → EachNode SendsOwn h
+pub sends-each : (h : List Fact) → EachRuns h → EachNode SendsOwnPackets h
 sends-each h each =
-    of-node SendsOwn (λ me limits. tt)
-    (λ n facts t r. let kept : SendsOwn r.later = sends_own plain_serving n (with_ring r.ring) r.later t r.run in rw r.made (λ me limits. (tt, λ clock. kept me limits))) h each
+    of-node SendsOwnPackets (λ me limits same. tt)
+    (λ n facts t r. let kept : SendsOwn r.ring r.later = sends_own plain_serving n (with_ring r.ring) r.later t r.run in rw r.made (λ me limits same. (tt, λ clock. kept me limits same))) h each
 
 pub sends-own : SendsItsOwn
 sends-own script h two few f = sends-each h (script-each script h two few f)

@@ -1,5 +1,5 @@
 -- The table of requests of each node says what its facts tell: the Made before its run changes no reading.
-use Rattle.std.proofs.Common.{◌≡◌, ◌+◌, ℕ, cond, Bool, List, [], ◌∷◌, Option, Some, refl, ap, subst, ◌∙◌, sym}
+use Rattle.std.proofs.Common.{◌≡◌, ◌+◌, ℕ, cond, Bool, List, [], ◌∷◌, Option, Some, refl, ap, ◌∙◌, sym}
 use Rattle.std.specs.Prelude.{◌||◌, count_by, if◌then◌else◌}
 use Rattle.std.specs.List.{list_any}
 use Rattle.node_laws.proofs.RequestTableLaws.{requests_tell}
@@ -20,9 +20,7 @@ use Rattle.rpc_laws.specs.Facts.{plain}
 use Rattle.rpc_laws.specs.Service.{plain_serving}
 use Rattle.rpc_laws.specs.UsualLimits.{with_ring}
 use Rattle.rpc_laws.specs.Queues.{ring_after}
-use Rattle.world_laws.specs.Laws.{RequestsTellTheHistory}
-use Rattle.world_laws.specs.NodeFacts.{facts_of, IsRun, RunAt}
-use Rattle.world_laws.proofs.NodeLaws.{runs}
+use Rattle.world_laws.specs.NodeFacts.{IsRun}
 
 -- two lists of facts tell the same of each request
 record SameTold (past other : List Fact) : Type 0 where
@@ -37,7 +35,7 @@ record SameTold (past other : List Fact) : Type 0 where
   answer : (t r : ℕ) → answer_by t r past ≡ answer_by t r other
   ask : (t r : ℕ) → ask_by t r past ≡ ask_by t r other
 
-count-next : (test : Fact → Bool) (f : Fact) (past other : List Fact)
+pub count-next : (test : Fact → Bool) (f : Fact) (past other : List Fact)
     → count_by test past ≡ count_by test other
     → count_by test (f ∷ past) ≡ count_by test (f ∷ other)
 count-next test f past other e =
@@ -99,16 +97,12 @@ requests-other past other l s h = record {
   requests = λ t i v q server served. request-other past other t q s (h.requests t i v q server served);
 }
 
-run-tells : (n : ℕ) (facts : List Fact) (t : Timed) → IsRun n facts t → TellsRequests (latest_first [] facts) t.lists
-run-tells n facts t r =
+pub requests-tell : (n : ℕ) (facts : List Fact) (t : Timed) → IsRun n facts t
+    → TellsRequests (latest_first [] facts) t.lists
+requests-tell n facts t r =
     let kept : TellsRequests (latest_first [] r.later) t.lists =
     requests_tell plain_serving n (with_ring r.ring) r.later t r.run in
     let same : SameTold (latest_first [] r.later)
     (latest_first (plain n (Made r.ring) ∷ []) r.later) =
     told-all [] (plain n (Made r.ring) ∷ []) r.later (told-made n r.ring) in
     rw r.made (requests-other _ _ t.lists same kept)
-
-pub requests-tell : RequestsTellTheHistory
-requests-tell script h two few f n t is =
-    let run : RunAt n (facts_of n h) (Some t) = subst (RunAt n (facts_of n h)) is (runs script h two few f n) in
-    run-tells n (facts_of n h) t run

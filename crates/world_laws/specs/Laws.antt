@@ -2,7 +2,7 @@
 use Rattle.std.specs.Prelude.{ℕ, ◌≡◌, Some, List, [], slice_get}
 use Rattle.end_laws.specs.TwoNodes.{PairsTwoNodes}
 use Rattle.network_model.specs.declared.stage.Stage.{Stage}
-use Rattle.node_laws.specs.CallHistory.{latest_first}
+use Rattle.node_laws.specs.CallHistory.{latest_first, TellsTable}
 use Rattle.node_laws.specs.CreditBalance.{Credit}
 use Rattle.node_laws.specs.EndedCalls.{EndsClean}
 use Rattle.node_laws.specs.EndedSessions.{SessionsEndClean}
@@ -12,6 +12,7 @@ use Rattle.node_laws.specs.RingLimit.{RingWithin, InboxWithin}
 use Rattle.node_laws.specs.SendsOwn.{SendsOwn}
 use Rattle.node_laws.specs.UsedOnce.{UsedOnce}
 use Rattle.rpc_base.specs.declared.fact.Fact.{Fact}
+use Rattle.rpc_laws.specs.declared.tables.Lists.{Lists}
 use Rattle.rpc_laws.specs.declared.tables.Timed.{Timed}
 use Rattle.rpc_laws.specs.AtMostOnce.{Once}
 use Rattle.script_grammar.specs.declared.line.Line.{Line}
@@ -40,13 +41,22 @@ OfEveryNode P = OfEveryHistory (EachNode P)
 abbrev pub KeepsRing : List Fact → Type 0
 KeepsRing facts = RingWithin (ring_of facts) [] facts
 
--- in this stage the table of requests of each node says what the node's facts tell
+-- what a node sends is what its own tables have, from when it was made with its ring
+abbrev pub SendsOwnPackets : List Fact → Type 0
+SendsOwnPackets facts = SendsOwn (ring_of facts) facts
+
+-- a node's tables of calls and of requests say what these facts tell
+pub record TellsTables (past : List Fact) (s : Lists) : Type 0 where
+  pub calls : TellsTable past s
+  pub requests : TellsRequests past s
+
+-- in this stage the tables of each node say what the node's facts tell
 abbrev pub TablesTell : List Fact → Stage → Type 0
 TablesTell h end =
     (n : ℕ) (t : Timed) → slice_get end.nodes n ≡ Some t
-    → TellsRequests (latest_first [] (facts_of n h)) t.lists
+    → TellsTables (latest_first [] (facts_of n h)) t.lists
 
--- so it does in the stage that a history of the script leaves
+-- so they do in the stage that a history of the script leaves
 abbrev pub EndTells : List Line → List Fact → Type 0
 EndTells script h = (f : Follows script h) → TablesTell h f.0
 
@@ -74,9 +84,9 @@ EndedCallsAreNotQueued = OfEveryNode (EndsClean [])
 abbrev pub OlderRequestsAreNotQueued : Type 0
 OlderRequestsAreNotQueued = OfEveryNode (BeginsClean [])
 
--- at the end the table of requests of each node says what the node's facts tell
-abbrev pub RequestsTellTheHistory : Type 0
-RequestsTellTheHistory =
+-- at the end the tables of calls and of requests of each node say what the node's facts tell
+abbrev pub TablesTellTheHistory : Type 0
+TablesTellTheHistory =
     (script : List Line) (h : List Fact) → PairsTwoNodes script → PairsFewCredits script
     → EndTells script h
 
@@ -94,7 +104,7 @@ InboxFits = OfEveryNode (InboxWithin [])
 
 -- what a node sends is what its own tables have
 abbrev pub SendsItsOwn : Type 0
-SendsItsOwn = OfEveryNode SendsOwn
+SendsItsOwn = OfEveryNode SendsOwnPackets
 
 -- a node's call numbers, session numbers and the requests of a session are used once
 abbrev pub NumbersAreUsedOnce : Type 0

@@ -14,7 +14,7 @@ ghost use Rattle.world_laws.specs.Laws.{CallsAreInOrder, CallsRunOnce, CreditBal
 ghost use Rattle.world_laws.specs.Laws.{EndedCallsAreNotQueued};
 ghost use Rattle.world_laws.specs.Laws.{EndedSessionsAreNotQueued, FollowsRuns, HappensAtMostOnce};
 ghost use Rattle.world_laws.specs.Laws.{InboxFits, NumbersAreUsedOnce, OlderRequestsAreNotQueued};
-ghost use Rattle.world_laws.specs.Laws.{RequestsTellTheHistory, RingFits, SendsItsOwn};
+ghost use Rattle.world_laws.specs.Laws.{RingFits, SendsItsOwn, TablesTellTheHistory};
 
 /// The facts of each node are its `Made` and a run of that node, which leaves it as the history
 /// does.
@@ -62,11 +62,13 @@ pub fn older_requests_are_not_queued()
     ensures { OlderRequestsAreNotQueued }
 {}
 
-/// At the end of a history a request is in its node's table exactly where a packet of it was taken
-/// there, and none of a greater number of its slot; and its type and size, how far it has come, its
-/// bytes and its answer are those of the node's facts.
-pub fn requests_tell_the_history()
-    ensures { RequestsTellTheHistory }
+/// At the end of a history a call is in its node's table exactly where it was asked there and isn't
+/// over, and its counts, the size of its answer and the bytes of that so far are those of the
+/// node's facts. A request is in it exactly where a packet of it was taken there, and none of a
+/// greater number of its slot, and its session didn't end; and its type and size, how far it has
+/// come, its bytes and its answer are those of the node's facts.
+pub fn tables_tell_the_history()
+    ensures { TablesTellTheHistory }
 {}
 
 /// At no moment is the receive ring of a node longer than its room.

@@ -9,6 +9,6 @@ pub use laws::{
     ended_sessions_are_not_queued, follows_jointly, follows_runs, happens_at_most_once, inbox_fits,
     joint_calls_are_in_order, joint_calls_run_once, joint_happens_at_most_once,
     joint_numbers_are_used_once, joint_runs_nodes, numbers_are_used_once,
-    older_requests_are_not_queued, requests_tell_the_history, ring_fits, scripts_pair_few,
-    sends_its_own,
+    older_requests_are_not_queued, ring_fits, scripts_pair_few, sends_its_own,
+    tables_tell_the_history,
 };
