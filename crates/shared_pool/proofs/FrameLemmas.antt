@@ -13,16 +13,17 @@ use Rattle.shared_pool.specs.Loans.{LoanNo}
 use Rattle.shared_pool.specs.declared.word.TheConstants.{MOST_LOANS}
 use Rattle.shared_pool.specs.declared.view.Note.{Note}
 use Rattle.shared_pool.specs.declared.view.View.{View}
-use Rattle.shared_pool.specs.Counts.{total, has_turn, holds, got, gave}
+use Rattle.rpc_base.specs.Totals.{total}
+use Rattle.worker_board.proofs.CountsLemmas.{total-set}
+use Rattle.worker_board.proofs.FrameLemmas.{state}
+use Rattle.worker_board.proofs.WordLemmas.{rises}
+use Rattle.shared_pool.specs.Counts.{has_turn, holds, got, gave}
 use Rattle.shared_pool.specs.Moves.{note}
 use Rattle.shared_pool.specs.Rule.{Slot, Home, Stands, PlaceLaw, PoolLaw, IsCurrent, word_of, out}
-use Rattle.shared_pool.proofs.CountsLemmas.{total-set, once_same}
+use Rattle.shared_pool.proofs.CountsLemmas.{once_same}
 
 abbrev pub Table : Type 0
 Table = State Slot View
-
-abbrev pub state : List ℕ → List (maybe.Option Slot) → List View → Table
-state ws hs vs = record { words = ws; homes = hs; views = vs }
 
 -- two views are alike at a place
 pub record Alike (q : ℕ) (v w : View) : Type 0 where
@@ -30,13 +31,6 @@ pub record Alike (q : ℕ) (v w : View) : Type 0 where
   pub loans : holds q w ≡ holds q v
   pub lent : (g : ℕ) → got q g w ≡ got q g v
   pub back : (g : ℕ) → gave q g w ≡ gave q g v
-
--- a word that does not fall
-pub rises : (ws : List ℕ) (p n q m : ℕ) → p < length ws → get_or ws p 0 ≤ n → m ≤ get_or ws q 0
-    → m ≤ get_or (set ws p n) q 0
-rises ws p n q m near up old = dite (ℕ_discrete q p)
-    (λ is. subst (λ (i : ℕ). m ≤ get_or (set ws p n) i 0) (sym is) (let now = get_or-set_same ws p n 0 near in let before : m ≤ get_or ws p 0 = subst (λ (i : ℕ). m ≤ get_or ws i 0) is old in omega arith))
-    (λ ne. let same = get_or-set_other ws p q n 0 ne in omega arith)
 
 -- a note of the word that a step left, before others that hold
 pub notes_grow : (ws : List ℕ) (p n : ℕ) (xs : List Note)

@@ -1,5 +1,5 @@
 -- What a try notes, and who has taken a slot.
-use Rattle.std.proofs.Common.{◌≡◌, ◌≢◌, ℕ, suc, ◌+◌, ◌*◌, ◌≤◌, ◌<◌, List, [], ◌∷◌, sym, refl, ap, subst, ◌∙◌, arith, inl, inr, ⊎_elim, cond, eq-eqb}
+use Rattle.std.proofs.Common.{◌≡◌, ◌≢◌, ℕ, suc, ◌+◌, ◌*◌, ◌≤◌, ◌<◌, List, [], ◌∷◌, refl, ap, subst, ◌∙◌, arith, inl, inr, ⊎_elim, cond, eq-eqb}
 use mathlib.Core.Option.{some}
 use lib.ListN.{get_elem?}
 use Rattle.atomic_table.specs.Table.{rest}
@@ -7,15 +7,13 @@ use Rattle.shared_pool.specs.Words.{MayNotBeLent}
 use Rattle.shared_pool.specs.Loans.{LoanNo, loan_no, AllInside}
 use Rattle.shared_pool.specs.declared.word.TheConstants.{MOST_LOANS}
 use Rattle.shared_pool.specs.declared.view.View.{View}
-use Rattle.shared_pool.specs.Counts.{only, holds, without}
+use Rattle.worker_board.specs.Counts.{only}
+use Rattle.worker_board.proofs.CountsLemmas.{only-same}
+use Rattle.shared_pool.specs.Counts.{holds, without}
 use Rattle.shared_pool.specs.Rule.{Slot}
 use Rattle.shared_pool.specs.Moves.{Seated, note, noted, turned_to, lent_to, returned}
 use Rattle.shared_pool.specs.Seats.{Missed, IsShut, lent_at}
-use Rattle.shared_pool.proofs.CountsLemmas.{only-same, at_without, without-none}
-
--- who took a slot has it first in the list
-pub taken_first : (l c : List (ℕ × Slot)) (p : ℕ) (x : Slot) → l ≡ (p, x) ∷ c → l ≡ (p, x) ∷ rest l
-taken_first l c p x e = e ∙ ap (λ (y : List (ℕ × Slot)). (p, x) ∷ rest y) (sym e)
+use Rattle.shared_pool.proofs.CountsLemmas.{at_without, without-none}
 
 is_shut : (w : ℕ) → w ≤ 2 * MOST_LOANS → MayNotBeLent w → IsShut w
 is_shut w most not = ⊎_elim (λ odd. inl odd) (λ high. inr (omega arith)) not

@@ -6,11 +6,14 @@ use native.Mathlib.Decide.{ℕ_discrete, dec_le}
 use lib.ListN.{get_elem?}
 use Rattle.shared_pool.specs.Loans.{LoanNo}
 use Rattle.shared_pool.specs.declared.view.View.{View}
-use Rattle.shared_pool.specs.Counts.{total, only, holds, got, gave, IsOnceBelow}
+use Rattle.rpc_base.specs.Totals.{total}
+use Rattle.worker_board.specs.Counts.{only}
+use Rattle.worker_board.proofs.CountsLemmas.{only-is, term_le, terms_le}
+use Rattle.worker_board.proofs.WordLemmas.{some_term}
+use Rattle.shared_pool.specs.Counts.{holds, got, gave, IsOnceBelow}
 use Rattle.shared_pool.specs.Rule.{Home, HasBuffer, PoolLaw, Stands, Whereabouts, home, out}
 use Rattle.shared_pool.specs.Rule.{loans_in, word_of}
 use Rattle.shared_pool.specs.Promises.{KeepsPromises}
-use Rattle.shared_pool.proofs.CountsLemmas.{only-is, some_term, term_le, terms_le}
 use Rattle.shared_pool.proofs.FrameLemmas.{Table}
 
 one_at_most : (x : Whereabouts) → loans_in x ≤ 1

@@ -6,10 +6,11 @@ use lib.ListN.{get_elem?}
 use Rattle.atomic_table.specs.Table.{Splits, Joins}
 use Rattle.atomic_table.proofs.Lists.{at_set, set_else, set_again, at_snoc}
 use Rattle.shared_pool.specs.declared.view.View.{View}
-use Rattle.shared_pool.specs.Counts.{total, is_loan, of_place, has_turn, holds, got, gave}
+use Rattle.rpc_base.specs.Totals.{total}
+use Rattle.worker_board.proofs.CountsLemmas.{at_append, total-append, total-set, only-other}
+use Rattle.shared_pool.specs.Counts.{is_loan, of_place, has_turn, holds, got, gave}
 use Rattle.shared_pool.specs.Rule.{PoolLaw, IsCurrent, fresh}
 use Rattle.shared_pool.specs.Moves.{split_off, taken_in}
-use Rattle.shared_pool.proofs.CountsLemmas.{at_append, total-append, total-set, only-other}
 use Rattle.shared_pool.proofs.FrameLemmas.{same_sums}
 
 idle_turn : (p capacity : ℕ) → has_turn p (fresh capacity) ≡ 0

@@ -8,7 +8,7 @@ use Rattle.std.specs.List.{All}
 use Rattle.atomic_table.specs.Table.{opening}
 use Rattle.shared_pool.specs.declared.view.View.{View}
 use Rattle.shared_pool.specs.Rule.{Slot, IsFilled, HasBuffer, PoolLaw, home, fresh}
-use Rattle.shared_pool.proofs.CountsLemmas.{only-other}
+use Rattle.worker_board.proofs.CountsLemmas.{only-other}
 
 at_home : (capacity : ℕ) (xs : List Slot) (p : ℕ) → p < length xs → IsFilled capacity (get_or xs p None)
     → HasBuffer capacity (get_elem? (map some xs) p)

@@ -16,15 +16,20 @@ use Rattle.shared_pool.specs.Loans.{LoanNo, loan_no}
 use Rattle.shared_pool.specs.declared.word.TheConstants.{MOST_LOANS}
 use Rattle.shared_pool.specs.declared.view.Note.{Note}
 use Rattle.shared_pool.specs.declared.view.View.{View}
-use Rattle.shared_pool.specs.Counts.{total, only, has_turn, holds, got, gave}
+use Rattle.rpc_base.specs.Totals.{total}
+use Rattle.worker_board.specs.Counts.{only}
+use Rattle.worker_board.proofs.CountsLemmas.{suc_inj, total-set, term_le, terms_le, only-same}
+use Rattle.worker_board.proofs.CountsLemmas.{only-other, only-is}
+use Rattle.worker_board.proofs.FrameLemmas.{state}
+use Rattle.worker_board.proofs.WordLemmas.{some_term}
+use Rattle.shared_pool.specs.Counts.{has_turn, holds, got, gave}
 use Rattle.shared_pool.specs.Rule.{Slot, Stands, IsEmptyOrOut, PlaceLaw, PoolLaw, word_of}
 use Rattle.shared_pool.specs.Rule.{Whereabouts, home, out, loans_in}
 use Rattle.shared_pool.specs.Moves.{Seated, note, noted, turned_to, lent_to, returned, Looked, Tried}
 use Rattle.shared_pool.specs.Moves.{Released, Reopened, Returned}
-use Rattle.shared_pool.proofs.CountsLemmas.{suc_inj, total-set, term_le, terms_le, some_term}
-use Rattle.shared_pool.proofs.CountsLemmas.{only-same, only-other, only-is, is_loan-here, is_loan-else}
+use Rattle.shared_pool.proofs.CountsLemmas.{is_loan-here, is_loan-else}
 use Rattle.shared_pool.proofs.CountsLemmas.{once_more, once_same, at_without, total-without, none-without}
-use Rattle.shared_pool.proofs.FrameLemmas.{Table, state, Alike, notes_grow, alike_place, moved}
+use Rattle.shared_pool.proofs.FrameLemmas.{Table, Alike, notes_grow, alike_place, moved}
 
 -- a held loan counts at its place
 pub held_counts : (p : ℕ) (v : View) (k : ℕ) (l : LoanNo) → get_elem? v.held k ≡ some l → l.place ≡ p

@@ -1,15 +1,9 @@
--- Sums over lists, and how often a seat holds, got or gave back a loan.
-use Rattle.std.specs.Prelude.{◌≡◌, ℕ, suc, ◌+◌, ◌<◌, ◌≤◌, List, [], ◌∷◌, ◌==◌, cond}
+-- How often a seat holds, got or gave back a loan.
+use Rattle.std.specs.Prelude.{◌≡◌, ℕ, suc, ◌<◌, ◌≤◌, List, [], ◌∷◌, ◌==◌, cond}
+use Rattle.rpc_base.specs.Totals.{total}
+use Rattle.worker_board.specs.Counts.{only}
 use Rattle.shared_pool.specs.Loans.{LoanNo}
 use Rattle.shared_pool.specs.declared.view.View.{View}
-
-abbrev pub total : {A : Type 0} → (A → ℕ) → List A → ℕ
-total f [] = 0
-total f (x ∷ xs) = f x + total f xs
-
--- 1 where the two are one number, and else 0
-abbrev pub only : ℕ → ℕ → ℕ
-only k x = cond (x == k) 1 0
 
 -- f is 1 of each number below n, and 0 of each other
 abbrev pub IsOnceBelow : ℕ → (ℕ → ℕ) → Type 0

@@ -3,7 +3,8 @@ use Rattle.std.specs.Prelude.{◌≡◌, ℕ, ◌%◌, ◌<◌, ◌≤◌, lengt
 use mathlib.Core.Option.{some}
 use lib.ListN.{get_elem?}
 use Rattle.atomic_table.specs.Table.{State}
-use Rattle.shared_pool.specs.Counts.{total, holds, got, gave}
+use Rattle.rpc_base.specs.Totals.{total}
+use Rattle.shared_pool.specs.Counts.{holds, got, gave}
 use Rattle.shared_pool.specs.Rule.{HasBuffer, Slot}
 use Rattle.shared_pool.specs.declared.view.View.{View}
 

@@ -11,7 +11,8 @@ use Rattle.shared_pool.specs.Loans.{LoanNo}
 use Rattle.shared_pool.specs.declared.word.TheConstants.{MOST_LOANS}
 use Rattle.shared_pool.specs.declared.view.Note.{Note}
 use Rattle.shared_pool.specs.declared.view.View.{View}
-use Rattle.shared_pool.specs.Counts.{total, IsOnceBelow, has_turn, holds, got, gave}
+use Rattle.rpc_base.specs.Totals.{total}
+use Rattle.shared_pool.specs.Counts.{IsOnceBelow, has_turn, holds, got, gave}
 
 -- the view of a seat that has made no step, in a pool of buffers of this capacity
 abbrev pub fresh : ℕ → View

@@ -10,6 +10,9 @@ use Rattle.rpc_base.specs.Totals.{total}
 use Rattle.worker_board.specs.declared.view.Claim.{Claim}
 use Rattle.worker_board.specs.Counts.{only, without, times, removed}
 
+pub suc_inj : {a b : ℕ} → suc a ≡ suc b → a ≡ b
+suc_inj e = omega arith
+
 -- what stands at a place stands below the length
 pub at_lt : {A : Type 0} (l : List A) (i : ℕ) (a : A) → get_elem? l i ≡ some a → i < length l
 at_lt [] i a e = absurd (some-ne-none a (sym e))

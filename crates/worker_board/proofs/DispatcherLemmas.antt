@@ -32,14 +32,12 @@ use Rattle.worker_board.specs.Rule.{held_of, PlaceLaw, BoardLaw}
 use Rattle.worker_board.specs.Moves.{Seated, note, noting, turned_to, offered, ended_as, missed}
 use Rattle.worker_board.specs.Moves.{lost_at, Opened, Released, Numbered, Named, Readied}
 use Rattle.worker_board.specs.Moves.{LostBefore, Summed, Looked, TookBack}
-use Rattle.worker_board.proofs.CountsLemmas.{at_lt, total-set, term_le, only-same, only-other, only-is}
+use Rattle.worker_board.proofs.CountsLemmas.{at_lt, suc_inj, total-set, term_le, only-same}
+use Rattle.worker_board.proofs.CountsLemmas.{only-other, only-is}
 use Rattle.worker_board.proofs.WordLemmas.{not_both, closed_phase, word_open, word_ended}
 use Rattle.worker_board.proofs.WordLemmas.{word_below, closed_ended, older_ended, all_ended}
 use Rattle.worker_board.proofs.WordLemmas.{runs_ended, runs_offered, lost_stays, some_term}
 use Rattle.worker_board.proofs.FrameLemmas.{Table, state, Allowed, moved}
-
-pub suc_inj : {a b : ℕ} → suc a ≡ suc b → a ≡ b
-suc_inj e = omega arith
 
 -- a claim at a place counts there
 pub claim_counts : (vs : List View) (j k p : ℕ) (v : View) (c : Claim) → get_elem? vs j ≡ some v

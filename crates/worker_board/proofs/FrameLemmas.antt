@@ -26,7 +26,7 @@ use Rattle.worker_board.proofs.CountsLemmas.{total-set}
 abbrev pub Table : Type 0
 Table = State Slot View
 
-abbrev pub state : List ℕ → List (maybe.Option Slot) → List View → Table
+abbrev pub state : {S V : Type 0} → List ℕ → List (maybe.Option S) → List V → State S V
 state ws hs vs = record { words = ws; homes = hs; views = vs }
 
 -- two views are alike at a place

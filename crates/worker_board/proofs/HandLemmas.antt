@@ -32,9 +32,10 @@ use Rattle.worker_board.specs.Moves.{Seated, Has, claim, note, noting, turned_to
 use Rattle.worker_board.specs.Moves.{worked, Reopened, Released, Finished, Tried}
 use Rattle.worker_board.proofs.CountsLemmas.{total-set, term_le, terms_le, only-same, only-other}
 use Rattle.worker_board.proofs.CountsLemmas.{only-is, at_without, total-without, none-without}
-use Rattle.worker_board.proofs.WordLemmas.{not_both, word_open, lost_stays, offers_newest, some_term}
+use Rattle.worker_board.proofs.CountsLemmas.{suc_inj}
+use Rattle.worker_board.proofs.WordLemmas.{not_both, word_open, lost_stays, offers_newest, other_word}
+use Rattle.worker_board.proofs.WordLemmas.{some_term}
 use Rattle.worker_board.proofs.FrameLemmas.{Table, state, Allowed, Alike, moved}
-use Rattle.worker_board.proofs.DispatcherLemmas.{suc_inj}
 
 module _ (answer : Answer) where
   -- a hand is not the dispatcher
@@ -103,7 +104,11 @@ module _ (answer : Answer) where
               past = k.past;
             }
             (λ i c e. let t = r.claims id i m.0 c me e in (t.0, t.1)) (λ q on. absurd (suc-ne-zero q (sym on ∙ idle))),
-        ((λ at. absurd (not at)), λ _. refl),
+        (
+          (λ at. absurd (not at)),
+          (λ _. refl),
+          λ _. other_word l k.phase (old / PHASES) (get_or s.words p 0) k.word_is (λ e. not (e ∙ omega arith)),
+        ),
       )
 
       hit : (near : p < length s.homes) (ph : Phase) → (r.places p near).phase ≡ ph
@@ -148,7 +153,7 @@ module _ (answer : Answer) where
                   past = ok.past;
                 }
                 (claims-now x near of-job gen) (λ q on. let same : p ≡ q = suc_inj on in subst (λ (y : ℕ). 0 < holds y w) same (omega arith)),
-            ((λ _. (x, k.2.3, refl)), λ not. absurd (not at)),
+            ((λ _. (x, k.2.3, refl)), (λ not. absurd (not at)), λ not. absurd (not at)),
           )
         where
           claims-now : (x : Parcel) → p < length s.homes

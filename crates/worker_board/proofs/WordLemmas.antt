@@ -3,7 +3,7 @@ use Rattle.std.proofs.Common.{◌≡◌, ℕ, zero, suc, ◌+◌, ◌*◌, ◌/�
 use Rattle.std.proofs.Common.{length, get_or, set, sym, refl, ap, ◌∙◌, subst, arith, cond, ne_eqb}
 use Rattle.std.proofs.Common.{get_or-set_other, get_or-set_same, eq-eqb, ◌==◌}
 use mathlib.Core.Logic.{dite}
-use native.Mathlib.Decide.{ℕ_discrete}
+use native.Mathlib.Decide.{ℕ_discrete, dec_le}
 use mathlib.Core.Option.{some, some-injective}
 use lib.ListN.{get_elem?}
 use Rattle.rpc_base.specs.Totals.{total}
@@ -14,12 +14,13 @@ use Rattle.worker_board.specs.declared.word.TheConstants.{PHASES, READY}
 use Rattle.worker_board.specs.declared.view.Offer.{Offer}
 use Rattle.worker_board.specs.declared.view.End.{End}
 use Rattle.worker_board.specs.declared.view.End.TheVariants.{Open}
-use Rattle.worker_board.specs.Word.{Phase, closed, ready, claimed, done, digit, word_at, IsOpen}
+use Rattle.worker_board.specs.Word.{Phase, closed, ready, claimed, done, digit, word_at, word_of}
+use Rattle.worker_board.specs.Word.{IsOpen, IsOtherWord}
 use Rattle.worker_board.specs.Word.{IsClosed, job_of, IsOfferedJob, IsNewest, offer_of, ended}
 use Rattle.worker_board.specs.Word.{newest, run_of, runs_of, AllEnded, OlderEnded}
 use Rattle.atomic_table.specs.Table.{rest}
 use Rattle.worker_board.specs.Moves.{note}
-use Rattle.worker_board.specs.Rule.{Slot, Answer, Home, InPhase, IsPastReady}
+use Rattle.worker_board.specs.Rule.{Answer, Home, InPhase, IsPastReady}
 
 pub not_both : (l : List Offer) → IsOpen l → IsClosed l → ⊥
 not_both [] o c = o
@@ -43,6 +44,20 @@ word_ended (x ∷ l) e o = refl
 pub word_below : (l : List Offer) → word_at l closed < 4 * length l + 1
 word_below [] = omega arith
 word_below (x ∷ l) = omega arith
+
+some_digit : (ph : Phase) → 1 ≤ digit ph
+some_digit closed = omega arith
+some_digit ready = omega arith
+some_digit claimed = omega arith
+some_digit done = omega arith
+
+-- a word that doesn't show a generation ready
+pub other_word : (l : List Offer) (ph : Phase) (g w : ℕ) → w ≡ word_at l ph → w ≢ word_of g READY
+    → IsOtherWord g w
+other_word [] ph g w e not = IsOtherWord.unoffered e
+other_word (o ∷ older) ph g w e not = dite (dec_le g (length older))
+    (λ late. IsOtherWord.later (let some = some_digit ph in omega arith))
+    (λ early. IsOtherWord.earlier (length older) ph (omega arith) e)
 
 pub closed_ended : (l : List Offer) (e : End) → e ≢ Open → IsClosed (ended e l)
 closed_ended [] e n = tt
@@ -75,7 +90,7 @@ runs_offered g l x =
     (λ ne. ap (λ b. cond b 0 (runs_of g closed l)) (ne_eqb g (length l) ne))
 
 -- a word that does not fall
-rises : (ws : List ℕ) (p n q m : ℕ) → p < length ws → get_or ws p 0 ≤ n → m ≤ get_or ws q 0
+pub rises : (ws : List ℕ) (p n q m : ℕ) → p < length ws → get_or ws p 0 ≤ n → m ≤ get_or ws q 0
     → m ≤ get_or (set ws p n) q 0
 rises ws p n q m near up old = dite (ℕ_discrete q p)
     (λ is. subst (λ (i : ℕ). m ≤ get_or (set ws p n) i 0) (sym is) (let now = get_or-set_same ws p n 0 near in let before : m ≤ get_or ws p 0 = subst (λ (i : ℕ). m ≤ get_or ws i 0) is old in omega arith))
@@ -119,5 +134,5 @@ next_generation [] r e = ((λ _. refl), λ n. absurd (n e))
 next_generation (x ∷ l) r e = ((λ z. absurd (omega arith)), λ n. omega arith)
 
 -- who took a slot has it first in the list
-pub taken_first : (l c : List (ℕ × Slot)) (p : ℕ) (x : Slot) → l ≡ (p, x) ∷ c → l ≡ (p, x) ∷ rest l
-taken_first l c p x e = e ∙ ap (λ (y : List (ℕ × Slot)). (p, x) ∷ rest y) (sym e)
+pub taken_first : {S : Type 0} (l c : List (ℕ × S)) (p : ℕ) (x : S) → l ≡ (p, x) ∷ c → l ≡ (p, x) ∷ rest l
+taken_first {S} l c p x e = e ∙ ap (λ (y : List (ℕ × S)). (p, x) ∷ rest y) (sym e)

@@ -1,5 +1,5 @@
 -- How often a seat holds or ran something.
-use Rattle.std.specs.Prelude.{ℕ, suc, ◌+◌, List, [], ◌∷◌, ◌==◌, cond}
+use Rattle.std.specs.Prelude.{ℕ, suc, List, [], ◌∷◌, ◌==◌, cond}
 use Rattle.rpc_base.specs.Totals.{total}
 use Rattle.worker_board.specs.Tickets.{OfferNo}
 use Rattle.worker_board.specs.declared.view.Claim.{Claim}

@@ -17,7 +17,8 @@ use Rattle.worker_board.specs.declared.view.End.TheVariants.{Open, Collected, Ta
 use Rattle.worker_board.specs.declared.view.Role.{Role}
 use Rattle.worker_board.specs.declared.view.Role.TheVariants.{Dispatcher, Hand, Spent}
 use Rattle.worker_board.specs.Counts.{without, removed, ran}
-use Rattle.worker_board.specs.Word.{closed, word_of, IsUnfinished, word_at, job_of, IsOfferedJob}
+use Rattle.worker_board.specs.Word.{closed, word_of, IsOtherWord, IsUnfinished, word_at, job_of}
+use Rattle.worker_board.specs.Word.{IsOfferedJob}
 use Rattle.worker_board.specs.Word.{IsNewest, offer_of, ended, newest, offers_at}
 use Rattle.worker_board.specs.Rule.{Slot, Answer, HasRoom, IsAnswered, fresh}
 
@@ -140,7 +141,7 @@ TookBack st m r n =
     × (r ≢ st.first
     → n ≡ kept_slots st.word r (lost_at m.0 st.word (st.first / PHASES)) m.1)
 
--- a job was claimed, or the exchange found another word
+-- a job was claimed, or the exchange found another word of the place
 abbrev pub Tried : Answer → Told
 Tried answer st m r n =
     (r ≡ st.first → (x : Parcel) × HasRoom answer x
@@ -148,6 +149,7 @@ Tried answer st m r n =
     (won m.0 st.word (st.first / PHASES) (job_of x)) m.1))
     × (r ≢ st.first
     → n ≡ kept_slots st.word r (lost_at m.0 st.word (st.first / PHASES)) m.1)
+    × (r ≢ st.first → IsOtherWord (st.first / PHASES) r)
 
 -- the number of the next hand is known
 abbrev pub Named : Told

@@ -10,7 +10,8 @@ use Rattle.worker_board.specs.declared.board.HandSeat.{HandSeat}
 use Rattle.worker_board.specs.declared.view.Note.{Note}
 use Rattle.worker_board.specs.declared.view.View.{View}
 use Rattle.worker_board.specs.Counts.{times}
-use Rattle.worker_board.specs.Word.{word_of, IsUnfinished, IsOpen, IsClosed, job_of, IsNewest, newest, offers_at}
+use Rattle.worker_board.specs.Word.{word_of, IsOtherWord, IsUnfinished, IsOpen, IsClosed, job_of}
+use Rattle.worker_board.specs.Word.{IsNewest, newest, offers_at}
 use Rattle.worker_board.specs.Moves.{Has, claim, note, sent_out}
 
 -- what a view says between two calls
@@ -77,6 +78,10 @@ LeftAt p g phase old new = Saw p (λ w. w ≡ word_of g phase) old new
 -- the place's word was another than that of this generation being ready
 abbrev pub FoundOther : ℕ → ℕ → List Note → List Note → Type 0
 FoundOther p g old new = Saw p (λ w. w ≢ word_of g READY) old new
+
+-- and it was a later one, or 0, or that of an earlier generation
+abbrev pub FoundOtherWord : ℕ → ℕ → List Note → List Note → Type 0
+FoundOtherWord p g old new = Saw p (IsOtherWord g) old new
 
 -- the place's word was that of this generation being ready or claimed
 abbrev pub FoundUnfinished : ℕ → ℕ → List Note → List Note → Type 0

@@ -5,7 +5,6 @@ use prog.Atomic.{either}
 use Rattle.atomic_table.specs.Seated.{TableId}
 use Rattle.atomic_table.specs.Table.{Allows, Step, step}
 use Rattle.atomic_table.specs.declared.shared.Seat.{Seat}
-use Rattle.worker_board.specs.declared.Parcel.{Parcel}
 use Rattle.worker_board.specs.declared.steps.Steps.{Steps}
 use Rattle.worker_board.specs.declared.view.View.{View}
 use Rattle.worker_board.specs.Moves.{Seated, Told}

@@ -1,5 +1,6 @@
 -- The word of a place, and the dispatcher's list of the place's offers, newest first.
-use Rattle.std.specs.Prelude.{◌≡◌, ◌≢◌, ℕ, ◌+◌, ◌*◌, ◌⊎◌, List, [], ◌∷◌, length, ◌==◌, cond, slice_index_or}
+use Rattle.std.specs.Prelude.{◌≡◌, ◌≢◌, ℕ, ◌+◌, ◌*◌, ◌<◌, ◌⊎◌, List, [], ◌∷◌, length, ◌==◌, cond}
+use Rattle.std.specs.Prelude.{slice_index_or}
 use Rattle.message_buffer.specs.Buffer.{bytes_of}
 use Rattle.worker_board.specs.declared.word.TheConstants.{PHASES, READY, CLAIMED, OVER}
 use Rattle.worker_board.specs.declared.Parcel.{Parcel}
@@ -29,6 +30,13 @@ word_of g phase = PHASES * g + phase
 -- the job of the generation is not finished
 abbrev pub IsUnfinished : ℕ → ℕ → Type 0
 IsUnfinished g w = (w ≡ word_of g READY) ⊎ (w ≡ word_of g CLAIMED)
+
+-- a word of a place that doesn't show this generation ready: it is that of a later phase or
+-- generation, or 0 of a place that was never offered, or that of an earlier generation
+pub data IsOtherWord (g w : ℕ) : Type 0 where
+  later : word_of g READY < w → IsOtherWord g w
+  unoffered : w ≡ 0 → IsOtherWord g w
+  earlier : (e : ℕ) (phase : Phase) → e < g → w ≡ word_of e (digit phase) → IsOtherWord g w
 
 -- the word of a place with these offers
 abbrev pub word_at : List Offer → Phase → ℕ

@@ -4,7 +4,7 @@ ghost use Rattle.worker_board.specs.Word.{job_of};
 ghost use Rattle.worker_board.specs.Rule.{HasRoom, IsAnswered};
 ghost use Rattle.worker_board.specs.Moves.{lost_at, won, worked};
 ghost use Rattle.worker_board.specs.Seats.{IsHandOf, places_of, hand_view, hand_notes, LeftAt};
-ghost use Rattle.worker_board.specs.Seats.{FoundOther, number_at, HoldsClaim};
+ghost use Rattle.worker_board.specs.Seats.{FoundOtherWord, number_at, HoldsClaim};
 
 use super::{Board, HandSeat};
 use crate::word::{CLAIMED, OVER, PHASES, READY};
@@ -13,7 +13,8 @@ use rpc_outside::Duty;
 
 impl<D: Duty> Board<D> {
     /// Claims the job of a ticket, by one exchange from ready to claimed. `None` comes exactly
-    /// where that found another word, and then the ticket is one more of the seat's lost list.
+    /// where that found another word of the place: a later one, 0, or that of an earlier offer. Then
+    /// the ticket is one more of the seat's lost list.
     pub fn claim(&self, seat: &mut HandSeat, ticket: Ticket) -> Option<Parcel>
         requires board { IsHandOf self.now seat.old }
         requires place { ticket.place < places_of self.now }
@@ -26,7 +27,7 @@ impl<D: Duty> Board<D> {
             ≡ lost_at (hand_view seat.old) ticket.place ticket.generation) }
         ensures left { IfSome result (λ _. LeftAt ticket.place ticket.generation CLAIMED
             (hand_notes seat.old) (hand_notes seat.new)) }
-        ensures found { IfNone result (FoundOther ticket.place ticket.generation
+        ensures found { IfNone result (FoundOtherWord ticket.place ticket.generation
             (hand_notes seat.old) (hand_notes seat.new)) }
     {
         let index = ticket.place() as usize;

@@ -1,7 +1,8 @@
 use Rattle.std.proofs.Common.{rules, ap, sym, refl, ◌∙◌, Some, ◌/◌}
 use Rattle.shared_pool.specs.Loans.{loan_no}
 use Rattle.shared_pool.proofs.StepLemmas.{looks, tries, releases}
-use Rattle.shared_pool.proofs.NotesLemmas.{taken_first, shut_miss, other_miss, lent_counts}
+use Rattle.worker_board.proofs.WordLemmas.{taken_first}
+use Rattle.shared_pool.proofs.NotesLemmas.{shut_miss, other_miss, lent_counts}
 use Rattle.shared_pool.proofs.pool.SharedPool.borrow.Goals as goal
 
 pub load-found-requires : goal.load-found-requires

@@ -1,4 +1,5 @@
-use Rattle.std.proofs.Common.{rules, arith, ap, ◌∙◌, Some}
+use Rattle.std.proofs.Common.{rules, arith, ℕ, ap, subst, ◌∙◌, Some}
+use Rattle.worker_board.specs.Word.{IsOtherWord}
 use Rattle.worker_board.proofs.HandLemmas.{tries, gives_back, hand_is, holds_now}
 use Rattle.worker_board.proofs.board.Board.claim.Goals as goal
 use Rattle.worker_board.proofs.WordLemmas.{taken_first}
@@ -31,7 +32,8 @@ pub returns-then-found-ready-clause-found : goal.returns-then-found-ready-clause
 returns-then-found-ready-clause-found g c = let t = c.claim-found.ensures.2 in let not = c.if-found-ready.true in
     saw_one c.args.ticket.place _ _ _ _ (ap (λ m. m.0.notes) (t.1 not)
     ∙ note_at _ _ _ _ c.place-index.ensures)
-    (λ e. not (e ∙ omega (arith, c.generation-first.ensures)))
+    (subst (λ (n : ℕ). IsOtherWord n c.claim-found.result)
+    (omega (arith, c.generation-first.ensures)) (t.2 not))
 
 pub returns-clause-left : goal.returns-clause-left
 returns-clause-left g c = let t = c.claim-found.ensures.2 in let no = c.if-found-ready.false in
