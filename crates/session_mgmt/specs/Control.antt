@@ -1,67 +1,96 @@
--- What a control packet does to the table, by the control rule, and what a session does about its
--- own request, by the retry rule.
-use Rattle.std.specs.Prelude.{◌≡◌, ℕ, Bool, Option, Some, None, List, map}
+-- What a node has of the sessions that a control packet names, and what a row of the control rule
+-- tells of it.
+use Rattle.std.specs.Prelude.{◌≡◌, ℕ, ◌+◌, ◌==◌, ◌||◌, nat_lt, nat_le, not, Bool, true, false}
+use Rattle.std.specs.Prelude.{Option, Some, None, option_map, is_some, if◌then◌else◌}
+use Rattle.std.specs.List.{find}
 use Rattle.packet_header.specs.declared.packet.ControlHeader.{ControlHeader}
-use Rattle.rpc_base.specs.declared.event.Event.{Event}
-use Rattle.rpc_base.specs.declared.fact.Fact.{Fact}
+use Rattle.packet_header.specs.declared.packet.ControlKind.TheVariants.{ConnectRequest}
+use Rattle.rpc_base.specs.declared.limits.TheConstants.{SESSION_NUMBERS}
+use Rattle.rpc_base.specs.declared.state.SessionState.{SessionState}
+use Rattle.rpc_base.specs.declared.state.SessionState.TheVariants.{Closing, Connecting}
 use Rattle.rpc_laws.specs.declared.rows.ControlRow.{ControlRow}
-use Rattle.rpc_laws.specs.declared.rows.ControlRow.TheVariants.{Accepts, Closes, Connects, Declines}
-use Rattle.rpc_laws.specs.declared.rows.ControlRow.TheVariants.{Ends, Fails, Starves}
-use Rattle.rpc_laws.specs.declared.rows.RetryRow.{RetryRow}
-use Rattle.rpc_laws.specs.declared.rows.RetryRow.TheVariants.{Asks, GivesUp, Rests}
+use Rattle.rpc_laws.specs.declared.rows.ControlRow.TheVariants.{Accepts, Closes, Connects, Ends}
+use Rattle.rpc_laws.specs.declared.rows.ControlRow.TheVariants.{Fails, Starves}
 use Rattle.rpc_laws.specs.declared.tables.Client.{Client}
 use Rattle.rpc_laws.specs.declared.tables.Lists.{Lists}
-use Rattle.rpc_laws.specs.ControlSteps.{own_request, retry_row}
-use Rattle.rpc_laws.specs.ControlTable.{control_facts, control_reply, control_row}
-use Rattle.session_mgmt.specs.Table.{sessions_after}
-use Rattle.session_mgmt.specs.declared.answers.Change.{Change}
-use Rattle.session_mgmt.specs.declared.answers.Change.TheVariants.{Accepted, Closed, Connected}
-use Rattle.session_mgmt.specs.declared.answers.Change.TheVariants.{Declined, Ended, Nothing}
-use Rattle.session_mgmt.specs.declared.answers.Change.TheVariants.{Refused, Starved}
-use Rattle.session_mgmt.specs.declared.answers.Due.{Due}
-use Rattle.session_mgmt.specs.declared.answers.Due.TheVariants.{Ask, GiveUp, Idle}
-use Rattle.session_mgmt.specs.declared.answers.Verdict.{Verdict}
+use Rattle.rpc_laws.specs.declared.tables.Server.{Server}
+use Rattle.rpc_laws.specs.ControlTable.{is_end_of, named_end}
+use Rattle.rpc_laws.specs.Groups.{shares, told_state}
+use Rattle.rpc_laws.specs.Sessions.{is_client}
+use Rattle.session_mgmt.specs.declared.control.Found.{Found}
+use Rattle.session_mgmt.specs.declared.control.OtherEnd.{OtherEnd}
+use Rattle.session_mgmt.specs.declared.control.OwnEnd.{OwnEnd}
 
-abbrev pub ended : Option ℕ → Change
-ended None = Nothing
-ended (Some t) = Ended t
+abbrev pub other_end : Server → OtherEnd
+other_end v = record { number = v.way.number; credits = v.credits }
 
--- the change of a row
-abbrev pub change_of : ControlHeader → ControlRow → Change
-change_of h Declines = Declined
-change_of h Starves = Starved
-change_of h (Accepts t) = Accepted t
-change_of h Ends = ended h.server
-change_of h (Connects t) = Connected h.client
-change_of h Fails = Refused h.client
-change_of h Closes = Closed h.client
-change_of h row = Nothing
+abbrev pub own_end : Client → OwnEnd
+own_end x = record {
+  peer = x.way.peer;
+  state = told_state x.state x.asked;
+  credits = x.limit;
+  server = x.way.other;
+}
 
-abbrev pub events : List Fact → List Event
-events facts = map (λ f. f.event) facts
+-- what a node with these lists has of what a packet of a peer names
+abbrev pub found_in : (peer : ℕ) → ControlHeader → Lists → Found
+found_in peer h s = record {
+  end = option_map other_end (find (is_end_of peer h.client) s.servers);
+  is_named = is_some (named_end peer h.client h.server s.servers);
+  own = option_map own_end (find (is_client h.client) s.clients);
+  numbers = s.server_numbers;
+  shares = shares s;
+  ring = s.room;
+}
 
--- the change, the answer and the sessions are those of a row
-pub record HandlesBy (row : ControlRow) (peer : ℕ) (h : ControlHeader) (v : Verdict)
-    (old new : Lists) : Type 0 where
-  pub change : v.change ≡ change_of h row
-  pub reply : v.reply ≡ control_reply h row
-  pub sessions : new ≡ sessions_after (events (control_facts old peer h row)) old
+-- the row where memory for a session is wanting
+abbrev pub starved : ControlRow → ControlRow
+starved (Accepts t) = Starves
+starved row = row
 
--- of that which the control rule says, where memory for a session is wanting or not
-pub record Handles (peer : ℕ) (h : ControlHeader) (v : Verdict) (old new : Lists) : Type 0 where
-  pub lacks : Bool
-  pub by : HandlesBy (control_row lacks peer h old) peer h v old new
+abbrev pub starved_if : (lacks : Bool) → ControlRow → ControlRow
+starved_if false row = row
+starved_if true row = starved row
 
--- what a session does about its own request
-abbrev pub due_by : RetryRow → ControlHeader → Due
-due_by Rests h = Idle
-due_by Asks h = Ask h
-due_by GivesUp h = GiveUp
+-- whether there are a number and room for a server session of so many credits
+abbrev pub accepts : (credits : ℕ) → Found → Bool
+accepts credits f = not (nat_lt f.ring (f.shares + credits) || nat_le SESSION_NUMBERS f.numbers)
 
-abbrev pub due_as : Option ControlHeader → RetryRow → Due
-due_as None row = Idle
-due_as (Some h) row = due_by row h
+-- a client session, where it was opened to this peer
+abbrev pub opened_to : (peer : ℕ) → Option OwnEnd → Option OwnEnd
+opened_to peer None = None
+opened_to peer (Some x) = if x.peer == peer then Some x else None
 
-abbrev pub due_of : (clock timeout : ℕ) → Option Client → Due
-due_of clock timeout None = Idle
-due_of clock timeout (Some x) = due_as (own_request x) (retry_row clock timeout x.sends x.sent_at)
+-- a row that changes a client session in this state, to which the packet names this server session;
+-- no other row changes a session
+abbrev pub HasOwnCause : ControlRow → SessionState → (server : Option ℕ) → Type 0
+HasOwnCause (Connects t) state server = (state ≡ Connecting) × (server ≡ Some t)
+HasOwnCause Fails state server = state ≡ Connecting
+HasOwnCause Closes state server = state ≡ Closing
+HasOwnCause (Accepts t) state server = ⊥
+HasOwnCause Starves state server = ⊥
+HasOwnCause Ends state server = ⊥
+HasOwnCause row state server = Unit {0}
+
+-- the client session that the packet names is there, and has the state that the row wants
+pub record ChangesOwn (row : ControlRow) (h : ControlHeader) (f : Found) : Type 0 where
+  pub own : OwnEnd
+  pub found : f.own ≡ Some own
+  pub cause : HasOwnCause row own.state h.server
+
+-- a row that makes server session t: a connect request asks for it, t is the next number, and there
+-- is room
+pub record MakesServer (t : ℕ) (h : ControlHeader) (f : Found) : Type 0 where
+  pub asked : h.kind ≡ ConnectRequest
+  pub number : t ≡ f.numbers
+  pub fits : accepts h.credits f ≡ true
+
+-- why a row makes, ends or changes a session
+abbrev pub HasCause : ControlRow → ControlHeader → Found → Type 0
+HasCause (Accepts t) h f = MakesServer t h f
+HasCause Starves h f = ⊥
+HasCause Ends h f = f.is_named ≡ true
+HasCause (Connects t) h f = ChangesOwn (Connects t) h f
+HasCause Fails h f = ChangesOwn Fails h f
+HasCause Closes h f = ChangesOwn Closes h f
+HasCause row h f = Unit {0}

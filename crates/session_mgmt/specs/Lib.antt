@@ -1,4 +1,2 @@
-pub mod ClientEnds
 pub mod Control
-pub mod Ends
-pub mod Table
+pub mod Refusals

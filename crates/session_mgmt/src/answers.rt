@@ -1,6 +1,5 @@
-//! What the calls of the table answer.
-use packet_header::ControlHeader;
-use rpc_base::{NoMemory, SessionNo, SessionState};
+//! Why a session is refused, or can't be closed.
+use rpc_base::{NoMemory, SessionState};
 use std::error::Error;
 use std::fmt;
 
@@ -49,40 +48,3 @@ impl fmt::Display for CloseError {
 }
 
 impl Error for CloseError {}
-
-/// What a control packet changed.
-#[derive(Clone, Copy, Debug, PartialEq, Eq)]
-pub enum Change {
-    Nothing,
-    /// The server session was made.
-    Accepted(SessionNo),
-    /// There was no room for a server session.
-    Declined,
-    /// There was no memory for one.
-    Starved,
-    /// The client session is connected.
-    Connected(SessionNo),
-    /// The client session failed, since its peer had no room.
-    Refused(SessionNo),
-    /// The server session ended.
-    Ended(SessionNo),
-    /// The client session is closed.
-    Closed(SessionNo),
-}
-
-/// What comes of a control packet: a change, and a packet to be sent back to its sender.
-#[derive(Clone, Copy, Debug, PartialEq, Eq)]
-pub struct Verdict {
-    pub change: Change,
-    pub reply: Option<ControlHeader>,
-}
-
-/// What a client session does about its own connect or disconnect request.
-#[derive(Clone, Copy, Debug, PartialEq, Eq)]
-pub enum Due {
-    Idle,
-    /// It is to be sent.
-    Ask(ControlHeader),
-    /// It was sent nine times, and no answer came.
-    GiveUp,
-}

@@ -1,17 +1,162 @@
-//! What a control packet does to the sessions, and the packet that answers it.
-ghost use Rattle.std.specs.Prelude.{◌≡◌, Option, Some, None};
-ghost use Rattle.std.specs.List.{find};
-ghost use Rattle.rpc_laws.specs.ControlTable.{connect_reply, disconnect_as, joined_row, over_row};
-ghost use Rattle.rpc_laws.specs.ControlTable.{refused_row};
-ghost use Rattle.rpc_laws.specs.Sessions.{is_client};
-ghost use Rattle.session_mgmt.specs.ClientEnds.{client_of, told};
-ghost use Rattle.session_mgmt.specs.Control.{Handles, HandlesBy};
+//! "The control rule" of docs/PROTOCOL.md, over what a node has of the sessions that a control
+//! packet names.
+ghost use Rattle.std.specs.Prelude.{◌≡◌, Bool, None, Some};
+ghost use Rattle.rpc_laws.specs.ControlTable.{connect_reply, connect_row, control_reply};
+ghost use Rattle.rpc_laws.specs.ControlTable.{control_row, disconnect_as, joined_row, over_row, refused_row};
+ghost use Rattle.rpc_laws.specs.declared.tables.Lists.{Lists};
+ghost use Rattle.session_mgmt.specs.Control.{HasCause, HasOwnCause, accepts, found_in};
+ghost use Rattle.session_mgmt.specs.Control.{opened_to, starved_if};
 
-use crate::answers::{Change, Verdict};
-use crate::clients::{ClientEnd, ClientState};
-use crate::table::SessionTable;
 use packet_header::{ACCEPTED, ControlHeader, ControlKind, GONE, NO_ROOM};
 use rpc_base::{Peer, SESSION_NUMBERS, SessionNo, SessionState};
+use rpc_laws::ControlRow;
+
+/// A live server session that is the other end of a client session.
+#[derive(Clone, Copy, Debug, PartialEq, Eq)]
+pub struct OtherEnd {
+    pub number: SessionNo,
+    /// In packets.
+    pub credits: u16,
+}
+
+/// A client session, as a reply to its own request finds it.
+#[derive(Clone, Copy, Debug, PartialEq, Eq)]
+pub struct OwnEnd {
+    /// To whom it was opened.
+    pub peer: Peer,
+    pub state: SessionState,
+    /// In packets.
+    pub credits: u16,
+    /// The peer's number of it, 65,535 before it is connected.
+    pub server: SessionNo,
+}
+
+/// What a node has of the sessions that a control packet of a peer names.
+#[derive(Clone, Copy, Debug, PartialEq, Eq)]
+pub struct Found {
+    /// Its live server session of the lowest number that is the other end of the peer's client
+    /// session.
+    pub end: Option<OtherEnd>,
+    /// Whether the server session that the packet names is live, and such an end.
+    pub is_named: bool,
+    /// Its own client session of the number that the packet names.
+    pub own: Option<OwnEnd>,
+    /// How many numbers of server sessions were used.
+    pub numbers: u64,
+    /// The credits of its live sessions, in packets.
+    pub shares: u32,
+    /// The length of its receive ring, in packets.
+    pub ring: u32,
+}
+
+/// Whether a connect request of so many credits is accepted where no session of its client is
+/// there: there are a number and room for one. It knows nothing of memory.
+pub fn accepts(credits: u16, found: &Found) -> bool
+    ensures { result ≡ accepts credits found.now }
+{
+    u64::from(found.shares) + u64::from(credits) <= u64::from(found.ring)
+        && found.numbers < u64::from(SESSION_NUMBERS)
+}
+
+// A connect request.
+fn connect_row(peer: Peer, head: &ControlHeader, found: &Found) -> ControlRow
+    requires { head.now.kind ≡ ControlKind.ConnectRequest }
+    ensures row { (s : Lists) → found.now ≡ found_in peer head.now s
+        → (lacks : Bool) → connect_row lacks peer head.now s ≡ starved_if lacks result }
+    ensures cause { HasCause result head.now found.now }
+{
+    match found.end {
+        Some(end) => ControlRow::Confirms {
+            server: end.number,
+            credits: end.credits,
+        },
+        None if !accepts(head.credits, found) => ControlRow::Declines,
+        None => ControlRow::Accepts {
+            server: SessionNo(found.numbers as u16),
+        },
+    }
+}
+
+// A connect reply that names server session `server`.
+fn joined_row(own: &OwnEnd, server: SessionNo, credits: u16) -> ControlRow
+    ensures row { result ≡ joined_row own.now.state own.now.credits own.now.server server credits }
+    ensures cause { HasOwnCause result own.now.state (Some server) }
+{
+    match own.state {
+        SessionState::Connecting if own.credits == credits => ControlRow::Connects { server },
+        SessionState::Connecting => ControlRow::Ignores,
+        SessionState::Connected | SessionState::Spent | SessionState::Closing
+            if own.server.0 == server.0 => { ControlRow::Ignores }
+        SessionState::Connected | SessionState::Spent | SessionState::Closing => {
+            ControlRow::Disowns
+        }
+        SessionState::Unknown
+        | SessionState::Closed
+        | SessionState::Failed
+        | SessionState::Broken => ControlRow::Disowns,
+    }
+}
+
+// One that names none: the peer has no room.
+fn refused_row(own: &OwnEnd) -> ControlRow
+    ensures row { result ≡ refused_row own.now.state }
+    ensures cause { HasOwnCause result own.now.state None }
+{
+    match own.state {
+        SessionState::Connecting => ControlRow::Fails,
+        SessionState::Unknown
+        | SessionState::Connected
+        | SessionState::Closing
+        | SessionState::Closed
+        | SessionState::Failed
+        | SessionState::Broken
+        | SessionState::Spent => ControlRow::Ignores,
+    }
+}
+
+// A disconnect reply.
+fn over_row(own: &OwnEnd, server: Option<SessionNo>) -> ControlRow
+    ensures row { result ≡ over_row own.now.state own.now.server server }
+    ensures cause { HasOwnCause result own.now.state server }
+{
+    match (own.state, server) {
+        (SessionState::Closing, Some(server)) if own.server.0 == server.0 => ControlRow::Closes,
+        _ => ControlRow::Ignores,
+    }
+}
+
+// The client session that a reply names, where it was opened to the sender.
+fn opened(peer: Peer, found: &Found) -> Option<OwnEnd>
+    ensures { result ≡ opened_to peer found.now.own }
+{
+    match found.own {
+        Some(own) if own.peer.0 == peer.0 => Some(own),
+        _ => None,
+    }
+}
+
+/// The row of the control rule for a control packet of this peer. It knows nothing of memory, and
+/// never answers `Starves`, which stands in place of `Accepts` where there is none for the session.
+pub fn control_row(peer: Peer, head: &ControlHeader, found: &Found) -> ControlRow
+    ensures row { (s : Lists) → found.now ≡ found_in peer head.now s
+        → (lacks : Bool) → control_row lacks peer head.now s ≡ starved_if lacks result }
+    ensures cause { HasCause result head.now found.now }
+{
+    match head.kind {
+        ControlKind::ConnectRequest => connect_row(peer, head, found),
+        ControlKind::DisconnectRequest if found.is_named => ControlRow::Ends,
+        ControlKind::DisconnectRequest => ControlRow::Misses,
+        ControlKind::ConnectReply => match (opened(peer, found), head.server) {
+            (Some(own), Some(server)) => joined_row(&own, server, head.credits),
+            (Some(own), None) => refused_row(&own),
+            (None, _) => ControlRow::Ignores,
+        },
+        ControlKind::DisconnectReply => match opened(peer, found) {
+            Some(own) => over_row(&own, head.server),
+            None => ControlRow::Ignores,
+        },
+    }
+}
 
 // A connect reply, which names the same client session.
 fn connect_reply(
@@ -44,223 +189,28 @@ fn disconnect_as(kind: ControlKind, head: &ControlHeader, status: u8) -> Control
     }
 }
 
-// Nothing changes, and nothing is sent.
-fn ignore() -> Verdict
-    ensures { result ≡ record { change = Change.Nothing; reply = None } }
+/// The packet that answers a control packet handled by this row, to its sender. `None` comes
+/// exactly where none does.
+pub fn control_reply(head: &ControlHeader, row: &ControlRow) -> Option<ControlHeader>
+    ensures { result ≡ control_reply head.now row.now }
 {
-    Verdict {
-        change: Change::Nothing,
-        reply: None,
-    }
-}
-
-// There is no memory for a session, and nothing is sent.
-fn starve() -> Verdict
-    ensures { result ≡ record { change = Change.Starved; reply = None } }
-{
-    Verdict {
-        change: Change::Starved,
-        reply: None,
-    }
-}
-
-// A server session that nobody uses is to be ended.
-fn disown(head: &ControlHeader) -> Verdict
-    ensures { result ≡ record {
-      change = Change.Nothing;
-      reply = Some (disconnect_as ControlKind.DisconnectRequest head.now 0);
-    } }
-{
-    Verdict {
-        change: Change::Nothing,
-        reply: Some(disconnect_as(ControlKind::DisconnectRequest, head, ACCEPTED)),
-    }
-}
-
-impl SessionTable {
-    /// A control packet of this peer is handled. Want of memory for an acceptance is `Starved`,
-    /// without a reply, and no other call for memory is there.
-    pub fn on_control(&mut self, peer: Peer, head: &ControlHeader) -> Verdict
-        ensures { Handles peer head.now result self.old self.new }
-    {
-        match head.kind {
-            ControlKind::ConnectRequest => self.on_connect_request(peer, head),
-            ControlKind::ConnectReply => self.on_connect_reply(peer, head),
-            ControlKind::DisconnectRequest => self.on_disconnect_request(peer, head),
-            ControlKind::DisconnectReply => self.on_disconnect_reply(peer, head),
+    match *row {
+        ControlRow::Ignores => None,
+        ControlRow::Confirms { server, credits } => {
+            Some(connect_reply(head, Some(server), credits, ACCEPTED))
         }
-    }
-
-    // The session is confirmed where it is there, and otherwise made where there is room.
-    fn on_connect_request(&mut self, peer: Peer, head: &ControlHeader) -> Verdict
-        requires { head.now.kind ≡ ControlKind.ConnectRequest }
-        ensures { Handles peer head.now result self.old self.new }
-    {
-        if let Some(end) = self.end_of(peer, head.client) {
-            return Verdict {
-                change: Change::Nothing,
-                reply: Some(connect_reply(head, Some(end.number), end.credits, ACCEPTED)),
-            };
+        ControlRow::Declines => Some(connect_reply(head, None, head.credits, NO_ROOM)),
+        ControlRow::Starves => None,
+        ControlRow::Accepts { server } => {
+            Some(connect_reply(head, Some(server), head.credits, ACCEPTED))
         }
-        let spent = u32::from(SESSION_NUMBERS) <= self.next_server();
-        if self.refuse(spent, head.credits).is_err() {
-            return Verdict {
-                change: Change::Declined,
-                reply: Some(connect_reply(head, None, head.credits, NO_ROOM)),
-            };
+        ControlRow::Ends => Some(disconnect_as(ControlKind::DisconnectReply, head, ACCEPTED)),
+        ControlRow::Misses => Some(disconnect_as(ControlKind::DisconnectReply, head, GONE)),
+        ControlRow::Connects { .. } => None,
+        ControlRow::Disowns => {
+            Some(disconnect_as(ControlKind::DisconnectRequest, head, ACCEPTED))
         }
-        match self.add_server(peer, head.client, head.credits) {
-            Ok(number) => Verdict {
-                change: Change::Accepted(number),
-                reply: Some(connect_reply(head, Some(number), head.credits, ACCEPTED)),
-            },
-            Err(_) => starve(),
-        }
-    }
-
-    // The session that it names ends, where it is the other end of the peer's.
-    fn on_disconnect_request(&mut self, peer: Peer, head: &ControlHeader) -> Verdict
-        requires { head.now.kind ≡ ControlKind.DisconnectRequest }
-        ensures { Handles peer head.now result self.old self.new }
-    {
-        match self.named_end(peer, head) {
-            Some(end) => {
-                self.end_server(&end);
-                Verdict {
-                    change: Change::Ended(end.number),
-                    reply: Some(disconnect_as(ControlKind::DisconnectReply, head, ACCEPTED)),
-                }
-            }
-            None => Verdict {
-                change: Change::Nothing,
-                reply: Some(disconnect_as(ControlKind::DisconnectReply, head, GONE)),
-            },
-        }
-    }
-
-    // It connects a session that is Connecting, or tells it that there is no room. A server session
-    // that nobody uses is disowned.
-    fn on_connect_reply(&mut self, peer: Peer, head: &ControlHeader) -> Verdict
-        requires { head.now.kind ≡ ControlKind.ConnectReply }
-        ensures { Handles peer head.now result self.old self.new }
-    {
-        match self.opened(peer, head.client) {
-            Some(end) => match head.server {
-                Some(server) => self.join(peer, head, &end, server),
-                None => self.fail(peer, head, &end),
-            },
-            None => ignore(),
-        }
-    }
-
-    // It closes a session that is Closing.
-    fn on_disconnect_reply(&mut self, peer: Peer, head: &ControlHeader) -> Verdict
-        requires { head.now.kind ≡ ControlKind.DisconnectReply }
-        ensures { Handles peer head.now result self.old self.new }
-    {
-        match self.opened(peer, head.client) {
-            Some(end) => match head.server {
-                Some(server) => self.finish(peer, head, &end, server),
-                None => ignore(),
-            },
-            None => ignore(),
-        }
-    }
-
-    // A connect reply names a server session.
-    fn join(
-        &mut self,
-        peer: Peer,
-        head: &ControlHeader,
-        end: &ClientEnd,
-        server: SessionNo,
-    ) -> Verdict
-        requires { find (is_client head.now.client) self.old.clients ≡ Some (client_of end.now) }
-        ensures { HandlesBy (joined_row
-            (told end.now.state) end.now.credits end.now.server server head.now.credits) peer
-            head.now result self.old self.new }
-    {
-        match end.state {
-            ClientState::Connecting => self.connected(peer, head, end, server),
-            ClientState::Connected | ClientState::Closing => {
-                if end.server.0 == server.0 {
-                    ignore()
-                } else {
-                    disown(head)
-                }
-            }
-            _ => disown(head),
-        }
-    }
-
-    // It names one while the session is Connecting.
-    fn connected(
-        &mut self,
-        peer: Peer,
-        head: &ControlHeader,
-        end: &ClientEnd,
-        server: SessionNo,
-    ) -> Verdict
-        requires found { find (is_client head.now.client) self.old.clients
-            ≡ Some (client_of end.now) }
-        requires state { end.now.state ≡ ClientState.Connecting }
-        ensures { HandlesBy (joined_row SessionState.Connecting end.now.credits end.now.server
-            server head.now.credits) peer head.now result self.old self.new }
-    {
-        if head.credits != end.credits {
-            return ignore();
-        }
-        let mut end = end.in_state(ClientState::Connected);
-        end.server = server;
-        self.change(&end);
-        Verdict {
-            change: Change::Connected(head.client),
-            reply: None,
-        }
-    }
-
-    // A connect reply names none.
-    fn fail(&mut self, peer: Peer, head: &ControlHeader, end: &ClientEnd) -> Verdict
-        requires { find (is_client head.now.client) self.old.clients ≡ Some (client_of end.now) }
-        ensures { HandlesBy (refused_row (told end.now.state)) peer head.now
-            result self.old self.new }
-    {
-        match end.state {
-            ClientState::Connecting => {
-                self.close(&end.in_state(ClientState::Failed));
-                Verdict {
-                    change: Change::Refused(head.client),
-                    reply: None,
-                }
-            }
-            _ => ignore(),
-        }
-    }
-
-    // A disconnect reply names a server session.
-    fn finish(
-        &mut self,
-        peer: Peer,
-        head: &ControlHeader,
-        end: &ClientEnd,
-        server: SessionNo,
-    ) -> Verdict
-        requires { find (is_client head.now.client) self.old.clients ≡ Some (client_of end.now) }
-        ensures { HandlesBy (over_row (told end.now.state) end.now.server
-            (Some server)) peer head.now result self.old self.new }
-    {
-        match end.state {
-            ClientState::Closing => {
-                if end.server.0 != server.0 {
-                    return ignore();
-                }
-                self.close(&end.in_state(ClientState::Closed));
-                Verdict {
-                    change: Change::Closed(head.client),
-                    reply: None,
-                }
-            }
-            _ => ignore(),
-        }
+        ControlRow::Fails => None,
+        ControlRow::Closes => None,
     }
 }

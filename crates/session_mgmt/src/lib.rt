@@ -1,13 +1,12 @@
-//! The sessions of an endpoint: the state of every client session that was opened, the live server
-//! sessions, and what control packets do to them. It knows nothing of calls, buffers or sending.
+//! The rules of session control over plain data: what a control packet does at a node, what a
+//! client session does about its own request, and why a session is refused or can't be closed. It
+//! keeps no session, and knows nothing of calls, buffers or sending.
 #![tactic(auto)]
 
 mod answers;
-mod calls;
-mod clients;
 mod control;
-mod servers;
-mod table;
+mod retry;
 
-pub use answers::{Change, CloseError, ConnectError, Due, Verdict};
-pub use table::SessionTable;
+pub use answers::{CloseError, ConnectError};
+pub use control::{Found, OtherEnd, OwnEnd, accepts, control_reply, control_row};
+pub use retry::{own_request, retry_row};
