@@ -1,17 +1,16 @@
 -- A request begins whose answer is written over the older one of its slot, at the same place.
-use Rattle.std.proofs.Common.{◌≡◌, ◌≢◌, ℕ, ◌%◌, ◌<◌, ◌≤◌, cond, eqb, Some, None, List}
+use Rattle.std.proofs.Common.{◌≡◌, ◌≢◌, ℕ, ◌+◌, ◌%◌, ◌<◌, ◌≤◌, cond, eqb, Some, None, List}
 use Rattle.std.proofs.Common.{[], ◌∷◌, ◌++◌, refl, sym, ap, ◌∙◌, subst, arith}
 use Rattle.message_buffer.specs.Buffer.{Buffer, bytes_of}
 use Rattle.message_buffer.specs.Messages.{HasSize}
-use Rattle.buffer_pool.specs.Counting.{Counts}
 use Rattle.buffer_pool.specs.Pool.{Pool, IsFull, buf_at, changed, held, refs_of}
 use Rattle.buffer_pool.specs.declared.usage.Use.TheVariants.{Empty}
-use Rattle.buffer_pool.proofs.CountingLemmas.{counts-placed, counts-uses}
 use Rattle.buffer_pool.proofs.PlacesLemmas.{unnamed-one}
 use Rattle.buffer_pool.proofs.PoolLemmas.{changed_other, held_refs}
 use Rattle.packet_header.specs.Parts.{packet_count, IsMessage}
 use Rattle.packet_header.specs.declared.packet.MessageHeader.{MessageHeader}
 use Rattle.packet_header.proofs.PartsLemmas.{packet_count_above}
+use Rattle.packet_rings.specs.Mentions.{mentions}
 use Rattle.packet_rings.specs.Values.{EntryValue}
 use Rattle.rpc_base.specs.Tables.{without_first}
 use Rattle.rpc_base.proofs.ChangedLemmas.{sum-without}
@@ -38,6 +37,7 @@ use Rattle.server_core.proofs.PlaceLemmas.{IsBeside, answer-apart, put-behind, t
 use Rattle.server_core.proofs.PoolLemmas.{ChangesOne, keeps-off, map-off}
 use Rattle.server_core.proofs.ReplyLemmas.{kept-answer}
 use Rattle.server_core.proofs.SlotLemmas.{begun-session}
+use Rattle.server_core.proofs.StaysLemmas.{placed-behind}
 use Rattle.server_core.proofs.SpareLemmas.{begun-places, spare-held}
 
 -- it is in turn
@@ -131,11 +131,9 @@ module _ (pool : Pool) (s : Session) (head : MessageHeader) (size p : ℕ)
             ap ask_places (answered-ask reuse.older.state reuse.answer reuse.answer_is),
           )
 
-      pub again-counts : (es : List EntryValue) (e : EntryValue) → e.place ≡ Some p → Counts pool es
-          → Counts after (es ++ e ∷ [])
-      again-counts es e place counts =
-          counts-placed (changed p b pool) es (counts-uses pool es counts (changed p b pool) refl) p e
-          place again-full
+      pub again-counts : (es : List EntryValue) (e : EntryValue) (q : ℕ) → e.place ≡ Some p
+          → refs_of after q + mentions q es ≡ refs_of pool q + mentions q (es ++ e ∷ [])
+      again-counts es e q place = placed-behind (changed p b pool) e es q p place again-full
 
       -- the answer is the buffer's message
       module _ (there : buf_at after p ≡ Some b) (fits : HasSize size (Some b)) where

@@ -47,11 +47,6 @@ module _ {A : Type 0} (p : A → Bool) where
   none-cons y ys true t ih e = cc
   none-cons y ys false t ih e = ih e
 
-  some-cons : (x y : A) (ys : List A) (b : Bool) → (find p ys ≡ Some x → list_any p ys ≡ true)
-      → cond b (Some y) (find p ys) ≡ Some x → (b || list_any p ys) ≡ true
-  some-cons x y ys true ih e = refl
-  some-cons x y ys false ih e = ih e
-
   rest-cons : (t : A → Bool) (y : A) (ys : List A) (b : Bool) → p y ≡ false → list_any p ys ≡ false
       → list_any p (without_first t ys) ≡ false
       → list_any p (cond b ys (y ∷ without_first t ys)) ≡ false

@@ -269,14 +269,6 @@ module _ (n : ℕ) (q : SlotRequest) (pool : Pool) (old new : List EntryValue)
     pub flush-others : LeavesOthers slots slots pool (released_at e.place pool)
     flush-others = λ p none used. let same = same-cases p none e.place refl in (none, same.use_is, same.buf_is)
 
--- what leaves all other places, and then does so again
-pub leaves-then : (s t : List SlotRequest) (a b c : Pool) → LeavesOthers s s a b
-    → LeavesOthers s t b c → LeavesOthers s t a c
-leaves-then s t a b c first second = λ p none used.
-    let one = first p none used in
-    let two = second p none (ap is_empty one.1 ∙ used) in
-    (two.0, two.1 ∙ one.1, two.2 ∙ one.2)
-
 -- releasing changes no buffer
 pub bufs-released : (pool : Pool) (place : Option ℕ) → (released_at place pool).bufs ≡ pool.bufs
 bufs-released pool None = refl

@@ -2,6 +2,7 @@ mod AgainLemmas
 mod BeginLemmas
 mod ChangedLemmas
 mod GivenLemmas
+mod HandlingLemmas
 mod HoldBeginLemmas
 mod HoldStepLemmas
 mod LackLemmas
@@ -14,13 +15,13 @@ mod RecountLemmas
 mod ReplyLemmas
 mod RowLemmas
 mod SlotLemmas
+mod StaysLemmas
 mod TakeLemmas
 pub mod AskedLemmas
 pub mod CountLemmas
 pub mod FlushLemmas
 pub mod FoundLemmas
 pub mod HoldLemmas
-pub mod IdleLemmas
 pub mod NoteLemmas
 pub mod QueuedLemmas
 pub mod SpareLemmas

@@ -2,6 +2,7 @@ pub mod Asked
 pub mod Counting
 pub mod Finishing
 pub mod Flushing
+pub mod Handling
 pub mod Keeping
 pub mod KeepsPool
 pub mod Noting

@@ -4,7 +4,7 @@ ghost use Rattle.buffer_pool.specs.Pool.{Pool};
 ghost use Rattle.server_core.specs.Counting.{CountsQueued};
 ghost use Rattle.server_core.specs.Flushing.{HoldsAll};
 ghost use Rattle.server_core.specs.KeepsPool.{KeepsPool};
-ghost use Rattle.server_core.specs.Session.{IsSession, new_session, owner_in};
+ghost use Rattle.server_core.specs.Session.{IsSession, new_session, newest, owner_in};
 ghost use Rattle.server_core.specs.Shown.{paired, shown};
 
 mod again;
@@ -19,8 +19,9 @@ mod request;
 mod serving;
 mod taking;
 
+use crate::slot::SlotRequest;
 use crate::slots::Slots;
-use rpc_base::{MOST_CREDITS, Owner, Peer, SESSION_NUMBERS, SessionNo};
+use rpc_base::{MOST_CREDITS, Owner, Peer, RequestNo, SESSION_NUMBERS, SessionNo};
 use std::marker::Model;
 
 /// The newest requests of one server session. Contracts see its numbers, its peer, its credits and
@@ -117,6 +118,13 @@ impl ServerSession {
             return None;
         };
         Some(request.owner(self.number))
+    }
+
+    // The newest request of the slot of this number, if one began there.
+    fn newest(&self, request: RequestNo) -> Option<SlotRequest>
+        ensures { result ≡ newest request self.now }
+    {
+        self.slots.of_slot(request.slot())
     }
 
     /// What always holds of a session holds of this one.

@@ -3,15 +3,11 @@ ghost use Rattle.std.specs.Prelude.{◌≡◌, ◌≢◌, ◌<◌, ℕ, ◌++◌
 ghost use Rattle.message_buffer.specs.Messages.{message_in};
 ghost use Rattle.packet_header.specs.Parts.{packet_count, IsMessage};
 ghost use Rattle.buffer_pool.specs.Pool.{IsFull, buf_at, held, refs_of};
-ghost use Rattle.packet_rings.specs.Values.{EntryValue};
 ghost use Rattle.rpc_laws.specs.Requests.{given};
 ghost use Rattle.rpc_outside.specs.Served.{Served, StandsForSome};
 ghost use Rattle.rpc_outside.specs.declared.service.Mode.{Mode};
 ghost use Rattle.rpc_outside.specs.declared.service.Mode.TheVariants.{Inline, Unserved};
-ghost use Rattle.server_core.specs.Counting.{CountsQueued};
-ghost use Rattle.server_core.specs.Flushing.{HoldsAll, without_newest};
-ghost use Rattle.server_core.specs.Keeping.{CountsWith, HoldsWith};
-ghost use Rattle.server_core.specs.KeepsPool.{KeepsPool, KeepsSpare, LeavesOthers};
+ghost use Rattle.server_core.specs.KeepsPool.{KeepsPool};
 ghost use Rattle.server_core.specs.Noting.{IsServed};
 ghost use Rattle.server_core.specs.Replies.{entry_at};
 ghost use Rattle.server_core.specs.Reusing.{HasRoom, IsReusable, IsRewritten};
@@ -19,6 +15,7 @@ ghost use Rattle.server_core.specs.Serving.{IsUnheld, begun, first_answered, wit
 ghost use Rattle.server_core.specs.Session.{IsSession, newest};
 ghost use Rattle.server_core.specs.Shown.{shown};
 ghost use Rattle.server_core.specs.Steps.{AreServed, HasNoBytes, IsReply, begun_with, first_shown};
+ghost use Rattle.server_core.specs.Keeping.{BeginsSound};
 
 use super::ServerSession;
 use crate::running::serve;
@@ -85,18 +82,7 @@ impl ServerSession {
             (shown pool.new self.new) }
         ensures reply { IsReply head.now.request 0 self.new pool.new result }
         ensures no_bytes { HasNoBytes (newest head.now.request self.new) }
-        ensures served { (mode_of : ℕ → Mode) → mode_of head.now.req_type ≢ Unserved →
-            AreServed mode_of self.old.slots → AreServed mode_of self.new.slots }
-        ensures spare { KeepsSpare self.old.slots self.new.slots pool.old pool.new }
-        ensures others { LeavesOthers self.old.slots self.new.slots pool.old pool.new }
-        ensures holds { HoldsWith (result ∷ []) (without_newest head.now.request self.old) self.new
-            pool.old pool.new }
-        ensures queued { (entries : List EntryValue) →
-            HoldsAll (without_newest head.now.request self.old) pool.old entries →
-            CountsQueued (without_newest head.now.request self.old) entries →
-            CountsQueued self.new (entries ++ result ∷ []) }
-        ensures counts { CountsWith (result ∷ []) pool.old pool.new }
-        ensures keeps_pool { KeepsPool pool.new self.new.slots }
+        ensures begins { BeginsSound head.now (result ∷ []) self.old self.new pool.old pool.new }
     {
         serve_at(pool, service, place, size, head.req_type, body);
         self.note_ran(head, body, pool.get(place).bytes(), who, rec);

@@ -3,14 +3,14 @@ ghost use Rattle.std.specs.Prelude.{◌≡◌, IfSome};
 ghost use Rattle.buffer_pool.specs.Pool.{spare_of};
 ghost use Rattle.packet_rings.specs.Rings.{ring};
 ghost use Rattle.rpc_outside.specs.Recording.{Grew};
-ghost use Rattle.server_core.specs.Counting.{CountsQueued, IsCounted};
-ghost use Rattle.server_core.specs.Flushing.{HoldsAll, HoldsReplies, flushed_facts, without_newest};
+ghost use Rattle.server_core.specs.Counting.{IsCounted};
+ghost use Rattle.server_core.specs.Flushing.{HoldsReplies, flushed_facts, without_newest};
 ghost use Rattle.server_core.specs.Flushing.{without_replies};
-ghost use Rattle.server_core.specs.KeepsPool.{KeepsPool, LeavesOthers};
+ghost use Rattle.server_core.specs.KeepsPool.{KeepsPool};
 ghost use Rattle.server_core.specs.Serving.{IsUnheld};
 ghost use Rattle.server_core.specs.Session.{newest};
 ghost use Rattle.server_core.specs.Shown.{shown};
-ghost use Rattle.server_core.specs.Keeping.{CountsBeside};
+ghost use Rattle.server_core.specs.Keeping.{KeepsPlaces, KeepsReplies};
 
 use super::ServerSession;
 use buffer_pool::BufferPool;
@@ -43,13 +43,9 @@ impl ServerSession {
         ensures shown { shown pool.new self.now ≡ shown pool.old self.now }
         ensures bufs { pool.new.bufs ≡ pool.old.bufs }
         ensures spare { spare_of pool.new ≡ spare_of pool.old }
-        ensures others { LeavesOthers self.now.slots self.now.slots pool.old pool.new }
-        ensures holds { HoldsAll self.now pool.old tx.old.items →
-            HoldsAll (without_newest request self.now) pool.new tx.new.items }
-        ensures queued { CountsQueued self.now tx.old.items →
-            CountsQueued (without_newest request self.now) tx.new.items }
-        ensures counts { CountsBeside tx.old.items tx.new.items pool.old pool.new }
-        ensures keeps_pool { KeepsPool pool.new self.now.slots }
+        ensures places { KeepsPlaces self.now self.now pool.old pool.new }
+        ensures replies { KeepsReplies tx.old.items tx.new.items self.now
+            (without_newest request self.now) pool.old pool.new }
     {
         let Some(older) = self.slots.of_slot(request.slot()) else {
             return;

@@ -10,10 +10,8 @@ ghost use Rattle.rpc_outside.specs.declared.service.Mode.{Mode};
 ghost use Rattle.rpc_outside.specs.declared.service.Mode.TheVariants.{Unserved};
 ghost use Rattle.server_core.specs.Counting.{CountsQueued};
 ghost use Rattle.server_core.specs.Finishing.{IsFinished, IsLeft};
-ghost use Rattle.server_core.specs.Flushing.{HoldsAll, without_newest};
-ghost use Rattle.server_core.specs.Keeping.{CountsWith, HoldsWith, QueuedWith, StillCounts};
-ghost use Rattle.server_core.specs.Keeping.{StillHolds, StillQueued};
-ghost use Rattle.server_core.specs.KeepsPool.{IsAsked, KeepsPool, KeepsSpare, LeavesOthers};
+ghost use Rattle.server_core.specs.Flushing.{HoldsAll};
+ghost use Rattle.server_core.specs.KeepsPool.{IsAsked, KeepsPool};
 ghost use Rattle.server_core.specs.Serving.{IsUnheld, first_given, last_given};
 ghost use Rattle.server_core.specs.declared.slot.SlotState.TheVariants.{Taking, Working};
 ghost use Rattle.server_core.specs.Session.{IsInTurn, IsSession, newest};
@@ -22,6 +20,7 @@ ghost use Rattle.server_core.specs.Steps.{AreServed, HasNoBytes, IsReply, begun_
 ghost use Rattle.server_core.specs.Steps.{gone_on_as, grown};
 ghost use Rattle.packet_header.specs.Parts.{IsMessage};
 ghost use Rattle.buffer_pool.specs.Counting.{Counts};
+ghost use Rattle.server_core.specs.Keeping.{BeginsSound, KeepsPlaces, StaysSound};
 
 use super::ServerSession;
 use super::taking::{give_up, put_message};
@@ -50,8 +49,7 @@ impl ServerSession {
         ensures sound { IsSession self.old }
         ensures all_served { (mode_of : ℕ → Mode) → AreServed mode_of self.old.slots →
             AreServed mode_of self.new.slots }
-        ensures spare { KeepsSpare self.old.slots self.new.slots pool.old pool.new }
-        ensures others { LeavesOthers self.old.slots self.new.slots pool.old pool.new }
+        ensures places { KeepsPlaces self.old self.new pool.old pool.new }
         ensures holds { (entries : List EntryValue) → HoldsAll self.old pool.old entries →
             IfSome result (λ e. HoldsAll self.new pool.new (entries ++ e ∷ [])) }
         ensures still_holds { (entries : List EntryValue) → HoldsAll self.old pool.old entries →
@@ -60,7 +58,6 @@ impl ServerSession {
             IfSome result (λ e. CountsQueued self.new (entries ++ e ∷ [])) }
         ensures counts { (entries : List EntryValue) → Counts pool.old entries →
             IfSome result (λ e. Counts pool.new (entries ++ e ∷ [])) }
-        ensures keeps_pool { KeepsPool pool.new self.new.slots }
     {
         let Some(request) = self.slots.of_slot(parcel.request.slot()) else {
             return None;
@@ -91,14 +88,10 @@ impl ServerSession {
         ensures last { result.number + 1 ≡ packet_count request.size }
         ensures reply { IsReply request.number result.number self.new pool.new result }
         ensures no_bytes { HasNoBytes (newest request.number self.new) }
-        ensures served { (mode_of : ℕ → Mode) → AreServed mode_of self.old.slots →
-            AreServed mode_of self.new.slots }
-        ensures spare { KeepsSpare self.old.slots self.new.slots pool.old pool.new }
-        ensures others { LeavesOthers self.old.slots self.new.slots pool.old pool.new }
-        ensures holds { HoldsWith (result ∷ []) self.old self.new pool.old pool.new }
-        ensures queued { QueuedWith (result ∷ []) self.old self.new }
-        ensures counts { CountsWith (result ∷ []) pool.old pool.new }
-        ensures keeps_pool { KeepsPool pool.new self.new.slots }
+        ensures stays { StaysSound (result ∷ []) self.old self.new pool.old pool.new }
+        // Whatever the entries are.
+        ensures queued { (entries : List EntryValue) → CountsQueued self.old entries →
+            CountsQueued self.new (entries ++ result ∷ []) }
     {
         let answer = put_message(pool, answer);
         pool.hold(answer.place);
@@ -124,19 +117,8 @@ impl ServerSession {
         ensures newest { newest head.now.request self.new ≡ Some (first_given head.now) }
         ensures number { self.new.number ≡ self.old.number }
         ensures sound { IsSession self.new }
-        ensures served { (mode_of : ℕ → Mode) → mode_of head.now.req_type ≢ Unserved →
-            AreServed mode_of self.old.slots → AreServed mode_of self.new.slots }
         ensures more { spare_of pool.old ≤ spare_of pool.new }
-        ensures spare { KeepsSpare self.old.slots self.new.slots pool.old pool.new }
-        ensures others { LeavesOthers self.old.slots self.new.slots pool.old pool.new }
-        ensures holds { StillHolds (without_newest head.now.request self.old) self.new pool.old
-            pool.new }
-        ensures queued { (entries : List EntryValue) →
-            HoldsAll (without_newest head.now.request self.old) pool.old entries →
-            CountsQueued (without_newest head.now.request self.old) entries →
-            CountsQueued self.new entries }
-        ensures counts { StillCounts pool.old pool.new }
-        ensures keeps_pool { KeepsPool pool.new self.new.slots }
+        ensures begins { BeginsSound head.now [] self.old self.new pool.old pool.new }
     {
         give_up(&mut self.slots, pool, head.request.slot());
         self.slots.push(SlotRequest::given(head));
@@ -162,15 +144,8 @@ impl ServerSession {
         ensures newest { newest request.number self.new ≡ Some (last_given request) }
         ensures number { self.new.number ≡ self.old.number }
         ensures sound { IsSession self.new }
-        ensures served { (mode_of : ℕ → Mode) → AreServed mode_of self.old.slots →
-            AreServed mode_of self.new.slots }
         ensures more { spare_of pool.new ≡ spare_of pool.old + 1 }
-        ensures spare { KeepsSpare self.old.slots self.new.slots pool.old pool.new }
-        ensures others { LeavesOthers self.old.slots self.new.slots pool.old pool.new }
-        ensures holds { StillHolds self.old self.new pool.old pool.new }
-        ensures queued { StillQueued self.old self.new }
-        ensures counts { StillCounts pool.old pool.new }
-        ensures keeps_pool { KeepsPool pool.new self.new.slots }
+        ensures stays { StaysSound [] self.old self.new pool.old pool.new }
     {
         let Ok(ask) = pool.take(place) else {
             unreachable!()

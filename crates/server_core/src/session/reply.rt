@@ -1,19 +1,9 @@
 //! The replies to the packets of a request: what they are, and what becomes of their references.
-ghost use Rattle.std.specs.Prelude.{◌≡◌, ℕ, Bool, List};
 ghost use Rattle.packet_header.specs.Header.{AreBytes};
-ghost use Rattle.packet_rings.specs.Values.{EntryValue};
-ghost use Rattle.rpc_base.specs.Taking.{TakenOut};
-ghost use Rattle.server_core.specs.Counting.{CountsQueued, left_at};
-ghost use Rattle.server_core.specs.Flushing.{HoldsAll};
-ghost use Rattle.server_core.specs.Keeping.{LeftCounts, LeftHolds, LeftQueued};
-ghost use Rattle.server_core.specs.KeepsPool.{KeepsPool};
-ghost use Rattle.server_core.specs.Replies.{IsHeld, IsReplyTo, packet_of, released_at};
-ghost use Rattle.server_core.specs.Replies.{request_of};
-ghost use Rattle.server_core.specs.Steps.{AreServed};
-ghost use Rattle.rpc_outside.specs.declared.service.Mode.{Mode};
-ghost use Rattle.server_core.specs.Shown.{shown};
 ghost use Rattle.rpc_laws.specs.Packets.{IsSpelled};
-ghost use Rattle.buffer_pool.specs.Counting.{Counts};
+ghost use Rattle.server_core.specs.Keeping.{LeavesReply};
+ghost use Rattle.server_core.specs.KeepsPool.{KeepsPool};
+ghost use Rattle.server_core.specs.Replies.{IsHeld, IsReplyTo, packet_of, request_of};
 
 use super::ServerSession;
 use buffer_pool::BufferPool;
@@ -52,17 +42,7 @@ impl ServerSession {
     pub fn sent(&mut self, pool: &mut BufferPool, entry: &Entry)
         requires keeps_pool { KeepsPool pool.old self.old.slots }
         requires held { IsHeld pool.old entry.now.place }
-        ensures session { self.new ≡ left_at entry.now self.old }
-        ensures shown { shown pool.new self.new ≡ shown pool.old self.old }
-        ensures pool { pool.new ≡ released_at entry.now.place pool.old }
-        // The entries without this one hold each reply of the session that is neither sent nor
-        // flushed, as before.
-        ensures holds { LeftHolds entry.now self.old self.new pool.old pool.new }
-        ensures queued { LeftQueued entry.now self.old self.new }
-        ensures served { (mode_of : ℕ → Mode) → AreServed mode_of self.old.slots →
-            AreServed mode_of self.new.slots }
-        ensures counts { LeftCounts entry.now pool.old pool.new }
-        ensures keeps_pool { KeepsPool pool.new self.new.slots }
+        ensures { LeavesReply entry.now self.old self.new pool.old pool.new }
     {
         pool.release_at(entry.place);
         self.slots.leave(self.number, entry.owner);
@@ -72,19 +52,8 @@ impl ServerSession {
     pub fn flushed(&mut self, pool: &mut BufferPool, entry: &Entry)
         requires keeps_pool { KeepsPool pool.old self.old.slots }
         requires held { IsHeld pool.old entry.now.place }
-        ensures session { self.new ≡ left_at entry.now self.old }
-        ensures shown { shown pool.new self.new ≡ shown pool.old self.old }
-        ensures pool { pool.new ≡ released_at entry.now.place pool.old }
-        // The entries without this one hold each reply of the session that is neither sent nor
-        // flushed, as before.
-        ensures holds { LeftHolds entry.now self.old self.new pool.old pool.new }
-        ensures queued { LeftQueued entry.now self.old self.new }
-        ensures served { (mode_of : ℕ → Mode) → AreServed mode_of self.old.slots →
-            AreServed mode_of self.new.slots }
-        ensures counts { LeftCounts entry.now pool.old pool.new }
-        ensures keeps_pool { KeepsPool pool.new self.new.slots }
+        ensures { LeavesReply entry.now self.old self.new pool.old pool.new }
     {
-        pool.release_at(entry.place);
-        self.slots.leave(self.number, entry.owner);
+        self.sent(pool, entry);
     }
 }

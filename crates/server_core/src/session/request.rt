@@ -1,29 +1,20 @@
 //! The server table: what a Request or RFR does to the session that it is for.
-ghost use Rattle.rpc_outside.specs.Served.{StandsForSome};
-ghost use Rattle.rpc_outside.specs.declared.service.Mode.{Mode};
-ghost use Rattle.std.specs.Prelude.{◌≡◌, ℕ, false, true, ◌<◌, List, [], ◌∷◌, ◌++◌, IfSome, Some};
-ghost use Rattle.std.specs.Prelude.{length};
-ghost use Rattle.packet_rings.specs.Rings.{ring};
-ghost use Rattle.packet_rings.specs.Values.{EntryValue};
-ghost use Rattle.buffer_pool.specs.Pool.{Pool, spare_of};
-ghost use Rattle.rpc_base.specs.declared.state.DropReason.TheVariants.{NoMemory};
-ghost use Rattle.rpc_laws.specs.declared.rows.ServerRow.TheVariants.{Begins, Drops};
-ghost use Rattle.server_core.specs.declared.step.Step.TheVariants.{Dropped};
+ghost use Rattle.std.specs.Prelude.{◌≡◌, ℕ, false, [], ◌∷◌, IfSome, Some, length};
+ghost use Rattle.buffer_pool.specs.Pool.{Pool};
 ghost use Rattle.rpc_laws.specs.Service.{is_handled};
 ghost use Rattle.rpc_laws.specs.ServerTable.{new_row, server_row};
-ghost use Rattle.server_core.specs.Counting.{CountsQueued, IsCounted, repeated};
-ghost use Rattle.server_core.specs.Flushing.{HoldsAll, HoldsReplies, replies_of, ring_after};
-ghost use Rattle.server_core.specs.Keeping.{CountsBehind, CountsWith, HoldsWith, QueuedWith};
-ghost use Rattle.server_core.specs.KeepsPool.{KeepsPool, KeepsSpare, LeavesOthers};
-ghost use Rattle.server_core.specs.Noting.{Handled, IsByRule, early_facts, packet_facts};
-ghost use Rattle.server_core.specs.Rows.{row_of};
+ghost use Rattle.rpc_outside.specs.Served.{StandsForSome};
+ghost use Rattle.rpc_outside.specs.declared.service.Mode.{Mode};
+ghost use Rattle.server_core.specs.Counting.{repeated};
+ghost use Rattle.server_core.specs.Handling.{Handles, IsReady};
+ghost use Rattle.server_core.specs.Keeping.{StaysSound};
+ghost use Rattle.server_core.specs.KeepsPool.{KeepsPool};
+ghost use Rattle.server_core.specs.Noting.{early_facts, packet_facts};
 ghost use Rattle.server_core.specs.Replies.{CanHold};
+ghost use Rattle.server_core.specs.Rows.{row_of};
 ghost use Rattle.server_core.specs.Session.{IsSession, newest};
-ghost use Rattle.server_core.specs.Steps.{AreServed, HasNoBytes, IfGiven, IfRan, IfReply, IsAsking};
-ghost use Rattle.server_core.specs.Steps.{IsParcel, IsReply, IsStepOf, IsTakenBefore, LeavesPool};
-ghost use Rattle.server_core.specs.Steps.{LeavesSession, UnlessRan, asked_with};
 ghost use Rattle.server_core.specs.Shown.{shown};
-ghost use Rattle.buffer_pool.specs.Counting.{Counts};
+ghost use Rattle.server_core.specs.Steps.{AreServed, IsAsking, IsReply, IsTakenBefore};
 
 use super::ServerSession;
 use crate::slot::{SlotRequest, makes_job};
@@ -55,76 +46,15 @@ impl ServerSession {
         who: Who,
         rec: &mut R,
     ) -> Step
-        requires keeps_pool { KeepsPool pool.old self.old.slots }
-        requires spare { 0 < spare_of pool.old }
+        requires ready { IsReady (V.mode_of head.now.req_type) jobs_full head.now self.old pool.old
+            tx.old.items }
         requires asking { IsAsking head.now (length body.now) }
-        requires queued { let mode = V.mode_of head.now.req_type in
-            let row = row_of mode jobs_full head.now self.old in
-            row ≡ Begins → IfSome (newest head.now.request self.old)
-            (HoldsReplies self.old.number pool.old tx.old.items) }
-        requires counted { let mode = V.mode_of head.now.req_type in
-            let row = row_of mode jobs_full head.now self.old in
-            row ≡ Begins → IfSome (newest head.now.request self.old)
-            (IsCounted self.old.number tx.old.items) }
-        requires can_hold { IfSome (newest head.now.request self.old) (CanHold pool.old) }
         // All packets of a session are handled by services of one type.
         requires all_served { AreServed V.mode_of self.old.slots }
         requires founded { StandsForSome (V.stands service.old) }
-        ensures row { let mode = V.mode_of head.now.req_type in
-            let row = row_of mode jobs_full head.now self.old in
-            IsStepOf mode head.now row result }
-        // As the server rule says of what is shown.
-        ensures rule { let mode = V.mode_of head.now.req_type in
-            let row = row_of mode jobs_full head.now self.old in
-            server_row mode jobs_full false (Some (shown pool.old self.old)) self.old.peer head.now
-            ≡ row }
-        // And where memory was wanting, as it says then.
-        ensures lacks { result ≡ Dropped NoMemory →
-            server_row (V.mode_of head.now.req_type) jobs_full true (Some (shown pool.old self.old))
-            self.old.peer head.now ≡ Drops NoMemory }
-        ensures ring { let mode = V.mode_of head.now.req_type in
-            let row = row_of mode jobs_full head.now self.old in
-            tx.new ≡ ring (ring_after row result self.old.number (newest head.now.request self.old)
-            tx.old.items) tx.old.size }
-        // As the facts Took, Ran and Given of the definitions, which are noted. The answer of a
-        // handler that ran is that of each list of requests that the service stands for.
-        ensures handled { let mode = V.mode_of head.now.req_type in
-            let row = row_of mode jobs_full head.now self.old in
-            Handled R.log rec.old rec.new
-            (λ answer. packet_facts who self.old tx.old.items row head.now
-            (asked_with head.now body.now (shown pool.old self.old)) answer result) V.answer
-            (V.stands service.old) (V.stands service.new) head.now body.now
-            (shown pool.old self.old) (shown pool.new self.new) result }
-        // These are the facts of the server rule.
-        ensures facts { let mode = V.mode_of head.now.req_type in
-            let row = row_of mode jobs_full head.now self.old in
-            let before = shown pool.old self.old in
-            head.now.session ≡ self.old.number →
-            IsByRule mode self.old tx.old.items row head.now body.now before result }
-        ensures reply { IfReply result
-            (IsReply head.now.request head.now.number self.new pool.new) }
-        ensures give { IfGiven result
-            (IsParcel V.answer (V.stands service.old) head.now body.now (shown pool.old self.old)) }
-        // A request whose handler ran has given its bytes up.
-        ensures no_bytes { IfRan result (HasNoBytes (newest head.now.request self.new)) }
-        ensures service { UnlessRan result (service.new ≡ service.old) }
-        ensures session { LeavesSession result head.now.request self.old self.new }
-        ensures pool { LeavesPool result pool.old pool.new }
-        ensures all_served { AreServed V.mode_of self.new.slots }
-        ensures spare { KeepsSpare self.old.slots self.new.slots pool.old pool.new }
-        ensures others { LeavesOthers self.old.slots self.new.slots pool.old pool.new }
-        // The ring with the reply holds each reply of the session that is neither sent nor flushed,
-        // as before.
-        ensures holds { HoldsAll self.old pool.old tx.old.items →
-            HoldsAll self.new pool.new (tx.new.items ++ replies_of result) }
-        // Each request counts the entries among them that are its own, as before.
-        ensures queued { HoldsAll self.old pool.old tx.old.items →
-            CountsQueued self.old tx.old.items →
-            CountsQueued self.new (tx.new.items ++ replies_of result) }
-        // The places have as many references as these entries and any others name them, as before.
-        ensures counts { CountsBehind (replies_of result) tx.old.items tx.new.items pool.old
-            pool.new }
-        ensures keeps_pool { KeepsPool pool.new self.new.slots }
+        ensures { Handles V.Service R.log packet_facts jobs_full who head.now body.now result
+            self.old self.new pool.old pool.new tx.old tx.new service.old service.new rec.old
+            rec.new }
     {
         let step = self.step(alloc, pool, tx, service, head, body, jobs_full, &who, rec);
         self.note(head, &step, &who, rec);
@@ -144,59 +74,14 @@ impl ServerSession {
         who: &Who,
         rec: &mut R,
     ) -> Step
-        requires keeps_pool { KeepsPool pool.old self.old.slots }
-        requires spare { 0 < spare_of pool.old }
+        requires ready { IsReady (V.mode_of head.now.req_type) jobs_full head.now self.old pool.old
+            tx.old.items }
         requires asking { IsAsking head.now (length body.now) }
-        requires queued { let mode = V.mode_of head.now.req_type in
-            let row = row_of mode jobs_full head.now self.old in
-            row ≡ Begins → IfSome (newest head.now.request self.old)
-            (HoldsReplies self.old.number pool.old tx.old.items) }
-        requires counted { let mode = V.mode_of head.now.req_type in
-            let row = row_of mode jobs_full head.now self.old in
-            row ≡ Begins → IfSome (newest head.now.request self.old)
-            (IsCounted self.old.number tx.old.items) }
-        requires can_hold { IfSome (newest head.now.request self.old) (CanHold pool.old) }
         requires all_served { AreServed V.mode_of self.old.slots }
         requires founded { StandsForSome (V.stands service.old) }
-        ensures row { let mode = V.mode_of head.now.req_type in
-            let row = row_of mode jobs_full head.now self.old in
-            IsStepOf mode head.now row result }
-        ensures rule { let mode = V.mode_of head.now.req_type in
-            let row = row_of mode jobs_full head.now self.old in
-            server_row mode jobs_full false (Some (shown pool.old self.old)) self.old.peer head.now
-            ≡ row }
-        ensures sound { IsSession self.old }
-        ensures ring { let mode = V.mode_of head.now.req_type in
-            let row = row_of mode jobs_full head.now self.old in
-            tx.new ≡ ring (ring_after row result self.old.number (newest head.now.request self.old)
-            tx.old.items) tx.old.size }
-        ensures handled { let mode = V.mode_of head.now.req_type in
-            let row = row_of mode jobs_full head.now self.old in
-            Handled R.log rec.old rec.new
-            (λ answer. early_facts who.now self.old tx.old.items row head.now
-            (asked_with head.now body.now (shown pool.old self.old)) answer result) V.answer
-            (V.stands service.old) (V.stands service.new) head.now body.now
-            (shown pool.old self.old) (shown pool.new self.new) result }
-        ensures reply { IfReply result
-            (IsReply head.now.request head.now.number self.new pool.new) }
-        ensures give { IfGiven result
-            (IsParcel V.answer (V.stands service.old) head.now body.now (shown pool.old self.old)) }
-        // A request whose handler ran has given its bytes up.
-        ensures no_bytes { IfRan result (HasNoBytes (newest head.now.request self.new)) }
-        ensures service { UnlessRan result (service.new ≡ service.old) }
-        ensures session { LeavesSession result head.now.request self.old self.new }
-        ensures pool { LeavesPool result pool.old pool.new }
-        ensures all_served { AreServed V.mode_of self.new.slots }
-        ensures spare { KeepsSpare self.old.slots self.new.slots pool.old pool.new }
-        ensures others { LeavesOthers self.old.slots self.new.slots pool.old pool.new }
-        ensures holds { HoldsAll self.old pool.old tx.old.items →
-            HoldsAll self.new pool.new (tx.new.items ++ replies_of result) }
-        ensures queued { HoldsAll self.old pool.old tx.old.items →
-            CountsQueued self.old tx.old.items →
-            CountsQueued self.new (tx.new.items ++ replies_of result) }
-        ensures counts { CountsBehind (replies_of result) tx.old.items tx.new.items pool.old
-            pool.new }
-        ensures keeps_pool { KeepsPool pool.new self.new.slots }
+        ensures { Handles V.Service R.log early_facts jobs_full who.now head.now body.now result
+            self.old self.new pool.old pool.new tx.old tx.new service.old service.new rec.old
+            rec.new }
     {
         let mode = service.mode(head.req_type);
         match self.row(head, mode, jobs_full) {
@@ -218,16 +103,9 @@ impl ServerSession {
         ensures session { self.new ≡ repeated head.now.request self.old }
         ensures reply { IsReply head.now.request head.now.number self.new pool.new result }
         ensures shown { shown pool.new self.new ≡ shown pool.old self.old }
-        ensures served { (mode_of : ℕ → Mode) → AreServed mode_of self.old.slots →
-            AreServed mode_of self.new.slots }
-        ensures spare { KeepsSpare self.old.slots self.new.slots pool.old pool.new }
-        ensures others { LeavesOthers self.old.slots self.new.slots pool.old pool.new }
-        ensures holds { HoldsWith (result ∷ []) self.old self.new pool.old pool.new }
-        ensures queued { QueuedWith (result ∷ []) self.old self.new }
-        ensures counts { CountsWith (result ∷ []) pool.old pool.new }
-        ensures keeps_pool { KeepsPool pool.new self.new.slots }
+        ensures stays { StaysSound (result ∷ []) self.old self.new pool.old pool.new }
     {
-        let Some(request) = self.slots.of_slot(head.request.slot()) else {
+        let Some(request) = self.newest(head.request) else {
             unreachable!()
         };
         let reply = request.entry(self.number, head.number, self.peer);

@@ -3,20 +3,16 @@ ghost use Rattle.std.specs.Prelude.{◌≡◌, ℕ, ◌<◌, ◌≤◌, ◌+◌,
 ghost use Rattle.packet_header.specs.Parts.{packet_count, IsMessage};
 ghost use Rattle.message_buffer.specs.Buffer.{capacity_of};
 ghost use Rattle.buffer_pool.specs.Pool.{spare_of};
-ghost use Rattle.packet_rings.specs.Values.{EntryValue};
 ghost use Rattle.rpc_outside.specs.Served.{Served, StandsForSome};
 ghost use Rattle.rpc_outside.specs.declared.service.Mode.{Mode};
 ghost use Rattle.rpc_outside.specs.declared.service.Mode.TheVariants.{Inline};
-ghost use Rattle.server_core.specs.Counting.{CountsQueued};
-ghost use Rattle.server_core.specs.Flushing.{HoldsAll};
-ghost use Rattle.server_core.specs.Keeping.{CountsWith, HoldsWith, QueuedWith};
-ghost use Rattle.server_core.specs.KeepsPool.{KeepsPool, KeepsSpare, LeavesOthers};
+ghost use Rattle.server_core.specs.KeepsPool.{KeepsPool};
 ghost use Rattle.server_core.specs.Noting.{IsServed};
 ghost use Rattle.server_core.specs.declared.slot.SlotState.TheVariants.{Working};
 ghost use Rattle.server_core.specs.Session.{IsInTurn, newest};
 ghost use Rattle.server_core.specs.Shown.{shown};
 ghost use Rattle.server_core.specs.Steps.{AreServed, HasNoBytes, IsReply};
-ghost use Rattle.buffer_pool.specs.Counting.{Counts};
+ghost use Rattle.server_core.specs.Keeping.{StaysSound};
 
 use super::ServerSession;
 use crate::running::serve;
@@ -59,14 +55,7 @@ impl ServerSession {
             (shown pool.new self.new) }
         ensures reply { IsReply head.now.request head.now.number self.new pool.new result }
         ensures no_bytes { HasNoBytes (newest head.now.request self.new) }
-        ensures served { (mode_of : ℕ → Mode) → AreServed mode_of self.old.slots →
-            AreServed mode_of self.new.slots }
-        ensures spare { KeepsSpare self.old.slots self.new.slots pool.old pool.new }
-        ensures others { LeavesOthers self.old.slots self.new.slots pool.old pool.new }
-        ensures holds { HoldsWith (result ∷ []) self.old self.new pool.old pool.new }
-        ensures queued { QueuedWith (result ∷ []) self.old self.new }
-        ensures counts { CountsWith (result ∷ []) pool.old pool.new }
-        ensures keeps_pool { KeepsPool pool.new self.new.slots }
+        ensures stays { StaysSound (result ∷ []) self.old self.new pool.old pool.new }
     {
         let mut answer = room;
         serve(service, head.req_type, ask, &mut answer);

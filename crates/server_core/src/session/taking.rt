@@ -15,14 +15,11 @@ ghost use Rattle.rpc_laws.specs.declared.rows.ServerRow.TheVariants.{Begins};
 ghost use Rattle.rpc_laws.specs.ServerTable.{is_last, makes_job};
 ghost use Rattle.rpc_outside.specs.declared.service.Mode.{Mode};
 ghost use Rattle.rpc_outside.specs.declared.service.Mode.TheVariants.{Unserved};
-ghost use Rattle.server_core.specs.Counting.{CountsQueued, IsCounted};
-ghost use Rattle.server_core.specs.Flushing.{HoldsAll, HoldsReplies, replies_of, ring_after};
-ghost use Rattle.server_core.specs.Flushing.{without_newest};
-ghost use Rattle.server_core.specs.Keeping.{CountsBehind, CountsWith, HoldsWith, QueuedWith, StillCounts};
-ghost use Rattle.server_core.specs.Keeping.{StillHolds};
-ghost use Rattle.server_core.specs.KeepsPool.{IsKept, KeepsPool, KeepsSpare, LeavesOthers};
+ghost use Rattle.server_core.specs.Counting.{IsCounted};
+ghost use Rattle.server_core.specs.Flushing.{HoldsReplies, replies_of, ring_after};
+ghost use Rattle.server_core.specs.KeepsPool.{IsKept, KeepsPool};
 ghost use Rattle.server_core.specs.KeepsPool.{own_names};
-ghost use Rattle.server_core.specs.Noting.{Handled, early_facts, first_facts};
+ghost use Rattle.server_core.specs.Noting.{early_facts, first_facts};
 ghost use Rattle.server_core.specs.Replies.{CanHold};
 ghost use Rattle.server_core.specs.Serving.{IsUnheld, given_up, gone_on, next_taken, with_slots};
 ghost use Rattle.server_core.specs.Serving.{without_answer, without_ask, without_buffers};
@@ -30,11 +27,13 @@ ghost use Rattle.server_core.specs.declared.slot.SlotState.TheVariants.{Taking};
 ghost use Rattle.server_core.specs.Session.{IsInTurn, IsSession, ask_of, is_in_slot};
 ghost use Rattle.server_core.specs.Session.{newest};
 ghost use Rattle.server_core.specs.Shown.{ask_in, shown, shown_request};
-ghost use Rattle.server_core.specs.Steps.{AreServed, HasNoBytes, HasTaken, IfGiven, IfRan, IfReply};
-ghost use Rattle.server_core.specs.Steps.{IsBeginning, IsNextOf, IsParcel, IsReply, LeavesPool};
-ghost use Rattle.server_core.specs.Steps.{LeavesSession, UnlessRan, asked_with, begun_with};
+ghost use Rattle.server_core.specs.Steps.{AreServed, HasTaken};
+ghost use Rattle.server_core.specs.Steps.{IsBeginning, IsNextOf, IsReply};
+ghost use Rattle.server_core.specs.Steps.{asked_with, begun_with};
 ghost use Rattle.server_core.specs.Steps.{bytes_with, first_shown, gone_on_as, grown};
 ghost use Rattle.buffer_pool.specs.Counting.{Counts};
+ghost use Rattle.server_core.specs.Handling.{Leaves};
+ghost use Rattle.server_core.specs.Keeping.{BeginsSound, KeepsReplies, StaysSound};
 
 use super::ServerSession;
 use crate::running::{make_answer, make_message, make_room};
@@ -82,30 +81,13 @@ impl ServerSession {
         ensures ring { tx.new ≡ ring
             (ring_after Begins result self.old.number (newest head.now.request self.old)
             tx.old.items) tx.old.size }
-        ensures handled { Handled R.log rec.old rec.new
+        ensures leaves { Leaves V.Service R.log
             (λ answer. early_facts who.now self.old tx.old.items Begins head.now
-            (asked_with head.now body.now (shown pool.old self.old)) answer result) V.answer
-            (V.stands service.old) (V.stands service.new) head.now body.now
-            (shown pool.old self.old) (shown pool.new self.new) result }
-        ensures reply { IfReply result
-            (IsReply head.now.request head.now.number self.new pool.new) }
-        ensures give { IfGiven result
-            (IsParcel V.answer (V.stands service.old) head.now body.now (shown pool.old self.old)) }
-        ensures no_bytes { IfRan result (HasNoBytes (newest head.now.request self.new)) }
-        ensures service { UnlessRan result (service.new ≡ service.old) }
-        ensures session { LeavesSession result head.now.request self.old self.new }
-        ensures pool { LeavesPool result pool.old pool.new }
-        ensures all_served { AreServed V.mode_of self.new.slots }
-        ensures spare { KeepsSpare self.old.slots self.new.slots pool.old pool.new }
-        ensures others { LeavesOthers self.old.slots self.new.slots pool.old pool.new }
-        ensures holds { HoldsAll self.old pool.old tx.old.items →
-            HoldsAll self.new pool.new (tx.new.items ++ replies_of result) }
-        ensures queued { HoldsAll self.old pool.old tx.old.items →
-            CountsQueued self.old tx.old.items →
-            CountsQueued self.new (tx.new.items ++ replies_of result) }
-        ensures counts { CountsBehind (replies_of result) tx.old.items tx.new.items pool.old
-            pool.new }
-        ensures keeps_pool { KeepsPool pool.new self.new.slots }
+            (asked_with head.now body.now (shown pool.old self.old)) answer result)
+            head.now body.now result self.old self.new pool.old pool.new service.old service.new
+            rec.old rec.new }
+        ensures replies { KeepsReplies tx.old.items (tx.new.items ++ replies_of result) self.old
+            self.new pool.old pool.new }
     {
         if count(head.size) > 1 {
             let Ok(ask) = make_message(alloc, head.size, body) else {
@@ -184,28 +166,15 @@ impl ServerSession {
         requires founded { StandsForSome (V.stands service.old) }
         ensures taken { HasTaken (is_last head.now) (makes_job mode head.now) (is_last head.now)
             result }
-        ensures handled { Handled R.log rec.old rec.new
+        ensures leaves { Leaves V.Service R.log
             (λ answer. first_facts who.now self.old.number head.now
-            (asked_with head.now body.now (shown pool.old self.old)) answer result) V.answer
-            (V.stands service.old) (V.stands service.new) head.now body.now
-            (shown pool.old self.old) (shown pool.new self.new) result }
-        ensures reply { IfReply result
-            (IsReply head.now.request head.now.number self.new pool.new) }
-        ensures give { IfGiven result
-            (IsParcel V.answer (V.stands service.old) head.now body.now (shown pool.old self.old)) }
-        ensures no_bytes { IfRan result (HasNoBytes (newest head.now.request self.new)) }
-        ensures service { UnlessRan result (service.new ≡ service.old) }
-        ensures session { LeavesSession result head.now.request self.old self.new }
-        ensures pool { LeavesPool result pool.old pool.new }
-        ensures all_served { AreServed V.mode_of self.new.slots }
-        ensures spare { KeepsSpare self.old.slots self.new.slots pool.old pool.new }
-        ensures others { LeavesOthers self.old.slots self.new.slots pool.old pool.new }
-        ensures holds { HoldsWith (replies_of result) self.old self.new pool.old pool.new }
-        ensures queued { QueuedWith (replies_of result) self.old self.new }
-        ensures counts { CountsWith (replies_of result) pool.old pool.new }
-        ensures keeps_pool { KeepsPool pool.new self.new.slots }
+            (asked_with head.now body.now (shown pool.old self.old)) answer result)
+            head.now body.now result self.old self.new pool.old pool.new service.old service.new
+            rec.old rec.new }
+        ensures replies { (entries : List EntryValue) → KeepsReplies entries
+            (entries ++ replies_of result) self.old self.new pool.old pool.new }
     {
-        let Some(request) = self.slots.of_slot(head.request.slot()) else {
+        let Some(request) = self.newest(head.request) else {
             unreachable!()
         };
         if head.kind.is_rfr() {
@@ -244,19 +213,8 @@ impl ServerSession {
         requires room { ask.len ≤ capacity_of ask }
         ensures shown { shown pool.new self.new
             ≡ begun_with (first_shown head.now (bytes_of ask) None) (shown pool.old self.old) }
-        ensures served { (mode_of : ℕ → Mode) → mode_of head.now.req_type ≢ Unserved →
-            AreServed mode_of self.old.slots → AreServed mode_of self.new.slots }
         ensures reply { IsReply head.now.request 0 self.new pool.new result }
-        ensures spare { KeepsSpare self.old.slots self.new.slots pool.old pool.new }
-        ensures others { LeavesOthers self.old.slots self.new.slots pool.old pool.new }
-        ensures holds { HoldsWith (result ∷ []) (without_newest head.now.request self.old) self.new
-            pool.old pool.new }
-        ensures queued { (entries : List EntryValue) →
-            HoldsAll (without_newest head.now.request self.old) pool.old entries →
-            CountsQueued (without_newest head.now.request self.old) entries →
-            CountsQueued self.new (entries ++ result ∷ []) }
-        ensures counts { CountsWith (result ∷ []) pool.old pool.new }
-        ensures keeps_pool { KeepsPool pool.new self.new.slots }
+        ensures begins { BeginsSound head.now (result ∷ []) self.old self.new pool.old pool.new }
     {
         give_up(&mut self.slots, pool, head.request.slot());
         let ask = put_message(pool, ask);
@@ -283,14 +241,7 @@ impl ServerSession {
             ≡ gone_on_as request.number (grown (bytes_with pool.old request))
             (shown pool.old self.old) }
         ensures reply { IsReply request.number request.taken self.new pool.new result }
-        ensures served { (mode_of : ℕ → Mode) → AreServed mode_of self.old.slots →
-            AreServed mode_of self.new.slots }
-        ensures spare { KeepsSpare self.old.slots self.new.slots pool.old pool.new }
-        ensures others { LeavesOthers self.old.slots self.new.slots pool.old pool.new }
-        ensures holds { HoldsWith (result ∷ []) self.old self.new pool.old pool.new }
-        ensures queued { QueuedWith (result ∷ []) self.old self.new }
-        ensures counts { CountsWith (result ∷ []) pool.old pool.new }
-        ensures keeps_pool { KeepsPool pool.new self.new.slots }
+        ensures stays { StaysSound (result ∷ []) self.old self.new pool.old pool.new }
     {
         let reply = request.entry(self.number, request.taken, self.peer);
         pool.hold_at(reply.place);
@@ -315,10 +266,7 @@ impl ServerSession {
         ensures bytes { bytes_with pool.new request.now
             ≡ ask_in pool.old request.now.taken (ask_of request.now.state) ++ body.now }
         ensures uses { pool.new.uses ≡ pool.old.uses }
-        ensures others { LeavesOthers self.now.slots self.now.slots pool.old pool.new }
-        ensures holds { StillHolds self.now self.now pool.old pool.new }
-        ensures counts { StillCounts pool.old pool.new }
-        ensures keeps_pool { KeepsPool pool.new self.now.slots }
+        ensures stays { StaysSound [] self.now self.now pool.old pool.new }
     {
         let at = PART_BYTES * u32::from(request.taken);
         pool.get_mut(place).write(at, body);

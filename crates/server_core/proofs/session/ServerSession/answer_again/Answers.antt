@@ -31,32 +31,6 @@ begin_answered-requires-clause-full g c =
     (again-full c.args.pool.now c.args.self.now c.args.head.now c.args.size c.args.place
     c.requires.reusable c.requires.keeps_pool)
 
-pub returns-clause-keeps_pool : goal.returns-clause-keeps_pool
-returns-clause-keeps_pool g c =
-    let re = c.serve_at.ensures.rewritten in
-    rw (c.begin_answered.ensures.session, c.begin_answered.ensures.pool, re.after_is)
-    (again-keeps c.args.pool.now c.args.self.now c.args.head.now c.args.size c.args.place
-    c.requires.reusable c.requires.keeps_pool re.buf (rw re.after_is at re.there) re.size_is)
-
-pub returns-clause-others : goal.returns-clause-others
-returns-clause-others g c =
-    let re = c.serve_at.ensures.rewritten in
-    rw (c.begin_answered.ensures.session, c.begin_answered.ensures.pool, re.after_is)
-    (again-others c.args.pool.now c.args.self.now c.args.head.now c.args.size c.args.place
-    c.requires.reusable re.buf)
-
-pub returns-clause-spare : goal.returns-clause-spare
-returns-clause-spare g c =
-    let re = c.serve_at.ensures.rewritten in
-    rw (c.begin_answered.ensures.session, c.begin_answered.ensures.pool, re.after_is)
-    (again-spare c.args.pool.now c.args.self.now c.args.head.now c.args.size c.args.place
-    c.requires.reusable c.requires.keeps_pool re.buf)
-
-pub returns-clause-served : goal.returns-clause-served
-returns-clause-served g c = λ mode_of new all.
-    rw c.begin_answered.ensures.session (begun-served mode_of c.args.self.now.slots
-    (again_request c.args.head.now c.args.size c.args.place) new all)
-
 pub returns-clause-no_bytes : goal.returns-clause-no_bytes
 returns-clause-no_bytes g c =
     let d = again_request c.args.head.now c.args.size c.args.place in
@@ -78,42 +52,6 @@ returns-clause-reply g c =
     (again-reply c.args.pool.now c.args.self.now c.args.head.now c.args.size c.args.place
     c.requires.reusable c.requires.keeps_pool re.buf c.requires.session turn (omega (arith, c.requires.one)))
 
-pub returns-clause-holds : goal.returns-clause-holds
-returns-clause-holds g c = λ entries holds.
-    let re = c.serve_at.ensures.rewritten in
-    let turn = answered-turn c.args.head.now (record { place = c.args.place; size = c.args.size })
-    c.requires.size c.requires.one c.requires.answer in
-    let unheld = again-unheld c.args.pool.now c.args.self.now c.args.head.now c.args.size c.args.place
-    c.requires.reusable c.requires.keeps_pool (rw c.requires.reusable.newest_is at c.requires.unheld) in
-    rw (
-      c.begin_answered.ensures.reply,
-      c.begin_answered.ensures.session,
-      c.begin_answered.ensures.pool,
-      re.after_is,
-    )
-    (again-holds c.args.pool.now c.args.self.now c.args.head.now c.args.size c.args.place
-    c.requires.reusable c.requires.keeps_pool re.buf c.requires.session turn (omega (arith, c.requires.one))
-    entries holds unheld)
-
-pub returns-clause-queued : goal.returns-clause-queued
-returns-clause-queued g c = λ entries holds counted.
-    let d = again_request c.args.head.now c.args.size c.args.place in
-    rw c.begin_answered.ensures.session
-    (first-counted c.args.pool.now c.args.self.now c.args.head.now.request c.requires.session
-    c.requires.keeps_pool d refl c.args.pool.now entries holds counted c.begin_answered.result refl
-    (ap (λ e. e.owner) c.begin_answered.ensures.reply))
-
-pub returns-clause-counts : goal.returns-clause-counts
-returns-clause-counts g c = λ entries counts.
-    let re = c.serve_at.ensures.rewritten in
-    let d = again_request c.args.head.now c.args.size c.args.place in
-    rw (c.begin_answered.ensures.pool, re.after_is)
-    (again-counts c.args.pool.now c.args.self.now c.args.head.now c.args.size c.args.place
-    c.requires.reusable c.requires.keeps_pool re.buf entries c.begin_answered.result
-    (ap (λ e. e.place) c.begin_answered.ensures.reply
-    ∙ late-placed d (record { place = c.args.place; size = c.args.size }) 0 refl
-    (omega (arith, c.requires.one))) counts)
-
 pub returns-clause-answers : goal.returns-clause-answers
 returns-clause-answers g c =
     let re = c.serve_at.ensures.rewritten in
@@ -134,3 +72,39 @@ returns-clause-answers g c =
       );
       grew = rw (c.bytes.ensures.message, same) at c.note_ran.ensures;
     }
+
+pub returns-clause-begins : goal.returns-clause-begins
+returns-clause-begins g c =
+    let s = c.args.self.now in
+    let head = c.args.head.now in
+    let pool = c.args.pool.now in
+    let re = c.serve_at.ensures.rewritten in
+    let e = c.begin_answered.result in
+    let d = again_request head c.args.size c.args.place in
+    let turn = answered-turn head (record { place = c.args.place; size = c.args.size })
+    c.requires.size c.requires.one c.requires.answer in
+    let unheld = again-unheld pool s head c.args.size c.args.place c.requires.reusable
+    c.requires.keeps_pool (rw c.requires.reusable.newest_is at c.requires.unheld) in
+    let place = ap (λ x. x.place) c.begin_answered.ensures.reply
+    ∙ late-placed d (record { place = c.args.place; size = c.args.size }) 0 refl
+    (omega (arith, c.requires.one)) in
+    rw (c.begin_answered.ensures.session, c.begin_answered.ensures.pool, re.after_is) (record {
+      places = record {
+        spare = again-spare pool s head c.args.size c.args.place c.requires.reusable
+            c.requires.keeps_pool re.buf;
+        others = again-others pool s head c.args.size c.args.place c.requires.reusable re.buf;
+        keeps_pool = again-keeps pool s head c.args.size c.args.place c.requires.reusable
+            c.requires.keeps_pool re.buf (rw re.after_is at re.there) re.size_is;
+      };
+      replies = λ es. record {
+        holds = λ all. rw c.begin_answered.ensures.reply (again-holds pool s head c.args.size
+            c.args.place c.requires.reusable c.requires.keeps_pool re.buf c.requires.session turn
+            (omega (arith, c.requires.one)) es all unheld);
+        queued = λ all counted. first-counted pool s head.request c.requires.session
+            c.requires.keeps_pool d refl pool es all counted e refl
+            (ap (λ x. x.owner) c.begin_answered.ensures.reply);
+        counts = λ p. again-counts pool s head c.args.size c.args.place c.requires.reusable
+            c.requires.keeps_pool re.buf es e p place;
+      };
+      served = λ mode_of new all. begun-served mode_of s.slots d new all;
+    })

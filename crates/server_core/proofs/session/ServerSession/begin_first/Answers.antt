@@ -1,4 +1,3 @@
-use Rattle.server_core.specs.Counting.{CountsQueued}
 use Rattle.server_core.proofs.QueuedLemmas.{first-counted}
 use Rattle.std.proofs.Common.{◌≡◌, ◌%◌, Some, refl, ap, ◌∙◌, arith}
 use Rattle.std.proofs.lemmas.Bool.{lt-ltb}
@@ -11,17 +10,18 @@ use Rattle.server_core.proofs.GivenLemmas.{spare-given}
 use Rattle.server_core.proofs.SlotLemmas.{begun-session, few-left}
 use Rattle.server_core.proofs.OtherLemmas.{first-others}
 use Rattle.server_core.proofs.SpareLemmas.{first-spare}
-use Rattle.server_core.specs.Flushing.{HoldsAll, without_newest}
 use Rattle.server_core.specs.Replies.{IsReplyIn}
 use Rattle.server_core.specs.Serving.{given_up}
 use Rattle.buffer_pool.specs.Pool.{filled, lowest_empty}
 use Rattle.server_core.specs.Steps.{IsReply}
 use Rattle.server_core.proofs.HoldBeginLemmas.{first-holds, first-leaves, listed}
-use Rattle.server_core.proofs.CountLemmas.{counts-given}
+use Rattle.server_core.proofs.CountLemmas.{given-refs}
 use Rattle.server_core.specs.Session.{is_in_slot}
 use Rattle.server_core.proofs.HoldStepLemmas.{early-unplaced}
 use Rattle.server_core.proofs.session.ServerSession.begin_first.Goals as goal
-use Rattle.buffer_pool.proofs.CountingLemmas.{counts-filled, counts-unplaced}
+use Rattle.std.proofs.Common.{◌∷◌, []}
+use Rattle.buffer_pool.proofs.CountLemmas.{refs_filled}
+use Rattle.packet_rings.proofs.MentionsLemmas.{mentions-append, mentions-none}
 
 pub put_message-ask-requires : goal.put_message-ask-requires
 put_message-ask-requires c =
@@ -73,70 +73,23 @@ returns-clause-reply c =
     c.self.invariant) (omega arith) (idle-reply d 0 refl)
     (return-held c.put_message-ask.new.pool d 0 (lt-ltb 1 _ c.requires.many)))
 
-pub returns-clause-keeps_pool : goal.returns-clause-keeps_pool
-returns-clause-keeps_pool c =
-    let keeps = rw (← c.self.view_is) at c.requires.keeps_pool in
-    let lowest = rw (c.give_up.ensures.pool, c.slot.ensures) at c.put_message-ask.ensures.place in
-    let there = rw (c.put_message-ask.ensures.pool, c.give_up.ensures.pool, c.slot.ensures)
-    at c.put_message-ask.ensures.there in
-    rw (
-      c.push.ensures,
-      c.give_up.ensures.slots,
-      c.put_message-ask.ensures.pool,
-      c.give_up.ensures.pool,
-      c.slot.ensures,
-    )
-    (first-keeps c.args.pool.now (the_view c.self.inside) c.args.head.now keeps
-    c.put_message-ask.result.place c.args.ask lowest there c.requires.len c.requires.room)
-
-pub returns-clause-served : goal.returns-clause-served
-returns-clause-served c = λ mode_of new all.
-    rw (c.push.ensures, c.give_up.ensures.slots, c.slot.ensures)
-    (begun-served mode_of c.self.inside.slots
-    (first_taken c.args.head.now c.put_message-ask.result.place) new
-    (rw (← c.self.view_is) at all))
-
-pub returns-clause-others : goal.returns-clause-others
-returns-clause-others c =
-    let lowest = rw (c.give_up.ensures.pool, c.slot.ensures) at c.put_message-ask.ensures.place in
-    rw (
-      c.push.ensures,
-      c.give_up.ensures.slots,
-      c.put_message-ask.ensures.pool,
-      c.give_up.ensures.pool,
-      c.slot.ensures,
-      ← c.self.view_is,
-    )
-    (first-others c.args.pool.now (the_view c.self.inside) c.args.head.now
-    c.put_message-ask.result.place c.args.ask lowest)
-
-pub returns-clause-spare : goal.returns-clause-spare
-returns-clause-spare c =
-    let keeps = rw (← c.self.view_is) at c.requires.keeps_pool in
-    let lowest = rw (c.give_up.ensures.pool, c.slot.ensures) at c.put_message-ask.ensures.place in
-    rw (
-      c.push.ensures,
-      c.give_up.ensures.slots,
-      c.put_message-ask.ensures.pool,
-      c.give_up.ensures.pool,
-      c.slot.ensures,
-      ← c.self.view_is,
-    )
-    (first-spare c.args.pool.now (the_view c.self.inside) c.args.head.now
-    c.put_message-ask.result.place c.args.ask keeps lowest)
-
-pub returns-clause-holds : goal.returns-clause-holds
-returns-clause-holds c = λ entries holds.
+pub returns-clause-begins : goal.returns-clause-begins
+returns-clause-begins c =
     let s = the_view c.self.inside in
     let head = c.args.head.now in
+    let pool = c.args.pool.now in
     let k = c.put_message-ask.result.place in
+    let e = c.entry-reply.result in
     let d = first_taken head k in
+    let given = given_up (newest head.request s) pool in
+    let new = filled k c.args.ask given in
     let keeps = rw (← c.self.view_is) at c.requires.keeps_pool in
-    let before : HoldsAll (without_newest head.request s) c.args.pool.now entries = rw (← c.self.view_is) at holds in
-    let lowest : lowest_empty (given_up (newest head.request s) c.args.pool.now) ≡ Some k =
+    let unheld = rw (← c.self.view_is) at c.requires.unheld in
+    let lowest : lowest_empty given ≡ Some k =
     rw (c.give_up.ensures.pool, c.slot.ensures) at c.put_message-ask.ensures.place in
-    let new = filled k c.args.ask (given_up (newest head.request s) c.args.pool.now) in
-    let reply : IsReply head.request 0 (with_slots (begun d s.slots) s) new c.entry-reply.result =
+    let there = rw (c.put_message-ask.ensures.pool, c.give_up.ensures.pool, c.slot.ensures)
+    at c.put_message-ask.ensures.there in
+    let reply : IsReply head.request 0 (with_slots (begun d s.slots) s) new e =
     rw (
       c.push.ensures,
       c.give_up.ensures.slots,
@@ -144,50 +97,41 @@ returns-clause-holds c = λ entries holds.
       c.give_up.ensures.pool,
       c.slot.ensures,
     ) at (returns-clause-reply c) in
-    let mine : IsReplyIn d c.entry-reply.result =
+    let mine : IsReplyIn d e =
     rw c.entry-reply.ensures (record {
       taken = omega arith;
       there = idle-reply d 0 refl;
       place_is = refl;
     }) in
+    let place = ap (λ x. x.place) c.entry-reply.ensures ∙ early-unplaced d 0 c.requires.many in
     rw (
       c.push.ensures,
       c.give_up.ensures.slots,
       c.put_message-ask.ensures.pool,
       c.give_up.ensures.pool,
       c.slot.ensures,
+      ← c.self.view_is,
     )
-    (first-holds c.args.pool.now s head.request c.self.invariant keeps d refl new
-    (begun d (listed (newest head.request s)))
-    (first-leaves c.args.pool.now s head k c.args.ask lowest) entries before 0
-    c.entry-reply.result refl reply mine)
-
-pub returns-clause-counts : goal.returns-clause-counts
-returns-clause-counts c = λ entries counts.
-    let s = the_view c.self.inside in
-    let head = c.args.head.now in
-    let d = first_taken head c.put_message-ask.result.place in
-    let keeps = rw (← c.self.view_is) at c.requires.keeps_pool in
-    let unheld = rw (← c.self.view_is) at c.requires.unheld in
-    let given = counts-given (is_in_slot (head.request % 8)) c.args.pool.now s.slots entries keeps unheld counts in
-    let lowest : lowest_empty (given_up (newest head.request s) c.args.pool.now)
-    ≡ Some c.put_message-ask.result.place =
-    rw (c.give_up.ensures.pool, c.slot.ensures) at c.put_message-ask.ensures.place in
-    let after = counts-filled (given_up (newest head.request s) c.args.pool.now) entries given
-    c.put_message-ask.result.place c.args.ask lowest in
-    rw (c.put_message-ask.ensures.pool, c.give_up.ensures.pool, c.slot.ensures)
-    (counts-unplaced (filled c.put_message-ask.result.place c.args.ask
-    (given_up (newest head.request s) c.args.pool.now)) entries after c.entry-reply.result
-    (ap (λ e. e.place) c.entry-reply.ensures ∙ early-unplaced d 0 c.requires.many))
-
-pub returns-clause-queued : goal.returns-clause-queued
-returns-clause-queued c = λ entries holds counted.
-    let s = the_view c.self.inside in
-    let head = c.args.head.now in
-    let d = first_taken head c.put_message-ask.result.place in
-    let keeps = rw (← c.self.view_is) at c.requires.keeps_pool in
-    let before : HoldsAll (without_newest head.request s) c.args.pool.now entries = rw (← c.self.view_is) at holds in
-    let all : CountsQueued (without_newest head.request s) entries = rw (← c.self.view_is) at counted in
-    rw (c.push.ensures, c.give_up.ensures.slots, c.slot.ensures)
-    (first-counted c.args.pool.now s head.request c.self.invariant keeps d refl c.args.pool.now
-    entries before all c.entry-reply.result refl (ap (λ e. e.owner) c.entry-reply.ensures))
+    (record {
+      places = record {
+        spare = first-spare pool s head k c.args.ask keeps lowest;
+        others = first-others pool s head k c.args.ask lowest;
+        keeps_pool = first-keeps pool s head keeps k c.args.ask lowest there c.requires.len
+            c.requires.room;
+      };
+      replies = λ es. record {
+        holds = λ all. first-holds pool s head.request c.self.invariant keeps d refl new
+            (begun d (listed (newest head.request s))) (first-leaves pool s head k c.args.ask lowest)
+            es all 0 e refl reply mine;
+        queued = λ all counted. first-counted pool s head.request c.self.invariant keeps d refl pool
+            es all counted e refl (ap (λ x. x.owner) c.entry-reply.ensures);
+        counts = λ p. omega (
+          arith,
+          refs_filled given k p c.args.ask lowest,
+          given-refs (is_in_slot (head.request % 8)) pool s.slots p keeps unheld,
+          mentions-append p es (e ∷ []),
+          mentions-none p e place,
+        );
+      };
+      served = λ mode_of new all. begun-served mode_of s.slots d new all;
+    })

@@ -1,8 +1,8 @@
-use Rattle.std.proofs.Common.{◌≡◌, [], drop, arith}
+use Rattle.std.proofs.Common.{◌≡◌, ◌∙◌, [], drop, arith}
 use Rattle.std.proofs.Math.ListN.{drop_of_length-le}
 use Rattle.server_core.proofs.GivenLemmas.{front-beside, next-front, unheld-rest}
 use Rattle.server_core.proofs.PlaceLemmas.{gone-keeps}
-use Rattle.server_core.proofs.CountLemmas.{counts-all}
+use Rattle.server_core.proofs.CountLemmas.{all-refs}
 use Rattle.server_core.proofs.OtherLemmas.{all-others}
 use Rattle.server_core.proofs.SpareLemmas.{all-spare}
 use Rattle.server_core.proofs.session.ServerSession.finish.Goals as goal
@@ -36,9 +36,9 @@ returns-clause-pool c =
     rw none at c.loop-request.invariant.left
 
 pub returns-clause-counts : goal.returns-clause-counts
-returns-clause-counts c = λ entries counts.
-    rw (returns-clause-pool c) (counts-all c.args.pool.now c.args.self.slots entries
-    c.requires.keeps_pool c.requires.unheld counts)
+returns-clause-counts c = λ entries counts p.
+    rw (returns-clause-pool c) (all-refs c.args.pool.now c.args.self.slots p c.requires.keeps_pool
+    c.requires.unheld ∙ counts p)
 
 pub returns-clause-spare : goal.returns-clause-spare
 returns-clause-spare c =

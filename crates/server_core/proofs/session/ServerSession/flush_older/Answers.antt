@@ -1,6 +1,4 @@
-use Rattle.std.proofs.Common.{arith}
-use Rattle.server_core.specs.Counting.{CountsQueued}
-use Rattle.server_core.specs.Flushing.{without_newest}
+use Rattle.std.proofs.Common.{◌+◌, arith}
 use Rattle.server_core.proofs.QueuedLemmas.{count-out, none-older, older-counted, weight-own}
 use Rattle.std.proofs.Common.{◌≡◌, ◌%◌, false, List, ◌∷◌, [], ◌++◌, Some, None, true, filter, map}
 use Rattle.std.proofs.Common.{refl, subst, sym, ap, ◌∙◌, append-nil, append_assoc}
@@ -13,19 +11,20 @@ use Rattle.rpc_base.specs.declared.event.Event.TheVariants.{Flushed}
 use Rattle.rpc_laws.specs.Queues.{numbers_of}
 use Rattle.rpc_outside.specs.Recording.{Grew}
 use Rattle.server_core.specs.Flushing.{bare, flushed_facts, queued_of}
-use Rattle.server_core.specs.KeepsPool.{IsKept}
+use Rattle.server_core.specs.KeepsPool.{IsKept, places}
 use Rattle.server_core.specs.Replies.{released_at}
 use Rattle.server_core.specs.Session.{IsSession, is_in_slot, newest, owner_of}
 use Rattle.server_core.proofs.FlushLemmas.{bufs-released, filter-none, flush-held, flush-holds, flush-others}
 use Rattle.server_core.proofs.FlushLemmas.{flush-spare, flush-unheld, grew-then}
-use Rattle.server_core.proofs.FlushLemmas.{leaves-then, numbers-flushed, numbers-none}
+use Rattle.server_core.proofs.FlushLemmas.{numbers-flushed, numbers-none}
 use Rattle.server_core.proofs.FlushLemmas.{shown-released}
 use Rattle.server_core.proofs.HoldBeginLemmas.{none-gone, older-gone, reply-is, sent-of}
 use Rattle.server_core.proofs.PoolLemmas.{keeps-released}
 use Rattle.server_core.proofs.session.ServerSession.flush_older.Goals as goal
 use Rattle.rpc_base.proofs.FirstLemmas.{counted-none, found-holds, none-counted}
-use Rattle.buffer_pool.proofs.CountingLemmas.{counts-released}
-use Rattle.server_core.proofs.CountLemmas.{taken-beside}
+use Rattle.buffer_pool.proofs.CountingLemmas.{released-counted}
+use Rattle.packet_rings.proofs.MentionsLemmas.{mentions-taken}
+use Rattle.server_core.proofs.StaysLemmas.{places-then, same-places}
 
 pub release_at-requires : goal.release_at-requires
 release_at-requires g c =
@@ -35,7 +34,7 @@ release_at-requires g c =
     let owner_is : c.owner.result ≡ owner_of c.args.self.now.number c.in-Some.older =
     c.owner.ensures ∙ ap (λ s. owner_of s.number c.in-Some.older) c.self.view_is in
     let kept = found-holds (is_in_slot _) (IsKept c.loop-left.pool) c.args.self.now.slots
-    c.in-Some.older c.loop-left.invariant.keeps.kept found in
+    c.in-Some.older c.loop-left.invariant.places.keeps_pool.kept found in
     let own : is_of (owner_of c.args.self.now.number c.in-Some.older) c.in-Some-flush.entry ≡ true =
     rw owner_is at c.in-Some-flush.ensures.listed.1 in
     rw (ap (λ e. e.place) c.entry.view_is) (flush-held c.args.self.now.number c.in-Some.older
@@ -58,7 +57,7 @@ loop-left-preserved g c =
     let again_is : c.owner-in-loop-left.result ≡ owner_of n q =
     c.owner-in-loop-left.ensures ∙ ap (λ s. owner_of s.number q) c.self.view_is in
     let kept = found-holds (is_in_slot (c.args.request % 8))
-    (IsKept pool) c.args.self.now.slots q inv.keeps.kept found in
+    (IsKept pool) c.args.self.now.slots q inv.places.keeps_pool.kept found in
     let own : is_of (owner_of n q) e ≡ true = rw owner_is at c.in-Some-flush.ensures.listed.1 in
     let out = c.in-Some-flush.ensures.nearest in
     let place_is = ap (λ e. e.place) c.entry.view_is in
@@ -92,18 +91,23 @@ loop-left-preserved g c =
       noted = (x ++ fact ∷ [], grown, order);
       shown = shown-released pool e.place c.args.self.now ∙ inv.shown;
       bufs = bufs-released pool e.place ∙ inv.bufs;
-      spare = flush-spare n q pool old new _ e inv.holds out own kept ∙ inv.spare;
-      others = leaves-then c.args.self.now.slots c.args.self.now.slots c.args.pool.now pool
-          (released_at e.place pool) inv.others
-          (flush-others n q pool old new _ e inv.holds out own kept
-          (is_in_slot (c.args.request % 8)) c.args.self.now.slots found);
-      all = λ before. sent-of pool c.args.self.now sound inv.keeps _ e old new out (inv.all before)
+      places = places-then inv.places (record {
+        spare = ap (λ n. n + places c.args.self.now.slots)
+            (flush-spare n q pool old new _ e inv.holds out own kept);
+        others = flush-others n q pool old new _ e inv.holds out own kept
+            (is_in_slot (c.args.request % 8)) c.args.self.now.slots found;
+        keeps_pool = keeps-released pool e.place c.args.self.now.slots
+            (flush-held n q pool old new _ e inv.holds out own kept) inv.places.keeps_pool;
+      });
+      all = λ before. sent-of pool c.args.self.now sound inv.places.keeps_pool _ e old new out (inv.all before)
           c.args.request q found (reply-is n q.number e.owner own);
-      counts = λ others before. counts-released pool (old ++ others) (inv.counts others before) _ e
-          (new ++ others) (taken-beside _ e old new others out)
-          (flush-held n q pool old new _ e inv.holds out own kept);
-      keeps = keeps-released pool e.place c.args.self.now.slots
-          (flush-held n q pool old new _ e inv.holds out own kept) inv.keeps;
+      counts = λ p. omega (
+        arith,
+        inv.counts p,
+        released-counted pool p e.place e refl
+            (flush-held n q pool old new _ e inv.holds out own kept),
+        mentions-taken p _ e old new out,
+      );
     })
 
 pub returns-clause-ring : goal.returns-clause-ring
@@ -151,30 +155,6 @@ returns-clause-unheld g c =
     (omega (arith, c.loop-left.invariant.left, c.loop-left-test.false)) in
     rw found (flush-unheld n q c.loop-left.pool old inv.holds none)
 
-pub returns-clause-holds : goal.returns-clause-holds
-returns-clause-holds g c = λ holds.
-    let s = c.args.self.now in
-    let q = c.in-Some.older in
-    let old = c.loop-left.tx.items in
-    let found : newest c.args.request s ≡ Some q =
-    ap (newest c.args.request) (sym c.self.view_is)
-    ∙ rw c.slot.ensures at (sym c.in-Some.ensures) in
-    let none : list_any (is_of (owner_of s.number q)) old ≡ false =
-    counted-none (is_of (owner_of s.number q)) old
-    (omega (arith, c.loop-left.invariant.left, c.loop-left-test.false)) in
-    (older-gone c.loop-left.pool s c.args.request q found old none (c.loop-left.invariant.all holds))
-
-pub returns-in_default-clause-holds : goal.returns-in_default-clause-holds
-returns-in_default-clause-holds g c = λ holds.
-    let none : newest c.args.request c.args.self.now ≡ None =
-    ap (newest c.args.request) (sym c.self.view_is)
-    ∙ rw c.slot.ensures at (sym c.in_default.ensures) in
-    none-gone c.args.pool.now c.args.self.now c.args.request none c.args.tx.now.items holds
-
-pub returns-clause-counts : goal.returns-clause-counts
-returns-clause-counts g c = λ others counts.
-    c.loop-left.invariant.counts others counts
-
 pub unreachable-requires : goal.unreachable-requires
 unreachable-requires g c =
     let n = c.args.self.now.number in
@@ -190,8 +170,8 @@ unreachable-requires g c =
       none-counted (is_of (owner_of n q)) old none,
     ))
 
-pub returns-clause-queued : goal.returns-clause-queued
-returns-clause-queued g c = λ counted.
+pub returns-clause-replies : goal.returns-clause-replies
+returns-clause-replies g c =
     let s = c.args.self.now in
     let q = c.in-Some.older in
     let old = c.loop-left.tx.items in
@@ -203,15 +183,27 @@ returns-clause-queued g c = λ counted.
     let none : list_any (is_of (owner_of s.number q)) old ≡ false =
     counted-none (is_of (owner_of s.number q)) old
     (omega (arith, inv.left, c.loop-left-test.false)) in
-    let all : CountsQueued (without_newest c.args.request s)
-    (filter (is_not_of (owner_of s.number q)) c.args.tx.now.items) =
-    older-counted c.args.pool.now s c.args.request q sound c.requires.keeps_pool found
-    c.args.tx.now.items counted in
-    rw (sym (filter-none (owner_of s.number q) old none) ∙ inv.kept) all
+    let kept = sym (filter-none (owner_of s.number q) old none) ∙ inv.kept in
+    record {
+      holds = λ all. older-gone c.loop-left.pool s c.args.request q found old none (inv.all all);
+      queued = λ all counted. rw kept (older-counted c.args.pool.now s c.args.request q sound
+          c.requires.keeps_pool found c.args.tx.now.items counted);
+      counts = inv.counts;
+    }
 
-pub returns-in_default-clause-queued : goal.returns-in_default-clause-queued
-returns-in_default-clause-queued g c = λ counted.
+pub returns-in_default-clause-places : goal.returns-in_default-clause-places
+returns-in_default-clause-places g c =
+    same-places c.args.self.now c.args.pool.now c.requires.keeps_pool
+
+pub returns-in_default-clause-replies : goal.returns-in_default-clause-replies
+returns-in_default-clause-replies g c =
     let none : newest c.args.request c.args.self.now ≡ None =
     ap (newest c.args.request) (sym c.self.view_is)
     ∙ rw c.slot.ensures at (sym c.in_default.ensures) in
-    none-older c.args.self.now c.args.request none c.args.tx.now.items counted
+    record {
+      holds = λ all. none-gone c.args.pool.now c.args.self.now c.args.request none
+          c.args.tx.now.items all;
+      queued = λ all counted. none-older c.args.self.now c.args.request none c.args.tx.now.items
+          counted;
+      counts = λ p. refl;
+    }

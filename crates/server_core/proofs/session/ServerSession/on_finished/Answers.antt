@@ -1,9 +1,10 @@
-use Rattle.std.proofs.Common.{◌≡◌, ◌≢◌, Some, None, refl, subst, sym, ap, ◌∙◌}
+use Rattle.std.proofs.Common.{◌≡◌, ◌≢◌, ◌∷◌, [], Some, None, refl, subst, sym, ap, ◌∙◌}
 use Rattle.message_buffer.specs.Buffer.{bytes_of}
 use Rattle.server_core.specs.Finishing.{IsFinished}
 use Rattle.server_core.specs.Session.{IsInTurn, is_in_slot, newest}
 use Rattle.server_core.specs.contracts.session.ServerSession.{the_view}
 use Rattle.server_core.proofs.AskedLemmas.{waiting-none, waiting-own}
+use Rattle.server_core.proofs.StaysLemmas.{counts-behind, same-places}
 use Rattle.server_core.proofs.StepLemmas.{at-work}
 use Rattle.server_core.proofs.session.ServerSession.on_finished.Goals as goal
 use Rattle.server_core.proofs.session.ServerSession.on_finished.Goals.{then-get-via-then-get}
@@ -75,3 +76,28 @@ returns-clause-finished c =
       last = rw own c.put_answer-reply.ensures.last;
       reply = c.put_answer-reply.ensures.reply;
     })
+
+pub returns-in_default-clause-places : goal.returns-in_default-clause-places
+returns-in_default-clause-places c =
+    same-places c.args.self.now c.args.pool.now c.requires.keeps_pool
+
+pub returns-then-get-clause-places : goal.returns-then-get-clause-places
+returns-then-get-clause-places c =
+    same-places c.args.self.now c.args.pool.now c.requires.keeps_pool
+
+pub returns-clause-places : goal.returns-clause-places
+returns-clause-places c = c.put_answer-reply.ensures.stays.places
+
+pub returns-clause-holds : goal.returns-clause-holds
+returns-clause-holds c = λ es all. (c.put_answer-reply.ensures.stays.replies es).holds all
+
+pub returns-clause-queued : goal.returns-clause-queued
+returns-clause-queued c = c.put_answer-reply.ensures.queued
+
+pub returns-clause-counts : goal.returns-clause-counts
+returns-clause-counts c = λ es counts.
+    counts-behind c.args.pool.now c.put_answer-reply.new.pool es (c.put_answer-reply.result ∷ [])
+    (c.put_answer-reply.ensures.stays.replies es).counts counts
+
+pub returns-clause-all_served : goal.returns-clause-all_served
+returns-clause-all_served c = c.put_answer-reply.ensures.stays.served

@@ -2,7 +2,6 @@ use Rattle.server_core.specs.Counting.{CountsQueued}
 use Rattle.server_core.proofs.QueuedLemmas.{gone-counted}
 use Rattle.std.proofs.Common.{◌≡◌, ◌-◌, ◌<◌, ◌∙◌, Some, ap, refl, sym, arith}
 use Rattle.buffer_pool.specs.Pool.{filled, held, refs_of}
-use Rattle.server_core.specs.Flushing.{HoldsAll}
 use Rattle.server_core.specs.Replies.{IsReplyIn}
 use Rattle.server_core.specs.Steps.{IsReply}
 use Rattle.server_core.proofs.HoldStepLemmas.{answer-holds, late-placed, worked-more}
@@ -21,7 +20,10 @@ use Rattle.buffer_pool.specs.Uses.{is_full}
 use Rattle.buffer_pool.specs.declared.usage.Use.TheVariants.{Empty, Full}
 use Rattle.buffer_pool.proofs.PoolLemmas.{changed_own}
 use Rattle.server_core.proofs.session.ServerSession.put_answer.Goals as goal
-use Rattle.buffer_pool.proofs.CountingLemmas.{counts-filled, counts-placed}
+use Rattle.std.proofs.Common.{◌+◌, ◌++◌, ◌∷◌, []}
+use Rattle.packet_rings.specs.Mentions.{mentions}
+use Rattle.buffer_pool.proofs.CountLemmas.{refs_filled}
+use Rattle.server_core.proofs.StaysLemmas.{placed-behind}
 
 pub overflow_sub-number : goal.overflow_sub-number
 overflow_sub-number c = c.requires.turn.some
@@ -83,84 +85,6 @@ returns-clause-reply c =
     (answer-held c.hold.new.self d c.put_message-answer.result (c.args.request.taken - 1) refl
     some))
 
-pub returns-clause-served : goal.returns-clause-served
-returns-clause-served c = λ mode_of all.
-    let found = rw (← c.self.view_is) at c.requires.found in
-    let keeps = rw (← c.self.view_is) at c.requires.keeps_pool in
-    rw c.replace.ensures (gone-served c.args.pool.now (the_view c.self.inside) c.args.request
-    c.self.invariant found keeps mode_of (worked c.put_message-answer.result c.args.request)
-    refl refl (rw (← c.self.view_is) at all))
-
-pub returns-clause-keeps_pool : goal.returns-clause-keeps_pool
-returns-clause-keeps_pool c =
-    let found = rw (← c.self.view_is) at c.requires.found in
-    let keeps = rw (← c.self.view_is) at c.requires.keeps_pool in
-    let whole_is = worked-whole c.args.request c.requires.turn c.requires.working in
-    let none = ap answer_of c.requires.working in
-    let gone = ap ask_of c.requires.working in
-    let there = rw c.put_message-answer.ensures.pool at c.put_message-answer.ensures.there in
-    rw (c.replace.ensures, c.hold.ensures, c.put_message-answer.ensures.pool)
-    (last-keeps c.args.pool.now (the_view c.self.inside) c.args.request c.self.invariant found keeps
-    (worked c.put_message-answer.result c.args.request) refl (sym gone) refl
-    c.put_message-answer.result.place c.args.answer c.put_message-answer.result none refl
-    c.put_message-answer.ensures.place there refl c.put_message-answer.ensures.size
-    c.put_message-answer.ensures.fits)
-
-pub returns-clause-others : goal.returns-clause-others
-returns-clause-others c =
-    let found = rw (← c.self.view_is) at c.requires.found in
-    rw (c.replace.ensures, c.hold.ensures, c.put_message-answer.ensures.pool, ← c.self.view_is)
-    (last-others c.args.pool.now (the_view c.self.inside) c.args.request c.args.request.number found
-    (worked c.put_message-answer.result c.args.request) refl refl
-    (sym (ap ask_of c.requires.working)) c.put_message-answer.result.place c.args.answer
-    c.put_message-answer.result refl c.put_message-answer.ensures.place refl)
-
-pub returns-clause-spare : goal.returns-clause-spare
-returns-clause-spare c =
-    let found = rw (← c.self.view_is) at c.requires.found in
-    let keeps = rw (← c.self.view_is) at c.requires.keeps_pool in
-    let whole_is = worked-whole c.args.request c.requires.turn c.requires.working in
-    let none = ap answer_of c.requires.working in
-    let gone = ap ask_of c.requires.working in
-    rw (c.replace.ensures, c.hold.ensures, c.put_message-answer.ensures.pool, ← c.self.view_is)
-    (last-spare c.args.pool.now (the_view c.self.inside) c.args.request c.args.request.number keeps
-    found (worked c.put_message-answer.result c.args.request) refl refl (sym gone) none
-    c.put_message-answer.result.place c.args.answer c.put_message-answer.result refl
-    c.put_message-answer.ensures.place refl)
-
-pub returns-clause-holds : goal.returns-clause-holds
-returns-clause-holds c = λ entries holds.
-    let s = the_view c.self.inside in
-    let q = c.args.request in
-    let a = c.put_message-answer.result in
-    let d = worked a q in
-    let k = q.taken - 1 in
-    let whole_is = worked-whole q c.requires.turn c.requires.working in
-    let none = ap answer_of c.requires.working in
-    let gone = ap ask_of c.requires.working in
-    let found = rw (← c.self.view_is) at c.requires.found in
-    let keeps = rw (← c.self.view_is) at c.requires.keeps_pool in
-    let before : HoldsAll s c.args.pool.now entries = rw (← c.self.view_is) at holds in
-    let after : c.hold.new.self ≡ held a.place (filled a.place c.args.answer c.args.pool.now) =
-    c.hold.ensures ∙ ap (held a.place) c.put_message-answer.ensures.pool in
-    let reply : IsReply q.number k (with_slots (gone_on d s.slots) s)
-    (held a.place (filled a.place c.args.answer c.args.pool.now)) c.entry-reply.result =
-    rw c.entry-reply.ensures (rw (c.replace.ensures, after, c.entry-reply.ensures)
-    at (returns-clause-reply c)) in
-    let mine : IsReplyIn d c.entry-reply.result =
-    rw c.entry-reply.ensures (record {
-      taken = omega (arith, c.requires.turn.some);
-      there = idle-reply d k refl;
-      place_is = refl;
-    }) in
-    let place : c.entry-reply.result.place ≡ Some a.place =
-    ap (λ e. e.place) c.entry-reply.ensures
-    ∙ late-placed d a k refl (omega (arith, whole_is, c.requires.turn.some)) in
-    rw (c.replace.ensures, after) (answer-holds c.args.pool.now s q c.self.invariant found keeps
-    entries before d a.place c.args.answer a k c.entry-reply.result refl (sym gone) none refl
-    c.put_message-answer.ensures.place refl
-    (λ x r. worked-more q a x whole_is c.requires.working r) reply place mine)
-
 pub returns-clause-no_bytes : goal.returns-clause-no_bytes
 returns-clause-no_bytes c =
     let found = rw (← c.self.view_is) at c.requires.found in
@@ -170,27 +94,6 @@ returns-clause-no_bytes c =
     (the_view c.self.inside)) ≡ Some d = gone-newest c.args.pool.now
     (the_view c.self.inside) c.args.request c.self.invariant found keeps d refl in
     rw (c.replace.ensures, own) refl
-
-pub returns-clause-counts : goal.returns-clause-counts
-returns-clause-counts c = λ entries counts.
-    let q = c.args.request in
-    let a = c.put_message-answer.result in
-    let pool = c.args.pool.now in
-    let whole_is = worked-whole q c.requires.turn c.requires.working in
-    let none = ap answer_of c.requires.working in
-    let gone = ap ask_of c.requires.working in
-    let lowest = c.put_message-answer.ensures.place in
-    let full : IsFull (filled a.place c.args.answer pool) a.place =
-    ap is_full (changed_own pool.uses a.place (Full 0) Empty
-    (lowest_at pool a.place lowest).0) in
-    let place : c.entry-reply.result.place ≡ Some a.place =
-    ap (λ e. e.place) c.entry-reply.ensures
-    ∙ late-placed (worked a q) a (q.taken - 1) refl
-    (omega (arith, whole_is, c.requires.turn.some)) in
-    rw (c.hold.ensures, c.put_message-answer.ensures.pool)
-    (counts-placed (filled a.place c.args.answer pool) entries
-    (counts-filled pool entries counts a.place c.args.answer lowest) a.place
-    c.entry-reply.result place full)
 
 pub returns-clause-queued : goal.returns-clause-queued
 returns-clause-queued c = λ entries counted.
@@ -204,3 +107,60 @@ returns-clause-queued c = λ entries counted.
 
 pub overflow_add-request : goal.overflow_add-request
 overflow_add-request c = omega (arith, c.requires.turn.few (ap answer_of c.requires.working))
+
+pub returns-clause-stays : goal.returns-clause-stays
+returns-clause-stays c =
+    let s = the_view c.self.inside in
+    let q = c.args.request in
+    let pool = c.args.pool.now in
+    let a = c.put_message-answer.result in
+    let d = worked a q in
+    let e = c.entry-reply.result in
+    let k = q.taken - 1 in
+    let whole_is = worked-whole q c.requires.turn c.requires.working in
+    let none = ap answer_of c.requires.working in
+    let gone = ap ask_of c.requires.working in
+    let found = rw (← c.self.view_is) at c.requires.found in
+    let keeps = rw (← c.self.view_is) at c.requires.keeps_pool in
+    let lowest = c.put_message-answer.ensures.place in
+    let there = rw c.put_message-answer.ensures.pool at c.put_message-answer.ensures.there in
+    let after : c.hold.new.self ≡ held a.place (filled a.place c.args.answer pool) =
+    c.hold.ensures ∙ ap (held a.place) c.put_message-answer.ensures.pool in
+    let reply : IsReply q.number k (with_slots (gone_on d s.slots) s)
+    (held a.place (filled a.place c.args.answer pool)) e =
+    rw c.entry-reply.ensures (rw (c.replace.ensures, after, c.entry-reply.ensures)
+    at (returns-clause-reply c)) in
+    let mine : IsReplyIn d e =
+    rw c.entry-reply.ensures (record {
+      taken = omega (arith, c.requires.turn.some);
+      there = idle-reply d k refl;
+      place_is = refl;
+    }) in
+    let place : e.place ≡ Some a.place =
+    ap (λ x. x.place) c.entry-reply.ensures
+    ∙ late-placed d a k refl (omega (arith, whole_is, c.requires.turn.some)) in
+    let full : IsFull (filled a.place c.args.answer pool) a.place =
+    ap is_full (changed_own pool.uses a.place (Full 0) Empty (lowest_at pool a.place lowest).0) in
+    rw (c.replace.ensures, after, ← c.self.view_is) (record {
+      places = record {
+        spare = last-spare pool s q q.number keeps found d refl refl (sym gone) none a.place
+            c.args.answer a refl lowest refl;
+        others = last-others pool s q q.number found d refl refl (sym gone) a.place c.args.answer a
+            refl lowest refl;
+        keeps_pool = last-keeps pool s q c.self.invariant found keeps d refl (sym gone) refl a.place
+            c.args.answer a none refl lowest there refl c.put_message-answer.ensures.size
+            c.put_message-answer.ensures.fits;
+      };
+      replies = λ es. record {
+        holds = λ all. answer-holds pool s q c.self.invariant found keeps es all d a.place
+            c.args.answer a k e refl (sym gone) none refl lowest refl
+            (λ x r. worked-more q a x whole_is c.requires.working r) reply place mine;
+        queued = λ all counted. gone-counted s q c.self.invariant found d refl es e refl
+            (ap (λ x. x.owner) c.entry-reply.ensures) counted;
+        counts = λ p. placed-behind (filled a.place c.args.answer pool) e es p a.place place full
+            ∙ ap (λ n. n + mentions p (es ++ e ∷ []))
+            (refs_filled pool a.place p c.args.answer lowest);
+      };
+      served = λ mode_of all. gone-served pool s q c.self.invariant found keeps mode_of d refl refl
+          all;
+    })

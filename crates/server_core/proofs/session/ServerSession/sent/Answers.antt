@@ -1,6 +1,7 @@
-use Rattle.std.proofs.Common.{◌-◌, ap, ◌∙◌}
+use Rattle.std.proofs.Common.{◌-◌, refl, ap, ◌∙◌}
 use Rattle.packet_rings.specs.contracts.entry.Entry.{the_view as entry_view}
 use Rattle.server_core.specs.contracts.session.ServerSession.{the_view}
+use Rattle.server_core.specs.Counting.{left_at}
 use Rattle.server_core.specs.Replies.{is_owner, released_at}
 use Rattle.server_core.proofs.FlushLemmas.{shown-released}
 use Rattle.server_core.proofs.HoldBeginLemmas.{sent-holds}
@@ -17,48 +18,34 @@ invariant_of-self c =
     (is_owner c.self.inside.number c.entry.inside.owner)
     (the_view c.self.inside) c.self.invariant (λ q found turn. less-turn q turn))
 
-pub returns-clause-shown : goal.returns-clause-shown
-returns-clause-shown c =
-    rw (← c.self.view_is, c.release_at.ensures, c.leave.ensures)
-    (shown-released c.args.pool.now c.entry.inside.place _
-    ∙ recount-shown (λ n. n - 1) (is_owner c.self.inside.number c.entry.inside.owner)
-    (the_view c.self.inside) c.args.pool.now)
-
-pub returns-clause-keeps_pool : goal.returns-clause-keeps_pool
-returns-clause-keeps_pool c =
+pub returns : goal.returns
+returns c =
+    let s = the_view c.self.inside in
+    let e = c.args.entry.now in
+    let test = is_owner c.self.inside.number c.entry.inside.owner in
+    let pool = c.args.pool.now in
+    let after = released_at e.place pool in
     let keeps = rw (← c.self.view_is) at c.requires.keeps_pool in
-    rw (c.release_at.ensures, ap (λ e. released_at e.place c.args.pool.now) c.entry.view_is, c.leave.ensures)
-    (recount-keeps (λ n. n - 1) (is_owner c.self.inside.number c.entry.inside.owner)
-    (the_view c.self.inside) (released_at c.args.entry.now.place c.args.pool.now)
-    (keeps-released c.args.pool.now c.args.entry.now.place c.self.inside.slots c.requires.held
-    keeps))
-
-pub returns-clause-holds : goal.returns-clause-holds
-returns-clause-holds c = λ posted passes old new out holds.
-    let keeps = rw (← c.self.view_is) at c.requires.keeps_pool in
-    let before = rw (← c.self.view_is) at holds in
-    let stands = rw (← c.self.view_is) at posted in
-    rw (c.release_at.ensures, ap (λ e. released_at e.place c.args.pool.now) c.entry.view_is, c.leave.ensures)
-    (recount-holds (λ n. n - 1) (is_owner c.self.inside.number c.entry.inside.owner)
-    (the_view c.self.inside) (released_at c.args.entry.now.place c.args.pool.now) new
-    (sent-holds c.args.pool.now (the_view c.self.inside) c.self.invariant keeps passes
-    c.args.entry.now old new out before stands))
-
-pub returns-clause-queued : goal.returns-clause-queued
-returns-clause-queued c = λ posted passes old new out counted.
-    let before = rw (← c.self.view_is) at counted in
-    let stands = rw (← c.self.view_is, ← c.entry.view_is) at posted in
-    let taken = rw (← c.entry.view_is) at out in
-    rw c.leave.ensures (left-counted (the_view c.self.inside)
-    (entry_view c.entry.inside) c.self.invariant passes old new taken before stands)
-
-pub returns-clause-served : goal.returns-clause-served
-returns-clause-served c = λ mode_of all.
-    rw c.leave.ensures (recount-served (λ n. n - 1)
-    (is_owner c.self.inside.number c.entry.inside.owner)
-    (the_view c.self.inside) mode_of (rw (← c.self.view_is) at all))
-
-pub returns-clause-counts : goal.returns-clause-counts
-returns-clause-counts c = λ passes old new out counts.
-    rw (c.release_at.ensures, ap (λ e. released_at e.place c.args.pool.now) c.entry.view_is)
-    (counts-released c.args.pool.now old counts passes c.args.entry.now new out c.requires.held)
+    rw (
+      c.release_at.ensures,
+      ap (λ x. released_at x.place pool) c.entry.view_is,
+      c.leave.ensures,
+      ← c.self.view_is,
+    )
+    (record {
+      session = ap (λ x. left_at x s) c.entry.view_is;
+      same = shown-released pool e.place _ ∙ recount-shown (λ n. n - 1) test s pool;
+      pool = refl;
+      holds = λ posted passes old new out holds. recount-holds (λ n. n - 1) test s after new
+          (sent-holds pool s c.self.invariant keeps passes e old new out holds posted);
+      queued = λ posted passes old new out counted.
+          let taken = rw (← c.entry.view_is) at out in
+          let stands = rw (← c.entry.view_is) at posted in
+          left-counted s (entry_view c.entry.inside) c.self.invariant passes old new taken counted
+          stands;
+      served = λ mode_of all. recount-served (λ n. n - 1) test s mode_of all;
+      counts = λ passes old new out counts.
+          counts-released pool old counts passes e new out c.requires.held;
+      keeps_pool = recount-keeps (λ n. n - 1) test s after
+          (keeps-released pool e.place s.slots c.requires.held keeps);
+    })

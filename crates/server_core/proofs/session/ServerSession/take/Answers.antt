@@ -5,7 +5,7 @@ use Rattle.rpc_outside.specs.declared.service.Mode.TheVariants.{Unserved}
 use Rattle.packet_header.specs.Parts.{packet_count}
 use Rattle.packet_header.proofs.PartsLemmas.{packet_count_most}
 use Rattle.server_core.specs.KeepsPool.{IsAsked, IsKept}
-use Rattle.server_core.specs.Session.{answer_of, IsInTurn, ask_of, is_in_slot, newest}
+use Rattle.server_core.specs.Session.{answer_of, IsInTurn, ask_of, is_in_slot}
 use Rattle.server_core.specs.Shown.{shown}
 use Rattle.server_core.specs.Steps.{bytes_with, gone_on_as, grown}
 use Rattle.server_core.proofs.FlushLemmas.{grew-none}
@@ -13,57 +13,40 @@ use Rattle.server_core.proofs.StepLemmas.{asked-gone, gave-gone, is-inline, is-t
 use Rattle.server_core.proofs.StepLemmas.{more-bytes, more-turn, part-turn, ran-gone, took-gone}
 use Rattle.server_core.proofs.StepLemmas.{taking-by, whole-bytes}
 use Rattle.server_core.proofs.TakeLemmas.{given-turn}
-use Rattle.std.proofs.Common.{append-nil}
-use Rattle.server_core.specs.Counting.{CountsQueued}
 use Rattle.server_core.proofs.session.ServerSession.take.Goals as goal
+use Rattle.server_core.proofs.StaysLemmas.{places-then, stays-then}
 use Rattle.rpc_base.proofs.FirstLemmas.{found-holds}
-use Rattle.buffer_pool.specs.Counting.{Counts}
 
 pub take_next-reply-requires-clause-turn : goal.take_next-reply-requires-clause-turn
 take_next-reply-requires-clause-turn g c =
-    let found : newest c.args.head.now.request c.args.self.now ≡ Some c.in-Some.request =
-    ap (newest c.args.head.now.request) (sym c.self.view_is)
-    ∙ rw c.slot.ensures at (sym c.in-Some.ensures) in
+    let found = sym c.in-Some.ensures in
     let next = rw found at c.requires.next in
     let turn = found-holds (is_in_slot (c.args.head.now.request % 8)) IsInTurn c.args.self.now.slots
     c.in-Some.request c.requires.session.in_turn found in
     let rfr : is_rfr c.args.head.now.kind ≡ true = sym c.is_rfr.ensures ∙ c.if-is_rfr.true in
     more-turn c.in-Some.request turn (rw found at c.requires.can_hold).1 (rw next.in_turn at (next.more rfr).there)
 
-pub returns-then-is_rfr-clause-all_served : goal.returns-then-is_rfr-clause-all_served
-returns-then-is_rfr-clause-all_served g c = c.take_next-reply.ensures.served g.V.Service.mode_of c.requires.all_served
-
 pub take_next-reply-requires-then-from-count-clause-turn : goal.take_next-reply-requires-then-from-count-clause-turn
 take_next-reply-requires-then-from-count-clause-turn g c =
-    let found : newest c.args.head.now.request c.args.self.now ≡ Some c.in-Some.request =
-    ap (newest c.args.head.now.request) (sym c.self.view_is)
-    ∙ rw c.slot.ensures at (sym c.in-Some.ensures) in
+    let found = sym c.in-Some.ensures in
     let turn = found-holds (is_in_slot (c.args.head.now.request % 8)) IsInTurn c.args.self.now.slots
     c.in-Some.request c.requires.session.in_turn found in
     part-turn c.in-Some.request turn (rw found at c.requires.can_hold).1
     (omega (arith, c.if-from-count.true, c.from.ensures, c.count.ensures))
 
-pub returns-then-from-count-clause-all_served : goal.returns-then-from-count-clause-all_served
-returns-then-from-count-clause-all_served g c =
-    c.take_next-reply-then-from-count.ensures.served g.V.Service.mode_of c.requires.all_served
-
 pub get-requires : goal.get-requires
 get-requires g c =
-    let found : newest c.args.head.now.request c.args.self.now ≡ Some c.in-Some.request =
-    ap (newest c.args.head.now.request) (sym c.self.view_is)
-    ∙ rw c.slot.ensures at (sym c.in-Some.ensures) in
+    let found = sym c.in-Some.ensures in
     let kept = found-holds (is_in_slot (c.args.head.now.request % 8))
     (IsKept c.write_part.new.pool) c.args.self.now.slots c.in-Some.request
-    c.write_part.ensures.keeps_pool.kept found in
+    c.write_part.ensures.stays.places.keeps_pool.kept found in
     let asked : IsAsked c.write_part.new.pool c.in-Some.request.size c.in-Some-ask.place =
     rw (sym c.in-Some-ask.ensures) at kept.ask in
     asked.full
 
 pub unreachable-requires-in_default-ask : goal.unreachable-requires-in_default-ask
 unreachable-requires-in_default-ask g c =
-    let found : newest c.args.head.now.request c.args.self.now ≡ Some c.in-Some.request =
-    ap (newest c.args.head.now.request) (sym c.self.view_is)
-    ∙ rw c.slot.ensures at (sym c.in-Some.ensures) in
+    let found = sym c.in-Some.ensures in
     let next = rw found at c.requires.next in
     let part = next.part (sym c.is_rfr.ensures ∙ c.if-is_rfr.false) in
     let turn = found-holds (is_in_slot (c.args.head.now.request % 8)) IsInTurn c.args.self.now.slots
@@ -75,66 +58,20 @@ unreachable-requires-in_default-ask g c =
 
 pub make_room-requires-clause-message : goal.make_room-requires-clause-message
 make_room-requires-clause-message g c =
-    let found : newest c.args.head.now.request c.args.self.now ≡ Some c.in-Some.request =
-    ap (newest c.args.head.now.request) (sym c.self.view_is)
-    ∙ rw c.slot.ensures at (sym c.in-Some.ensures) in
+    let found = sym c.in-Some.ensures in
     let turn = found-holds (is_in_slot (c.args.head.now.request % 8)) IsInTurn c.args.self.now.slots
     c.in-Some.request c.requires.session.in_turn found in
     let kept = found-holds (is_in_slot (c.args.head.now.request % 8))
     (IsKept c.write_part.new.pool) c.args.self.now.slots c.in-Some.request
-    c.write_part.ensures.keeps_pool.kept found in
+    c.write_part.ensures.stays.places.keeps_pool.kept found in
     let asked : IsAsked c.write_part.new.pool c.in-Some.request.size c.in-Some-ask.place =
     rw (sym c.in-Some-ask.ensures) at kept.ask in
     let size = rw c.get.ensures at asked.size_is in
     omega (arith, c.bytes-whole.ensures.len, size.0, turn.size)
 
-pub returns-then-is_rfr-clause-handled : goal.returns-then-is_rfr-clause-handled
-returns-then-is_rfr-clause-handled g c =
-    let found : newest c.args.head.now.request c.args.self.now ≡ Some c.in-Some.request =
-    ap (newest c.args.head.now.request) (sym c.self.view_is)
-    ∙ rw c.slot.ensures at (sym c.in-Some.ensures) in
-    let next = rw found at c.requires.next in
-    let kept = found-holds (is_in_slot (c.args.head.now.request % 8))
-    (IsKept c.args.pool.now) c.args.self.now.slots c.in-Some.request
-    c.requires.keeps_pool.kept found in
-    let rfr : is_rfr c.args.head.now.kind ≡ true = sym c.is_rfr.ensures ∙ c.if-is_rfr.true in
-    let behind : packet_count c.in-Some.request.size ≤ c.in-Some.request.taken =
-    omega (arith, (next.more rfr).behind, next.in_turn) in
-    let joined = more-bytes c.args.pool.now c.in-Some.request c.args.body.now kept behind (next.more rfr).none in
-    record {
-      answer = [];
-      steps = took-gone c.args.pool.now c.args.self.now c.in-Some.request c.args.head.now
-          c.requires.session found next.same c.args.body.now
-          (bytes_with c.args.pool.now c.in-Some.request) joined
-          ∙ ap (λ w. w ∷ []) (sym c.take_next-reply.ensures.shown);
-      by_service = tt;
-      grew = grew-none g.R.Recorder.log c.args.rec.now;
-    }
-
-pub returns-then-from-count-clause-handled : goal.returns-then-from-count-clause-handled
-returns-then-from-count-clause-handled g c =
-    let found : newest c.args.head.now.request c.args.self.now ≡ Some c.in-Some.request =
-    ap (newest c.args.head.now.request) (sym c.self.view_is)
-    ∙ rw c.slot.ensures at (sym c.in-Some.ensures) in
-    let next = rw found at c.requires.next in
-    record {
-      answer = [];
-      steps = took-gone c.args.pool.now c.args.self.now c.in-Some.request c.args.head.now
-          c.requires.session found next.same c.args.body.now
-          (bytes_with c.write_part.new.pool c.in-Some.request) (sym c.write_part.ensures.bytes)
-          ∙ ap (λ w. w ∷ []) (sym (c.take_next-reply-then-from-count.ensures.shown
-          ∙ ap (gone_on_as c.in-Some.request.number
-          (grown (bytes_with c.write_part.new.pool c.in-Some.request)))
-          c.write_part.ensures.shown));
-      by_service = tt;
-      grew = grew-none g.R.Recorder.log c.args.rec.now;
-    }
-
 pub make_room-requires-clause-served : goal.make_room-requires-clause-served
 make_room-requires-clause-served g c =
-    let found : newest c.args.head.now.request c.args.self.now ≡ Some c.in-Some.request =
-    ap (newest c.args.head.now.request) (sym c.self.view_is)
-    ∙ rw c.slot.ensures at (sym c.in-Some.ensures) in
+    let found = sym c.in-Some.ensures in
     let next = rw found at c.requires.next in
     let part = next.part (sym c.is_rfr.ensures ∙ c.if-is_rfr.false) in
     rw part.req_type (found-holds (is_in_slot (c.args.head.now.request % 8))
@@ -143,12 +80,10 @@ make_room-requires-clause-served g c =
 
 pub take_working-ask-requires-clause-kept : goal.take_working-ask-requires-clause-kept
 take_working-ask-requires-clause-kept g c =
-    let found : newest c.args.head.now.request c.args.self.now ≡ Some c.in-Some.request =
-    ap (newest c.args.head.now.request) (sym c.self.view_is)
-    ∙ rw c.slot.ensures at (sym c.in-Some.ensures) in
+    let found = sym c.in-Some.ensures in
     let kept = found-holds (is_in_slot (c.args.head.now.request % 8))
     (IsKept c.write_part.new.pool) c.args.self.now.slots c.in-Some.request
-    c.write_part.ensures.keeps_pool.kept found in
+    c.write_part.ensures.stays.places.keeps_pool.kept found in
     rw (sym c.in-Some-ask.ensures) at kept.ask
 
 pub write_part-requires-clause-taking : goal.write_part-requires-clause-taking
@@ -160,71 +95,14 @@ take_working-ask-requires-clause-taking g c =
 
 pub take_working-ask-requires-clause-size : goal.take_working-ask-requires-clause-size
 take_working-ask-requires-clause-size g c =
-    let found : newest c.args.head.now.request c.args.self.now ≡ Some c.in-Some.request =
-    ap (newest c.args.head.now.request) (sym c.self.view_is)
-    ∙ rw c.slot.ensures at (sym c.in-Some.ensures) in
+    let found = sym c.in-Some.ensures in
     let turn = found-holds (is_in_slot (c.args.head.now.request % 8)) IsInTurn c.args.self.now.slots
     c.in-Some.request c.requires.session.in_turn found in
     turn.size
 
-pub returns-then-is_background-clause-handled : goal.returns-then-is_background-clause-handled
-returns-then-is_background-clause-handled g c =
-    let found : newest c.args.head.now.request c.args.self.now ≡ Some c.in-Some.request =
-    ap (newest c.args.head.now.request) (sym c.self.view_is)
-    ∙ rw c.slot.ensures at (sym c.in-Some.ensures) in
-    let next = rw found at c.requires.next in
-    record {
-      answer = [];
-      steps = gave-gone c.args.pool.now c.args.self.now c.in-Some.request c.args.head.now
-          c.requires.session found next.same c.args.body.now
-          (bytes_with c.write_part.new.pool c.in-Some.request) (sym c.write_part.ensures.bytes)
-          ∙ ap (λ w. w ∷ []) (sym (c.take_working-ask.ensures.shown
-          ∙ ap (gone_on_as c.in-Some.request.number (λ x. given (grown [] x)))
-          c.write_part.ensures.shown));
-      by_service = tt;
-      grew = grew-none g.R.Recorder.log c.args.rec.now;
-    }
-
-pub returns-then-is_background-clause-give : goal.returns-then-is_background-clause-give
-returns-then-is_background-clause-give g c =
-    let found : newest c.args.head.now.request c.args.self.now ≡ Some c.in-Some.request =
-    ap (newest c.args.head.now.request) (sym c.self.view_is)
-    ∙ rw c.slot.ensures at (sym c.in-Some.ensures) in
-    let next = rw found at c.requires.next in
-    let part = next.part (sym c.is_rfr.ensures ∙ c.if-is_rfr.false) in
-    let kept = found-holds (is_in_slot (c.args.head.now.request % 8))
-    (IsKept c.write_part.new.pool) c.args.self.now.slots c.in-Some.request
-    c.write_part.ensures.keeps_pool.kept found in
-    let bytes = bytes_with c.write_part.new.pool c.in-Some.request in
-    let asked = asked-gone c.args.pool.now c.args.self.now c.in-Some.request c.args.head.now
-    c.requires.session found next.same c.args.body.now bytes
-    (sym c.write_part.ensures.bytes) in
-    let ask_is = c.bytes-whole.ensures.message
-    ∙ whole-bytes c.write_part.new.pool c.in-Some.request c.in-Some-ask.place
-    c.get.result.now kept (sym c.in-Some-ask.ensures) c.get.ensures
-    (omega (arith, c.if-from-count.false, c.from.ensures, c.count.ensures)) in
-    let own = whole-bytes c.write_part.new.pool c.in-Some.request c.in-Some-ask.place
-    c.take_working-ask.result kept (sym c.in-Some-ask.ensures)
-    c.take_working-ask.ensures.ask (omega
-    (arith, c.if-from-count.false, c.from.ensures, c.count.ensures)) in
-    rw c.parcel.ensures (record {
-      session = c.take_working-ask.ensures.number;
-      request = refl;
-      req_type = refl;
-      ask = own ∙ sym asked;
-      room = λ served stands. rw (own, ← ask_is) (c.in-Ok.ensures.room served stands);
-      most = c.in-Ok.ensures.message.0;
-    })
-
-pub returns-then-is_background-clause-all_served : goal.returns-then-is_background-clause-all_served
-returns-then-is_background-clause-all_served g c =
-    c.take_working-ask.ensures.served g.V.Service.mode_of c.requires.all_served
-
 pub last_given-given-requires : goal.last_given-given-requires
 last_given-given-requires g c =
-    let found : newest c.args.head.now.request c.args.self.now ≡ Some c.in-Some.request =
-    ap (newest c.args.head.now.request) (sym c.self.view_is)
-    ∙ rw c.slot.ensures at (sym c.in-Some.ensures) in
+    let found = sym c.in-Some.ensures in
     let next = rw found at c.requires.next in
     let part = next.part (sym c.is_rfr.ensures ∙ c.if-is_rfr.false) in
     let turn = found-holds (is_in_slot (c.args.head.now.request % 8)) IsInTurn c.args.self.now.slots
@@ -233,9 +111,7 @@ last_given-given-requires g c =
 
 pub answer_inline-reply-requires-clause-turn : goal.answer_inline-reply-requires-clause-turn
 answer_inline-reply-requires-clause-turn g c =
-    let found : newest c.args.head.now.request c.args.self.now ≡ Some c.in-Some.request =
-    ap (newest c.args.head.now.request) (sym c.self.view_is)
-    ∙ rw c.slot.ensures at (sym c.in-Some.ensures) in
+    let found = sym c.in-Some.ensures in
     let next = rw found at c.requires.next in
     let part = next.part (sym c.is_rfr.ensures ∙ c.if-is_rfr.false) in
     let turn = found-holds (is_in_slot (c.args.head.now.request % 8)) IsInTurn c.args.self.now.slots
@@ -255,9 +131,7 @@ answer_inline-reply-requires-clause-turn g c =
 
 pub answer_inline-reply-requires-clause-inline : goal.answer_inline-reply-requires-clause-inline
 answer_inline-reply-requires-clause-inline g c =
-    let found : newest c.args.head.now.request c.args.self.now ≡ Some c.in-Some.request =
-    ap (newest c.args.head.now.request) (sym c.self.view_is)
-    ∙ rw c.slot.ensures at (sym c.in-Some.ensures) in
+    let found = sym c.in-Some.ensures in
     let next = rw found at c.requires.next in
     let part = next.part (sym c.is_rfr.ensures ∙ c.if-is_rfr.false) in
     let served : g.V.Service.mode_of c.args.head.now.req_type ≢ Unserved =
@@ -273,12 +147,10 @@ answer_inline-reply-requires-clause-found g c =
 
 pub answer_inline-reply-requires-clause-room : goal.answer_inline-reply-requires-clause-room
 answer_inline-reply-requires-clause-room g c =
-    let found : newest c.args.head.now.request c.args.self.now ≡ Some c.in-Some.request =
-    ap (newest c.args.head.now.request) (sym c.self.view_is)
-    ∙ rw c.slot.ensures at (sym c.in-Some.ensures) in
+    let found = sym c.in-Some.ensures in
     let kept = found-holds (is_in_slot (c.args.head.now.request % 8))
     (IsKept c.write_part.new.pool) c.args.self.now.slots c.in-Some.request
-    c.write_part.ensures.keeps_pool.kept found in
+    c.write_part.ensures.stays.places.keeps_pool.kept found in
     let ask_is = c.bytes-whole.ensures.message
     ∙ whole-bytes c.write_part.new.pool c.in-Some.request c.in-Some-ask.place
     c.get.result.now kept (sym c.in-Some-ask.ensures) c.get.ensures
@@ -289,16 +161,157 @@ answer_inline-reply-requires-clause-room g c =
     (arith, c.if-from-count.false, c.from.ensures, c.count.ensures)) in
     λ served stands. rw (c.bytes.ensures.message, own, ← ask_is) (c.in-Ok.ensures.room served stands)
 
-pub returns-clause-handled : goal.returns-clause-handled
-returns-clause-handled g c =
-    let found : newest c.args.head.now.request c.args.self.now ≡ Some c.in-Some.request =
-    ap (newest c.args.head.now.request) (sym c.self.view_is)
-    ∙ rw c.slot.ensures at (sym c.in-Some.ensures) in
+pub returns-clause-taken : goal.returns-clause-taken
+returns-clause-taken g c =
+    let found = sym c.in-Some.ensures in
+    let next = rw found at c.requires.next in
+    let part = next.part (sym c.is_rfr.ensures ∙ c.if-is_rfr.false) in
+    let last : c.in-Some.request.taken + 1 ≡ packet_count c.in-Some.request.size =
+    omega (
+      arith,
+      part.within,
+      next.in_turn,
+      c.if-from-count.false,
+      c.from.ensures,
+      c.count.ensures,
+    ) in
+    let whole : c.args.head.now.number + 1 ≡ packet_count c.args.head.now.size =
+    rw part.size (omega (arith, next.in_turn, last)) in
+    last-inline c.args.mode c.args.head.now (sym c.is_rfr.ensures ∙ c.if-is_rfr.false) whole
+    (sym c.is_background.ensures ∙ c.if-is_background.false)
+
+pub returns-then-is_rfr-clause-leaves : goal.returns-then-is_rfr-clause-leaves
+returns-then-is_rfr-clause-leaves g c =
+    let found = sym c.in-Some.ensures in
+    let next = rw found at c.requires.next in
+    let kept = found-holds (is_in_slot (c.args.head.now.request % 8))
+    (IsKept c.args.pool.now) c.args.self.now.slots c.in-Some.request
+    c.requires.keeps_pool.kept found in
+    let rfr : is_rfr c.args.head.now.kind ≡ true = sym c.is_rfr.ensures ∙ c.if-is_rfr.true in
+    let behind : packet_count c.in-Some.request.size ≤ c.in-Some.request.taken =
+    omega (arith, (next.more rfr).behind, next.in_turn) in
+    let joined = more-bytes c.args.pool.now c.in-Some.request c.args.body.now kept behind (next.more rfr).none in
+    record {
+      handled = record {
+        answer = [];
+        steps = took-gone c.args.pool.now c.args.self.now c.in-Some.request c.args.head.now
+            c.requires.session found next.same c.args.body.now
+            (bytes_with c.args.pool.now c.in-Some.request) joined
+            ∙ ap (λ w. w ∷ []) (sym c.take_next-reply.ensures.shown);
+        by_service = tt;
+        grew = grew-none g.R.Recorder.log c.args.rec.now;
+      };
+      reply = rw (next.in_turn, ← next.same) c.take_next-reply.ensures.reply;
+      give = tt;
+      no_bytes = tt;
+      service = refl;
+      session = tt;
+      pool = tt;
+      all_served = c.take_next-reply.ensures.stays.served g.V.Service.mode_of c.requires.all_served;
+      places = c.take_next-reply.ensures.stays.places;
+    }
+
+pub returns-then-is_rfr-clause-replies : goal.returns-then-is_rfr-clause-replies
+returns-then-is_rfr-clause-replies g c = c.take_next-reply.ensures.stays.replies
+
+pub returns-then-from-count-clause-leaves : goal.returns-then-from-count-clause-leaves
+returns-then-from-count-clause-leaves g c =
+    let found = sym c.in-Some.ensures in
+    let next = rw found at c.requires.next in
+    record {
+      handled = record {
+        answer = [];
+        steps = took-gone c.args.pool.now c.args.self.now c.in-Some.request c.args.head.now
+            c.requires.session found next.same c.args.body.now
+            (bytes_with c.write_part.new.pool c.in-Some.request) (sym c.write_part.ensures.bytes)
+            ∙ ap (λ w. w ∷ []) (sym (c.take_next-reply-then-from-count.ensures.shown
+            ∙ ap (gone_on_as c.in-Some.request.number
+            (grown (bytes_with c.write_part.new.pool c.in-Some.request)))
+            c.write_part.ensures.shown));
+        by_service = tt;
+        grew = grew-none g.R.Recorder.log c.args.rec.now;
+      };
+      reply = rw (next.in_turn, ← next.same) c.take_next-reply-then-from-count.ensures.reply;
+      give = tt;
+      no_bytes = tt;
+      service = refl;
+      session = tt;
+      pool = tt;
+      all_served = c.take_next-reply-then-from-count.ensures.stays.served g.V.Service.mode_of
+          c.requires.all_served;
+      places = places-then c.write_part.ensures.stays.places
+          c.take_next-reply-then-from-count.ensures.stays.places;
+    }
+
+pub returns-then-from-count-clause-replies : goal.returns-then-from-count-clause-replies
+returns-then-from-count-clause-replies g c =
+    let both = stays-then c.write_part.ensures.stays
+    c.take_next-reply-then-from-count.ensures.stays in
+    both.replies
+
+pub returns-then-is_background-clause-leaves : goal.returns-then-is_background-clause-leaves
+returns-then-is_background-clause-leaves g c =
+    let found = sym c.in-Some.ensures in
     let next = rw found at c.requires.next in
     let part = next.part (sym c.is_rfr.ensures ∙ c.if-is_rfr.false) in
     let kept = found-holds (is_in_slot (c.args.head.now.request % 8))
     (IsKept c.write_part.new.pool) c.args.self.now.slots c.in-Some.request
-    c.write_part.ensures.keeps_pool.kept found in
+    c.write_part.ensures.stays.places.keeps_pool.kept found in
+    let bytes = bytes_with c.write_part.new.pool c.in-Some.request in
+    let asked = asked-gone c.args.pool.now c.args.self.now c.in-Some.request c.args.head.now
+    c.requires.session found next.same c.args.body.now bytes
+    (sym c.write_part.ensures.bytes) in
+    let ask_is = c.bytes-whole.ensures.message
+    ∙ whole-bytes c.write_part.new.pool c.in-Some.request c.in-Some-ask.place
+    c.get.result.now kept (sym c.in-Some-ask.ensures) c.get.ensures
+    (omega (arith, c.if-from-count.false, c.from.ensures, c.count.ensures)) in
+    let own = whole-bytes c.write_part.new.pool c.in-Some.request c.in-Some-ask.place
+    c.take_working-ask.result kept (sym c.in-Some-ask.ensures)
+    c.take_working-ask.ensures.ask (omega
+    (arith, c.if-from-count.false, c.from.ensures, c.count.ensures)) in
+    record {
+      handled = record {
+        answer = [];
+        steps = gave-gone c.args.pool.now c.args.self.now c.in-Some.request c.args.head.now
+            c.requires.session found next.same c.args.body.now
+            (bytes_with c.write_part.new.pool c.in-Some.request) (sym c.write_part.ensures.bytes)
+            ∙ ap (λ w. w ∷ []) (sym (c.take_working-ask.ensures.shown
+            ∙ ap (gone_on_as c.in-Some.request.number (λ x. given (grown [] x)))
+            c.write_part.ensures.shown));
+        by_service = tt;
+        grew = grew-none g.R.Recorder.log c.args.rec.now;
+      };
+      reply = tt;
+      give = rw c.parcel.ensures (record {
+        session = c.take_working-ask.ensures.number;
+        request = refl;
+        req_type = refl;
+        ask = own ∙ sym asked;
+        room = λ served stands. rw (own, ← ask_is) (c.in-Ok.ensures.room served stands);
+        most = c.in-Ok.ensures.message.0;
+      });
+      no_bytes = tt;
+      service = refl;
+      session = tt;
+      pool = tt;
+      all_served = c.take_working-ask.ensures.stays.served g.V.Service.mode_of c.requires.all_served;
+      places = places-then c.write_part.ensures.stays.places
+          c.take_working-ask.ensures.stays.places;
+    }
+
+pub returns-then-is_background-clause-replies : goal.returns-then-is_background-clause-replies
+returns-then-is_background-clause-replies g c =
+    let both = stays-then c.write_part.ensures.stays c.take_working-ask.ensures.stays in
+    both.replies
+
+pub returns-clause-leaves : goal.returns-clause-leaves
+returns-clause-leaves g c =
+    let found = sym c.in-Some.ensures in
+    let next = rw found at c.requires.next in
+    let part = next.part (sym c.is_rfr.ensures ∙ c.if-is_rfr.false) in
+    let kept = found-holds (is_in_slot (c.args.head.now.request % 8))
+    (IsKept c.write_part.new.pool) c.args.self.now.slots c.in-Some.request
+    c.write_part.ensures.stays.places.keeps_pool.kept found in
     let bytes = bytes_with c.write_part.new.pool c.in-Some.request in
     let asked = asked-gone c.args.pool.now c.args.self.now c.in-Some.request c.args.head.now
     c.requires.session found next.same c.args.body.now bytes
@@ -316,59 +329,30 @@ returns-clause-handled g c =
     c.write_part.ensures.shown in
     let same = c.bytes.ensures.message ∙ own ∙ sym asked in
     record {
-      answer = answers.answer;
-      steps = ran-gone c.args.pool.now c.args.self.now c.in-Some.request c.args.head.now
-          c.requires.session found next.same c.args.body.now bytes (sym c.write_part.ensures.bytes)
-          answers.answer ∙ ap (λ w. w ∷ []) (sym
-          (answers.shown_is ∙ ap (gone_on_as c.args.head.now.request (answered answers.answer))
-          before));
-      by_service = rw same at answers.by_service;
-      grew = rw (same, c.take_working-ask.ensures.number) at answers.grew;
+      handled = record {
+        answer = answers.answer;
+        steps = ran-gone c.args.pool.now c.args.self.now c.in-Some.request c.args.head.now
+            c.requires.session found next.same c.args.body.now bytes (sym c.write_part.ensures.bytes)
+            answers.answer ∙ ap (λ w. w ∷ []) (sym
+            (answers.shown_is ∙ ap (gone_on_as c.args.head.now.request (answered answers.answer))
+            before));
+        by_service = rw same at answers.by_service;
+        grew = rw (same, c.take_working-ask.ensures.number) at answers.grew;
+      };
+      reply = c.answer_inline-reply.ensures.reply;
+      give = tt;
+      no_bytes = c.answer_inline-reply.ensures.no_bytes;
+      service = tt;
+      session = tt;
+      pool = tt;
+      all_served = c.answer_inline-reply.ensures.stays.served g.V.Service.mode_of
+          (c.take_working-ask.ensures.stays.served g.V.Service.mode_of c.requires.all_served);
+      places = places-then c.write_part.ensures.stays.places (places-then
+          c.take_working-ask.ensures.stays.places c.answer_inline-reply.ensures.stays.places);
     }
 
-pub returns-clause-all_served : goal.returns-clause-all_served
-returns-clause-all_served g c =
-    c.answer_inline-reply.ensures.served g.V.Service.mode_of
-    (c.take_working-ask.ensures.served g.V.Service.mode_of c.requires.all_served)
-
-pub returns-clause-taken : goal.returns-clause-taken
-returns-clause-taken g c =
-    let found : newest c.args.head.now.request c.args.self.now ≡ Some c.in-Some.request =
-    ap (newest c.args.head.now.request) (sym c.self.view_is)
-    ∙ rw c.slot.ensures at (sym c.in-Some.ensures) in
-    let next = rw found at c.requires.next in
-    let part = next.part (sym c.is_rfr.ensures ∙ c.if-is_rfr.false) in
-    let last : c.in-Some.request.taken + 1 ≡ packet_count c.in-Some.request.size =
-    omega (
-      arith,
-      part.within,
-      next.in_turn,
-      c.if-from-count.false,
-      c.from.ensures,
-      c.count.ensures,
-    ) in
-    let whole : c.args.head.now.number + 1 ≡ packet_count c.args.head.now.size =
-    rw part.size (omega (arith, next.in_turn, last)) in
-    last-inline c.args.mode c.args.head.now (sym c.is_rfr.ensures ∙ c.if-is_rfr.false) whole
-    (sym c.is_background.ensures ∙ c.if-is_background.false)
-
-pub returns-then-is_background-clause-counts : goal.returns-then-is_background-clause-counts
-returns-then-is_background-clause-counts g c = λ entries counts.
-    let all : Counts c.take_working-ask.new.pool entries =
-    c.take_working-ask.ensures.counts entries
-    (c.write_part.ensures.counts entries counts) in
-    rw (append-nil entries) all
-
-pub returns-clause-counts : goal.returns-clause-counts
-returns-clause-counts g c = λ entries counts.
-    c.answer_inline-reply.ensures.counts entries
-    (c.take_working-ask.ensures.counts entries (c.write_part.ensures.counts entries counts))
-
-pub returns-then-is_background-clause-queued : goal.returns-then-is_background-clause-queued
-returns-then-is_background-clause-queued g c = λ entries counted.
-    let all : CountsQueued c.take_working-ask.new.self entries = c.take_working-ask.ensures.queued entries counted in
-    rw (append-nil entries) all
-
-pub returns-clause-queued : goal.returns-clause-queued
-returns-clause-queued g c = λ entries counted.
-    c.answer_inline-reply.ensures.queued entries (c.take_working-ask.ensures.queued entries counted)
+pub returns-clause-replies : goal.returns-clause-replies
+returns-clause-replies g c =
+    let all = stays-then c.write_part.ensures.stays
+    (stays-then c.take_working-ask.ensures.stays c.answer_inline-reply.ensures.stays) in
+    all.replies

@@ -1,5 +1,4 @@
 use Rattle.std.proofs.Common.{◌%◌}
-use Rattle.server_core.specs.Counting.{CountsQueued}
 use Rattle.server_core.specs.Session.{IsInTurn, is_in_slot}
 use Rattle.server_core.proofs.QueuedLemmas.{still-counted}
 use Rattle.packet_header.proofs.PartsLemmas.{packet_count_most}
@@ -11,11 +10,13 @@ use Rattle.server_core.proofs.SlotLemmas.{gone-session}
 use Rattle.server_core.proofs.TakeLemmas.{given-keeps, given-shows, given-turn, gone-newest, gone-served}
 use Rattle.server_core.proofs.OtherLemmas.{last-given-others}
 use Rattle.server_core.proofs.SpareLemmas.{last-given-spare, spare-emptied}
-use Rattle.server_core.specs.Flushing.{HoldsAll}
 use Rattle.server_core.proofs.HoldStepLemmas.{given-holds}
 use Rattle.server_core.proofs.session.ServerSession.take_working.Goals as goal
 use Rattle.rpc_base.proofs.FirstLemmas.{found-holds}
-use Rattle.buffer_pool.proofs.CountingLemmas.{counts-emptied}
+use Rattle.std.proofs.Common.{◌+◌}
+use Rattle.packet_rings.specs.Mentions.{mentions}
+use Rattle.buffer_pool.proofs.CountLemmas.{refs_emptied}
+use Rattle.server_core.proofs.StaysLemmas.{replies-still}
 
 pub take-requires : goal.take-requires
 take-requires c = c.requires.kept.full
@@ -47,48 +48,6 @@ returns-clause-shown c =
     (given-shows c.args.pool.now (the_view c.self.inside) c.args.request c.self.invariant found
     keeps c.args.place (ap ask_of c.requires.taking) (ap answer_of c.requires.taking))
 
-pub returns-clause-served : goal.returns-clause-served
-returns-clause-served c = λ mode_of all.
-    let found = rw (← c.self.view_is) at c.requires.found in
-    let keeps = rw (← c.self.view_is) at c.requires.keeps_pool in
-    rw (c.replace.ensures, c.last_given.ensures)
-    (gone-served c.args.pool.now (the_view c.self.inside) c.args.request c.self.invariant found
-    keeps mode_of (last_given c.args.request) refl refl (rw (← c.self.view_is) at all))
-
-pub returns-clause-keeps_pool : goal.returns-clause-keeps_pool
-returns-clause-keeps_pool c =
-    let found = rw (← c.self.view_is) at c.requires.found in
-    let keeps = rw (← c.self.view_is) at c.requires.keeps_pool in
-    rw (c.replace.ensures, c.last_given.ensures, c.in-Ok.ensures.taken.2)
-    (given-keeps c.args.pool.now (the_view c.self.inside) c.args.request c.self.invariant found
-    keeps c.args.place (ap ask_of c.requires.taking) (ap answer_of c.requires.taking))
-
-pub returns-clause-others : goal.returns-clause-others
-returns-clause-others c =
-    let found = rw (← c.self.view_is) at c.requires.found in
-    rw (c.replace.ensures, c.last_given.ensures, c.in-Ok.ensures.taken.2, ← c.self.view_is)
-    (last-given-others c.args.pool.now (the_view c.self.inside) c.args.request c.args.request.number
-    found refl (ap answer_of c.requires.taking) c.args.place (ap ask_of c.requires.taking))
-
-pub returns-clause-spare : goal.returns-clause-spare
-returns-clause-spare c =
-    let found = rw (← c.self.view_is) at c.requires.found in
-    let keeps = rw (← c.self.view_is) at c.requires.keeps_pool in
-    rw (c.replace.ensures, c.last_given.ensures, c.in-Ok.ensures.taken.2, ← c.self.view_is)
-    (last-given-spare c.args.pool.now (the_view c.self.inside) c.args.request c.args.request.number
-    keeps found refl (ap answer_of c.requires.taking) c.args.place (ap ask_of c.requires.taking)
-    c.requires.kept.full)
-
-pub returns-clause-holds : goal.returns-clause-holds
-returns-clause-holds c = λ entries holds.
-    let found = rw (← c.self.view_is) at c.requires.found in
-    let keeps = rw (← c.self.view_is) at c.requires.keeps_pool in
-    let before : HoldsAll (the_view c.self.inside) c.args.pool.now entries = rw (← c.self.view_is) at holds in
-    rw (c.replace.ensures, c.last_given.ensures, c.in-Ok.ensures.taken.2)
-    (given-holds c.args.pool.now (the_view c.self.inside) c.args.request c.self.invariant found
-    keeps entries before c.args.place (ap ask_of c.requires.taking)
-    (ap answer_of c.requires.taking) c.requires.last)
-
 pub returns-clause-newest : goal.returns-clause-newest
 returns-clause-newest c =
     let found = rw (← c.self.view_is) at c.requires.found in
@@ -106,16 +65,30 @@ returns-clause-sound c = invariant_of-self c
 pub last_given-requires : goal.last_given-requires
 last_given-requires c = omega (arith, packet_count_most c.args.request.size c.requires.size, c.requires.last)
 
-pub returns-clause-counts : goal.returns-clause-counts
-returns-clause-counts c = λ entries counts.
-    rw c.in-Ok.ensures.taken.2 (counts-emptied c.args.pool.now entries counts c.args.place
-    c.requires.kept.full c.requires.kept.unnamed)
-
-pub returns-clause-queued : goal.returns-clause-queued
-returns-clause-queued c = λ entries counted.
+pub returns-clause-stays : goal.returns-clause-stays
+returns-clause-stays c =
     let s = the_view c.self.inside in
     let q = c.args.request in
+    let pool = c.args.pool.now in
+    let asked = ap ask_of c.requires.taking in
+    let none = ap answer_of c.requires.taking in
     let found = rw (← c.self.view_is) at c.requires.found in
-    let all : CountsQueued s entries = rw (← c.self.view_is) at counted in
-    rw (c.replace.ensures, c.last_given.ensures)
-    (still-counted s q c.self.invariant found (last_given q) refl entries refl all)
+    let keeps = rw (← c.self.view_is) at c.requires.keeps_pool in
+    rw (c.replace.ensures, c.last_given.ensures, c.in-Ok.ensures.taken.2, ← c.self.view_is) (record {
+      places = record {
+        spare = last-given-spare pool s q q.number keeps found refl none c.args.place asked
+            c.requires.kept.full;
+        others = last-given-others pool s q q.number found refl none c.args.place asked;
+        keeps_pool = given-keeps pool s q c.self.invariant found keeps c.args.place asked none;
+      };
+      replies = λ es. replies-still (record {
+        holds = λ all. given-holds pool s q c.self.invariant found keeps es all c.args.place asked
+            none c.requires.last;
+        queued = λ all counted. still-counted s q c.self.invariant found (last_given q) refl es refl
+            counted;
+        counts = λ p. ap (λ n. n + mentions p es)
+            (refs_emptied pool c.args.place p c.requires.kept.full c.requires.kept.unnamed);
+      });
+      served = λ mode_of all. gone-served pool s q c.self.invariant found keeps mode_of
+          (last_given q) refl refl all;
+    })

@@ -5,6 +5,7 @@ use Rattle.server_core.proofs.TakeLemmas.{own-beside, part-bytes, part-fits, par
 use Rattle.server_core.proofs.OtherLemmas.{part-others}
 use Rattle.server_core.proofs.HoldStepLemmas.{uses-hold}
 use Rattle.server_core.proofs.session.ServerSession.write_part.Goals as goal
+use Rattle.server_core.proofs.StaysLemmas.{replies-still}
 
 pub get_mut-requires-clause-full : goal.get_mut-requires-clause-full
 get_mut-requires-clause-full c =
@@ -43,21 +44,22 @@ returns-clause-bytes c =
     c.args.place c.get_mut.result.now (ap ask_of c.requires.taking) c.get_mut.ensures.buffer
     c.requires.within c.requires.long)
 
-pub returns-clause-keeps_pool : goal.returns-clause-keeps_pool
-returns-clause-keeps_pool c =
-    rw (c.write.ensures, c.from-at.ensures) (part-keeps c.args.pool.now c.args.self.now
-    c.args.request.now c.requires.session c.requires.found c.requires.keeps_pool c.args.body.now
-    c.args.place c.get_mut.result.now (ap ask_of c.requires.taking) c.get_mut.ensures.buffer
-    c.requires.within c.requires.long)
-
-pub returns-clause-others : goal.returns-clause-others
-returns-clause-others c =
-    part-others c.args.pool.now c.args.self.now c.args.request.now c.args.request.now.number
-    c.requires.found c.args.place (ap ask_of c.requires.taking) c.write.new.self
-
-pub returns-clause-holds : goal.returns-clause-holds
-returns-clause-holds c = λ entries holds.
-    uses-hold c.args.pool.now _ c.args.self.now c.requires.keeps_pool refl entries holds
-
-pub returns-clause-counts : goal.returns-clause-counts
-returns-clause-counts c = λ entries counts. counts
+pub returns-clause-stays : goal.returns-clause-stays
+returns-clause-stays c = record {
+  places = record {
+    spare = refl;
+    others = part-others c.args.pool.now c.args.self.now c.args.request.now
+        c.args.request.now.number c.requires.found c.args.place (ap ask_of c.requires.taking)
+        c.write.new.self;
+    keeps_pool = rw (c.write.ensures, c.from-at.ensures) (part-keeps c.args.pool.now
+        c.args.self.now c.args.request.now c.requires.session c.requires.found
+        c.requires.keeps_pool c.args.body.now c.args.place c.get_mut.result.now
+        (ap ask_of c.requires.taking) c.get_mut.ensures.buffer c.requires.within c.requires.long);
+  };
+  replies = λ es. replies-still (record {
+    holds = λ all. uses-hold c.args.pool.now _ c.args.self.now c.requires.keeps_pool refl es all;
+    queued = λ all counted. counted;
+    counts = λ p. refl;
+  });
+  served = λ mode_of all. all;
+}
