@@ -25,6 +25,11 @@ use Rattle.session_store.specs.declared.stage.Stage.{Stage}
 use Rattle.session_store.specs.declared.stage.Stage.TheVariants.{Connecting, Connected, Closing, Closed}
 use Rattle.session_store.specs.declared.stage.Stage.TheVariants.{Failed, Broken}
 use Rattle.session_store.specs.Changes.{ChangesAt}
+use Rattle.session_store.specs.Leaving.{ChangesCalls}
+use Rattle.session_store.specs.Joined.{joined, shown_with, undue}
+use Rattle.pacing_wheel.specs.Wheel.{Wheel}
+use Rattle.session_store.proofs.ChangesLemmas.{changes-calls}
+use Rattle.session_store.proofs.UndueLemmas.{flat}
 use Rattle.session_store.specs.Effects.{SideWaits, asking_in}
 use Rattle.session_store.specs.Ends.{shown_end}
 use Rattle.session_store.specs.Sides.{HasSlots, IsOf, IsOfOwner, IsOfSide, Kept, Shown, SideAscends}
@@ -158,14 +163,6 @@ module _ (pool : Pool) (sides : List Side) (servers : List Serving) (tx : Ring E
   clients-ask w now (Ok u) kept above h = asked-clients w now kept above h
   clients-ask w now (Err e) kept above h = tt
 
-  pub handed-ask : {E : Type 0} (w : Waiting) (now : List Side) (r : Result (Unit {0}) E)
-      → Kept pool sides servers tx → IfSome (slice_get seen.clients i)
-      (λ x. AllByRecursion (λ c. c.what.number < w.call) x.calls) → OnOk r (SideWaits i w sides now)
-      → OnOk r (HandsInAt i (handed_waiting w) (map (side_handed pool) sides)
-      (map (side_handed pool) now))
-  handed-ask w now (Ok u) kept above h = asked-handed w now kept above h
-  handed-ask w now (Err e) kept above h = tt
-
 pub side-waits : {E : Type 0} (i : ℕ) (w : Waiting) (sides : List Side) (side : Side)
     (later : Session) → slice_get sides i ≡ Some side → (r : Result (Unit {0}) E)
     → OnOk r (later ≡ enqueued w side.session)
@@ -271,9 +268,22 @@ module _ (pool : Pool) (sides now : List Side) (servers : List Serving) (i : ℕ
       ) in
       omega (arith, same)
 
-  pub places-ask : {E : Type 0} (r : Result (Unit {0}) E) → OnOk r (SideWaits i w sides now)
-      → OnErr r (now ≡ sides)
-      → spare_of pool + places_in now + served_places servers
-      ≡ spare_of pool + places_in sides + served_places servers
-  places-ask (Ok u) h same = asked-places h
-  places-ask (Err e) h same = rw same refl
+-- the call waits, and nothing else changed
+pub calls-ask : {E : Type 0} (pool : Pool) (sides now : List Side) (servers : List Serving)
+    (tx : Ring EntryValue) (paced : Wheel) (seen : Shown)
+    (view : shown_with pool sides servers tx paced ≡ seen) (i : ℕ)
+    (connected : state_of (slice_get seen.clients i) ≡ SessionState.Connected) (w : Waiting)
+    (r : Result (Unit {0}) E) → Kept pool sides servers (joined tx paced)
+    → IfSome (slice_get seen.clients i)
+    (λ x. AllByRecursion (λ c. c.what.number < w.call) x.calls) → OnOk r (SideWaits i w sides now)
+    → OnOk r (ChangesCalls (ChangesAt i (asks (asking_in w))) (HandsInAt i (handed_waiting w)) seen
+    (shown_with pool now servers tx paced))
+calls-ask pool sides now servers tx paced seen view i connected w (Ok u) kept above h =
+    let look = flat pool sides servers tx paced seen view in
+    changes-calls pool pool sides now servers servers tx tx paced paced seen view
+    (ChangesAt i (asks (asking_in w)))
+    (asked-clients pool sides servers (joined tx paced) i (undue seen) look connected w now kept
+    above h) refl (asked-places pool sides now servers i w h) (HandsInAt i (handed_waiting w))
+    (asked-handed pool sides servers (joined tx paced) i (undue seen) look connected w now kept
+    above h) refl refl
+calls-ask pool sides now servers tx paced seen view i connected w (Err e) kept above h = tt

@@ -8,20 +8,19 @@ use Rattle.std.specs.List.{AllByRecursion, filter}
 use Rattle.std.proofs.lemmas.List.Elements.{filter-append}
 use Rattle.std.proofs.lemmas.List.Sums.{sum_by-append}
 use Rattle.rpc_base.specs.Owners.{same_owner}
-use Rattle.rpc_base.specs.declared.fact.Fact.{Fact}
 use Rattle.rpc_base.specs.declared.fact.Who.{Who}
 use Rattle.rpc_base.specs.declared.fact.Who.TheVariants.{Node}
 use Rattle.rpc_base.specs.declared.event.Event.TheVariants.{Flushed}
 use Rattle.rpc_base.specs.declared.owner.Owner.{Owner}
 use Rattle.rpc_base.specs.declared.owner.Owner.TheVariants.{Ask, Reply, Control}
 use Rattle.rpc_base.proofs.FirstLemmas.{all-each, counted-cons}
-use Rattle.buffer_pool.specs.Counting.{Counts}
 use Rattle.buffer_pool.specs.Pool.{Pool, refs_of}
 use Rattle.packet_header.specs.declared.packet.MessageHeader.{MessageHeader}
 use Rattle.packet_rings.specs.Entries.{is_not_of, is_of, is_reply, is_reply_owner}
 use Rattle.packet_rings.specs.Mentions.{is_place}
 use Rattle.packet_rings.specs.Rings.{Ring, ring}
 use Rattle.packet_rings.specs.Values.{EntryValue}
+use Rattle.packet_rings.proofs.MentionsLemmas.{mentions-append}
 use Rattle.pacing_wheel.specs.declared.pacer.Paced.{Paced}
 use Rattle.pacing_wheel.specs.Wheel.{entry_of}
 use Rattle.rpc_laws.specs.Queues.{numbers_of, put_queued}
@@ -29,8 +28,7 @@ use Rattle.rpc_laws.specs.declared.rows.ServerRow.{ServerRow}
 use Rattle.rpc_laws.specs.declared.tables.Queued.{Queued}
 use Rattle.rpc_laws.specs.declared.tables.Served.{Served as ServedRequest}
 use Rattle.rpc_outside.specs.Recording.{Grew, Log}
-use Rattle.rpc_outside.specs.Served.{Served}
-use Rattle.rpc_outside.specs.declared.service.Mode.{Mode}
+use Rattle.rpc_outside.specs.declared.service.Service as Service
 use Rattle.server_core.specs.declared.slot.SlotRequest.{SlotRequest}
 use Rattle.server_core.specs.declared.slot.Stored.{Stored}
 use Rattle.server_core.specs.declared.step.Step.{Step}
@@ -38,7 +36,9 @@ use Rattle.server_core.specs.Counting.{CountsQueued}
 use Rattle.server_core.specs.Flushing.{HoldsAll, HoldsReplies, bare, flushed_facts, flushes, has_begun}
 use Rattle.server_core.specs.Flushing.{is_reply_of, named_by, replies_of}
 use Rattle.server_core.specs.Flushing.{without_replies}
-use Rattle.server_core.specs.Noting.{step_facts}
+use Rattle.server_core.specs.Handling.{Handles}
+use Rattle.server_core.specs.Keeping.{KeepsReplies}
+use Rattle.server_core.specs.Noting.{packet_facts, step_facts}
 use Rattle.server_core.specs.Rows.{row_of}
 use Rattle.server_core.specs.Session.{Session as Serving, answer_of, newest, owner_of}
 use Rattle.server_core.specs.Steps.{asked_with}
@@ -46,7 +46,7 @@ use Rattle.server_core.specs.Shown.{shown as shown_server, shown_request}
 use Rattle.session_store.specs.Effects.{ServerStep}
 use Rattle.session_store.specs.Joined.{paced_of, put_ready}
 use Rattle.session_store.specs.Queue.{is_owned}
-use Rattle.session_store.specs.Serving.{Handles, without_owned}
+use Rattle.session_store.specs.Serving.{without_owned}
 use Rattle.session_store.specs.Sides.{ServerHolds, ServerQueued, queued_of}
 use Rattle.session_store.proofs.JoinLemmas.{queue-behind}
 use Rattle.session_store.proofs.ServeLemmas.{seen-after, served-same}
@@ -215,67 +215,79 @@ flushes-calls row step who n o xs ps calls = by (has_begun row step) o
 abbrev pub beside : List EntryValue → Ring EntryValue → Ring EntryValue
 beside ps r = ring (r.items ++ ps) r.size
 
--- so the packet is handled over all of them
-module _ {R : Type 0} (log : R → Log) (mode : Mode)
-    (jobs_full : Bool) (me i : ℕ) (h : MessageHeader) (body : List ℕ)
-    (answer_of : Served → ℕ → List ℕ → List ℕ) (stands then_stands : Served → Type 0)
-    (noted_before noted_now : R) (step : Step) (old new : Ring EntryValue) (pool after : Pool)
-    (ps : List EntryValue) (calls : Calls ps) where
-  pub beside-one : (v w : Serving) → Handles log mode jobs_full (Node me) h body answer_of
-      stands then_stands noted_before noted_now step old new v w pool after
-      → Handles log mode jobs_full (Node me) h body answer_of stands then_stands
-      noted_before noted_now step (beside ps old) (beside ps new) v w pool after
-  beside-one v w g =
-      let row = row_of mode jobs_full h v in
-      let older = newest h.request v in
-      let server = shown_server pool v in
+-- so the replies are kept among all of them
+beside-replies : {v w : Serving} {pool after : Pool} (old new ps rs : List EntryValue) → Calls ps
+    → KeepsReplies old (new ++ rs) v w pool after
+    → KeepsReplies (old ++ ps) ((new ++ ps) ++ rs) v w pool after
+beside-replies {v} {w} {pool} {after} old new ps rs calls keeps = record {
+  holds = λ all. holds-amid w after new ps rs calls
+      (keeps.holds (holds-ready v pool old ps calls all));
+  queued = λ all counted. queued-amid w new ps rs calls
+      (keeps.queued (holds-ready v pool old ps calls all) (queued-ready v old ps calls counted));
+  counts = λ p. omega (
+    arith,
+    keeps.counts p,
+    mentions-append p old ps,
+    mentions-append p (new ++ ps) rs,
+    mentions-append p new ps,
+    mentions-append p new rs,
+  );
+}
+
+-- and the packet is handled over all of them
+module _ {V R : Type 0} {v : Service.Ghosts V} {log : R → Log} {jobs_full : Bool} {me : ℕ}
+    {h : MessageHeader} {body : List ℕ} {step : Step} {pool after : Pool} {old new : Ring EntryValue}
+    {serving then_serving : V} {rec then_rec : R} (ps : List EntryValue) (calls : Calls ps) where
+  pub beside-one : (s w : Serving) → Handles v log packet_facts jobs_full (Node me) h body step s w
+      pool after old new serving then_serving rec then_rec
+      → Handles v log packet_facts jobs_full (Node me) h body step s w pool after (beside ps old)
+      (beside ps new) serving then_serving rec then_rec
+  beside-one s w g =
+      let row = row_of (v.mode_of h.req_type) jobs_full h s in
+      let older = newest h.request s in
+      let server = shown_server pool s in
       record {
         row = g.row;
         rule = g.rule;
         lacks = g.lacks;
         ring_is = ap (λ (r : Ring EntryValue). beside ps r) g.ring_is
             ∙ ap (λ es. ring es old.size)
-            (after-calls v.number older old.items ps (has_begun row step) calls);
-        handled = record {
-          answer = g.handled.answer;
-          steps = g.handled.steps;
-          by_service = g.handled.by_service;
-          grew = subst (λ fs. Grew (log noted_before) (log noted_now) (fs
-              ++ step_facts (Node me) v.number h (asked_with h body server) g.handled.answer step))
-              (flushes-calls row step (Node me) v.number older old.items ps calls) g.handled.grew;
+            (after-calls s.number older old.items ps (has_begun row step) calls);
+        leaves = record {
+          handled = record {
+            answer = g.leaves.handled.answer;
+            steps = g.leaves.handled.steps;
+            by_service = g.leaves.handled.by_service;
+            grew = subst (λ fs. Grew (log rec) (log then_rec) (fs ++ step_facts (Node me) s.number h
+                (asked_with h body server) g.leaves.handled.answer step))
+                (flushes-calls row step (Node me) s.number older old.items ps calls)
+                g.leaves.handled.grew;
+          };
+          reply = g.leaves.reply;
+          give = g.leaves.give;
+          no_bytes = g.leaves.no_bytes;
+          service = g.leaves.service;
+          session = g.leaves.session;
+          pool = g.leaves.pool;
+          all_served = g.leaves.all_served;
+          places = g.leaves.places;
         };
-        by_rule = λ own who answer unless.
-            sym (ap (λ fs. fs ++ step_facts (Node who) v.number h (asked_with h body server) answer
-            step) (flushes-calls row step (Node who) v.number older old.items ps calls))
-            ∙ g.by_rule own who answer unless
-            ∙ served-same mode who answer (map queued_of old.items)
+        facts = λ own who answer unless.
+            sym (ap (λ fs. fs ++ step_facts (Node who) s.number h (asked_with h body server) answer
+            step) (flushes-calls row step (Node who) s.number older old.items ps calls))
+            ∙ g.facts own who answer unless
+            ∙ served-same (v.mode_of h.req_type) who answer (map queued_of old.items)
             (map queued_of (old.items ++ ps)) server h body
-            (λ r. numbers-calls v.number r old.items ps calls) row;
-        reply = g.reply;
-        give = g.give;
-        sound = g.sound;
-        spare = g.spare;
-        leaves = g.leaves;
-        holds = λ all. holds-amid w after new.items ps (replies_of step) calls
-            (g.holds (holds-ready v pool old.items ps calls all));
-        queued = λ all counted. queued-amid w new.items ps (replies_of step) calls
-            (g.queued (holds-ready v pool old.items ps calls all)
-            (queued-ready v old.items ps calls counted));
-        counts = λ others counted.
-            subst (λ es. Counts after (es ++ replies_of step))
-            (sym (append_assoc new.items ps others))
-            (g.counts (ps ++ others)
-            (subst (λ es. Counts pool es) (append_assoc old.items ps others) counted));
-        keeps = g.keeps;
+            (λ r. numbers-calls s.number r old.items ps calls) row;
+        replies = beside-replies old.items new.items ps (replies_of step) calls g.replies;
       }
 
-  abbrev pub beside-step : (servers now : List Serving)
-      → ServerStep i (λ v w. Handles log mode jobs_full (Node me) h body answer_of stands
-      then_stands noted_before noted_now step old new v w pool after) servers now
-      → ServerStep i (λ v w. Handles log mode jobs_full (Node me) h body answer_of stands
-      then_stands noted_before noted_now step (beside ps old) (beside ps new) v w pool after) servers
-      now
-  beside-step servers now g = record {
+  abbrev pub beside-step : {i : ℕ} {servers now : List Serving}
+      → ServerStep i (λ s w. Handles v log packet_facts jobs_full (Node me) h body step s w pool
+      after old new serving then_serving rec then_rec) servers now
+      → ServerStep i (λ s w. Handles v log packet_facts jobs_full (Node me) h body step s w pool
+      after (beside ps old) (beside ps new) serving then_serving rec then_rec) servers now
+  beside-step g = record {
     server = g.server;
     at = g.at;
     later = g.later;

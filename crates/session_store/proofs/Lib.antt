@@ -1,6 +1,7 @@
 mod ActLemmas
 pub mod AscendsLemmas
 mod BesideLemmas
+mod ChangesLemmas
 mod EndLemmas
 mod EndingLemmas
 mod GoneLemmas

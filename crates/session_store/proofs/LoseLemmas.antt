@@ -221,6 +221,10 @@ module _ (pool : Pool) (sides : List Side) (servers : List Serving) (tx : Ring E
     pub breaks-kept : Kept pool (slice_set sides i broken) servers tx
     breaks-kept = client-kept pool pool sides servers i side broken tx tx at kept breaks-acts
 
+    pub breaks-places : spare_of pool + places_in (slice_set sides i broken) + served_places servers
+        ≡ spare_of pool + places_in sides + served_places servers
+    breaks-places = client-places pool pool sides servers i side broken tx tx at kept breaks-acts
+
     pub breaks-handed : map (side_handed pool) (slice_set sides i broken) ≡ map (side_handed pool) sides
     breaks-handed = handed-kept pool pool sides servers i side broken tx tx at kept breaks-acts refl
 

@@ -313,14 +313,14 @@ module _ (pool after : Pool) (sides : List Side) (servers now : List Serving) (t
       record {
         acts = record {
           leaves = reply-leaves;
-          few = h.step.keeps.apart;
+          few = h.step.keeps_pool.apart;
           counts = h.step.counts passes tx.items left out kept.counted;
           beside = rest-taken (λ d. is_reply_of h.server.number d.owner) passes e tx.items left out
               (rw its-owner (eq-eqb h.server.number h.server.number refl));
           within = omega (arith, kept.within, fewer);
           size = refl;
         };
-        keeps = h.step.keeps;
+        keeps = h.step.keeps_pool;
         number = ap (λ (x : Serving). x.number) h.step.session;
         stands = ends-all sides servers h.place h.server h.later h.at
             (ap (λ (x : Serving). x.number) h.step.session)

@@ -24,7 +24,7 @@ use Rattle.packet_rings.specs.Values.{EntryValue}
 use Rattle.packet_rings.proofs.MentionsLemmas.{mentions-le-length}
 use Rattle.rpc_laws.specs.Requests.{in_slot_of}
 use Rattle.rpc_base.specs.declared.event.Event.TheVariants.{Flushed}
-use Rattle.rpc_base.proofs.PlaceLemmas.{all-at, get-map}
+use Rattle.rpc_base.proofs.PlaceLemmas.{all-at, get-map, set-here}
 use Rattle.rpc_laws.specs.Facts.{plain}
 use Rattle.rpc_laws.specs.Queues.{numbers_of}
 use Rattle.rpc_laws.specs.ServerTable.{flushes, served_facts, took_facts}
@@ -36,6 +36,7 @@ use Rattle.rpc_laws.specs.declared.tables.Server.{Server}
 use Rattle.rpc_outside.specs.Recording.{Grew, Log}
 use Rattle.rpc_outside.specs.Served.{Served}
 use Rattle.rpc_outside.specs.declared.service.Mode.{Mode}
+use Rattle.rpc_outside.specs.declared.service.Service as Service
 use Rattle.rpc_outside.specs.declared.service.Mode.TheVariants.{Unserved}
 use Rattle.client_core.proofs.ShownLemmas.{found-shown}
 use Rattle.server_core.specs.declared.slot.SlotRequest.{SlotRequest}
@@ -43,10 +44,11 @@ use Rattle.server_core.specs.declared.slot.Stored.{Stored}
 use Rattle.server_core.specs.declared.step.Step.{Step}
 use Rattle.server_core.specs.declared.step.Step.TheVariants.{Took, Again, Ran, Give, Dropped}
 use Rattle.server_core.specs.Flushing.{has_begun, is_reply_of, replies_of, without_replies}
+use Rattle.server_core.specs.Handling.{Handles}
 use Rattle.server_core.specs.Noting.{packet_facts}
 use Rattle.server_core.specs.Replies.{CanHold}
 use Rattle.server_core.specs.Rows.{row_of}
-use Rattle.server_core.specs.Session.{Session as Serving, answer_of, is_in_slot, newest, owner_of}
+use Rattle.server_core.specs.Session.{IsSession, Session as Serving, answer_of, is_in_slot, newest, owner_of}
 use Rattle.server_core.specs.Shown.{shown as shown_server, shown_request}
 use Rattle.server_core.specs.Steps.{AreServed, IfReply, IsReply, IsStepOf, asked_with}
 use Rattle.server_core.proofs.FlushLemmas.{ring-room}
@@ -55,7 +57,7 @@ use Rattle.session_store.specs.declared.side.Side.{Side}
 use Rattle.session_store.specs.Effects.{ServerStep}
 use Rattle.session_store.specs.Joined.{put_ready}
 use Rattle.session_store.specs.Queue.{is_owned}
-use Rattle.session_store.specs.Serving.{AreServedAt, Handles, HandlesAt, ServerCanHold}
+use Rattle.session_store.specs.Serving.{AreServedAt, HandlesAt, ServerCanHold}
 use Rattle.session_store.specs.Serving.{IsReplyOf, ServerServed, handled_facts, queue_handled}
 use Rattle.session_store.specs.Serving.{row_at, without_owned}
 use Rattle.session_store.specs.Sides.{IsOf, Kept, ServerHolds, ServerQueued, Shown, places_in}
@@ -259,14 +261,16 @@ seen-served pool mode_of [] all = tt
 seen-served pool mode_of (q ∷ qs) all = (all.0, seen-served pool mode_of qs all.1)
 
 -- server session i handled a packet
-module _ {R : Type 0} (log : R → Log) (mode : Mode)
-    (jobs_full : Bool) (me i : ℕ) (h : MessageHeader) (body : List ℕ)
-    (answer_of : Served → ℕ → List ℕ → List ℕ) (stands then_stands : Served → Type 0)
-    (noted_before noted_now : R) (step : Step) (old new : Ring EntryValue) (pool after : Pool)
-    (sides : List Side) (servers now : List Serving) (kept : Kept pool sides servers old)
+module _ {V R : Type 0} {v : Service.Ghosts V} {log : R → Log} {jobs_full : Bool} {me i : ℕ}
+    {h : MessageHeader} {body : List ℕ} {step : Step} {old new : Ring EntryValue}
+    {pool after : Pool} {serving then_serving : V} {rec then_rec : R} {sides : List Side}
+    {servers now : List Serving} (kept : Kept pool sides servers old)
     (has-room : length old.items < old.size)
-    (g : ServerStep i (λ v w. Handles log mode jobs_full (Node me) h body answer_of stands
-    then_stands noted_before noted_now step old new v w pool after) servers now) where
+    (g : ServerStep i (λ x w. Handles v log packet_facts jobs_full (Node me) h body step x w pool
+    after old new serving then_serving rec then_rec) servers now) (sound : IsSession g.later) where
+  abbrev mode : Mode
+  mode = v.mode_of h.req_type
+
   abbrev row : ServerRow
   row = row_of mode jobs_full h g.server
 
@@ -281,7 +285,7 @@ module _ {R : Type 0} (log : R → Log) (mode : Mode)
 
   same-way : (shown_server after g.later).way ≡ (shown_server pool g.server).way
   same-way = way-of h body (shown_server pool g.server)
-      (shown_server after g.later) step g.step.handled.answer g.step.handled.steps
+      (shown_server after g.later) step g.step.leaves.handled.answer g.step.leaves.handled.steps
 
   same-number : g.later.number ≡ g.server.number
   same-number = ap (λ w. w.number) same-way
@@ -300,7 +304,7 @@ module _ {R : Type 0} (log : R → Log) (mode : Mode)
 
   one-most : length (replies_of step) ≤ 1
   one-most = for-replies (IsReply h.request h.number g.later after) (λ rs. length rs ≤ 1)
-      (omega arith) (λ e is. omega arith) step g.step.reply
+      (omega arith) (λ e is. omega arith) step g.step.leaves.reply
 
   beside-then : rest (own_entry g.server.number) (new.items ++ replies_of step)
       ≡ rest (own_entry g.server.number) old.items
@@ -312,7 +316,7 @@ module _ {R : Type 0} (log : R → Log) (mode : Mode)
       (λ e is. rest-push (own_entry g.server.number) new.items e
       (own-reply g.server.number h.request e.owner
       (is.owner ∙ ap (λ n. Reply n h.request) same-number)))
-      step g.step.reply
+      step g.step.leaves.reply
       ∙ ap (λ xs. rest (own_entry g.server.number) xs) items-are ∙ rest-after g.server.number older old.items begins
 
   stands-then : AllByRecursion (IsOf sides (slice_set servers i g.later)) (new.items ++ replies_of step)
@@ -327,29 +331,27 @@ module _ {R : Type 0} (log : R → Log) (mode : Mode)
       (subst (λ xs. AllByRecursion (IsOf sides (slice_set servers i g.later)) xs) (sym (append-nil new.items)) left)
       (λ e is. all-push (IsOf sides (slice_set servers i g.later)) new.items e left
       (new-stands sides servers i h.request g.server g.later e g.at is.owner is.peer))
-      step g.step.reply
+      step g.step.leaves.reply
 
   serve-acts : ServerActs pool after sides servers i g.server g.later old final
   serve-acts =
       let holds = all-at (ServerHolds pool old.items) servers i g.server kept.holds g.at in
       record {
         acts = record {
-          leaves = g.step.leaves;
-          few = g.step.keeps.apart;
-          counts = subst (λ es. Counts after (es ++ replies_of step)) (append-nil new.items)
-              (g.step.counts [] (subst (λ es. Counts pool es) (sym (append-nil old.items))
-              kept.counted));
+          leaves = g.step.leaves.places.others;
+          few = g.step.leaves.places.keeps_pool.apart;
+          counts = λ p. omega (arith, g.step.replies.counts p, kept.counted p);
           beside = beside-then;
           within = omega (arith, new-room, one-most, length-append new.items (replies_of step));
           size = size-is;
         };
-        keeps = g.step.keeps;
+        keeps = g.step.leaves.places.keeps_pool;
         number = same-number;
         stands = stands-then;
-        holds = g.step.holds holds;
-        queued = g.step.queued holds (all-at (ServerQueued old.items) servers i g.server kept.replies g.at);
-        served = places-most g.later g.step.sound;
-        spare = g.step.spare;
+        holds = g.step.replies.holds holds;
+        queued = g.step.replies.queued holds (all-at (ServerQueued old.items) servers i g.server kept.replies g.at);
+        served = places-most g.later sound;
+        spare = g.step.leaves.places.spare;
       }
 
   pub serve-kept : Kept after sides now final
@@ -403,12 +405,12 @@ module _ {R : Type 0} (log : R → Log) (mode : Mode)
       → ((r : ℕ) → numbers_of (Reply g.server.number r) (map queued_of old.items)
       ≡ numbers_of (Reply g.server.number r) before.queued)
       → then.queued ≡ queue_handled (row_at mode jobs_full false h server_seen) step server_seen h
-      before.queued → HandlesAt log mode jobs_full me i h body answer_of stands then_stands
-      noted_before noted_now step before then
+      before.queued → HandlesAt log mode jobs_full me i h body v.answer (v.stands serving)
+      (v.stands then_serving) rec then_rec step before then
   serve-at session before then view later-view numbers queue =
-      let done = g.step.handled in
+      let done = g.step.leaves.handled in
       let ruled = facts-same me mode g.server old.items row h body (asked_with h body server_seen)
-      done.answer server_seen step (g.step.by_rule session me done.answer) in
+      done.answer server_seen step (g.step.facts session me done.answer) in
       let noted = ruled ∙ ap (λ r. handled_facts me
       (served_facts mode me done.answer (map queued_of old.items)
       (Some server_seen) h body r) step) row-seen
@@ -426,10 +428,10 @@ module _ {R : Type 0} (log : R → Log) (mode : Mode)
           answer = done.answer;
           steps = done.steps;
           by_service = done.by_service;
-          grew = subst (λ fs. Grew (log noted_before) (log noted_now) fs) noted done.grew;
+          grew = subst (λ fs. Grew (log rec) (log then_rec) fs) noted done.grew;
         };
-        reply = reply-own step g.step.reply;
-        give = g.step.give;
+        reply = reply-own step g.step.leaves.reply;
+        give = g.step.leaves.give;
         changed = sym later-view ∙ ap (map (shown_server after)) g.changed
             ∙ servers-set pool after sides servers i g.server g.later old final g.at kept
             serve-acts ∙ ap (λ vs. slice_set vs i (shown_server after g.later)) view;
@@ -442,6 +444,12 @@ module _ {R : Type 0} (log : R → Log) (mode : Mode)
   pub final-one : (e : EntryValue) → replies_of step ≡ e ∷ []
       → final ≡ ring (new.items ++ e ∷ []) new.size
   final-one e is = ap (λ rs. ring (new.items ++ rs) new.size) is
+
+-- what stands at its place then
+pub later-is : {Made : Serving → Serving → Type 0} {i : ℕ} {servers now : List Serving}
+    (g : ServerStep i Made servers now) → slice_get now i ≡ Some g.later
+later-is {i = i} {servers = servers} g =
+    ap (λ vs. slice_get vs i) g.changed ∙ set-here servers i g.server g.later g.at
 
 -- server session i, as it is looked at
 module _ (pool : Pool) (servers : List Serving) (i : ℕ) where

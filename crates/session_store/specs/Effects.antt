@@ -36,15 +36,14 @@ use Rattle.client_core.specs.Shown.{IsAlone, IsAloneAfter, after_outcome, asked,
 use Rattle.client_core.specs.Shown.{done_event, ending_facts, packet_of, posted_event, rolled_event}
 use Rattle.client_core.specs.Shown.{sent_event, shown, shown_broken, stepped}
 use Rattle.client_core.specs.Timeouts.{after_roll, call_numbered, is_numbered}
-use Rattle.server_core.specs.Counting.{CountsQueued as CountsReplies, left_at}
+use Rattle.server_core.specs.Counting.{CountsQueued as CountsReplies}
 use Rattle.server_core.specs.Finishing.{IsFinished, IsLeft}
 use Rattle.server_core.specs.Flushing.{HoldsAll}
-use Rattle.server_core.specs.Keeping.{LeftCounts, LeftHolds, LeftQueued, StillCounts}
+use Rattle.server_core.specs.Keeping.{LeavesReply, StillCounts}
 use Rattle.server_core.specs.KeepsPool.{KeepsPool as KeepsAnswers, KeepsSpare}
 use Rattle.server_core.specs.KeepsPool.{LeavesOthers as LeavesAnswers}
 use Rattle.server_core.specs.Replies.{packet_of as reply_of}
 use Rattle.server_core.specs.Session.{IsSession as IsServing, Session as Serving}
-use Rattle.server_core.specs.Shown.{shown as shown_server}
 use Rattle.session_store.specs.declared.side.Side.{Side}
 use Rattle.session_store.specs.Sides.{has_number}
 
@@ -153,16 +152,6 @@ SpellsReply pool e head body (Some v) = IsSpelled (reply_of pool v e) head body
 abbrev pub ServerSpells : ℕ → Pool → EntryValue → (head body : List ℕ) → List Serving → Type 0
 ServerSpells number pool e head body servers =
     SpellsReply pool e head body (find (has_number number) servers)
-
--- a reply left the queue: its reference is given up
-pub record LeavesReply (e : EntryValue) (v w : Serving) (before after : Pool) : Type 0 where
-  pub session : w ≡ left_at e v
-  pub same : shown_server after w ≡ shown_server before v
-  pub pool : after ≡ released_at e.place before
-  pub holds : LeftHolds e v w before after
-  pub queued : LeftQueued e v w
-  pub counts : LeftCounts e before after
-  pub keeps : KeepsAnswers after w.slots
 
 -- the server session with a number changed
 pub record ServerChanges (number : ℕ) (Step : Serving → Serving → Type 0) (old new : List Serving)

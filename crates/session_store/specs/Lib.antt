@@ -5,6 +5,8 @@ pub mod Ends
 pub mod Handing
 pub mod Hearing
 pub mod Joined
+pub mod Leaving
+pub mod OwnRequests
 pub mod Queue
 pub mod Serving
 pub mod Sides

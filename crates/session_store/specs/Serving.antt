@@ -5,12 +5,10 @@ use Rattle.std.specs.List.{AllByRecursion, filter, find}
 use Rattle.rpc_outside.specs.Recording.{Log}
 use Rattle.rpc_base.specs.declared.event.Event.TheVariants.{Dropped as DroppedEvent}
 use Rattle.rpc_base.specs.declared.fact.Fact.{Fact}
-use Rattle.rpc_base.specs.declared.fact.Who.{Who}
 use Rattle.rpc_base.specs.declared.owner.Owner.TheVariants.{Reply}
 use Rattle.rpc_base.specs.declared.state.DropReason.TheVariants.{NoMemory}
 use Rattle.buffer_pool.specs.Pool.{Pool}
 use Rattle.packet_header.specs.declared.packet.MessageHeader.{MessageHeader}
-use Rattle.packet_rings.specs.Rings.{Ring, ring}
 use Rattle.packet_rings.specs.Values.{EntryValue}
 use Rattle.rpc_laws.specs.Facts.{plain}
 use Rattle.rpc_laws.specs.Requests.{in_slot_of}
@@ -23,17 +21,11 @@ use Rattle.rpc_laws.specs.declared.tables.Server.{Server}
 use Rattle.rpc_outside.specs.Served.{Served}
 use Rattle.rpc_outside.specs.declared.service.Mode.{Mode}
 use Rattle.rpc_outside.specs.declared.service.Mode.TheVariants.{Unserved}
-use Rattle.server_core.specs.Counting.{CountsQueued}
-use Rattle.server_core.specs.Flushing.{HoldsAll, has_begun, replies_of, ring_after}
-use Rattle.server_core.specs.KeepsPool.{KeepsPool, KeepsSpare, LeavesOthers}
-use Rattle.server_core.specs.Keeping.{CountsBehind}
-use Rattle.server_core.specs.Noting.{Handled, IsByRule, packet_facts}
+use Rattle.server_core.specs.Flushing.{has_begun, replies_of}
+use Rattle.server_core.specs.Noting.{Handled}
 use Rattle.server_core.specs.Replies.{CanHold}
-use Rattle.server_core.specs.Rows.{row_of}
-use Rattle.server_core.specs.Session.{IsSession, Session as Serving, newest}
-use Rattle.server_core.specs.Shown.{shown}
-use Rattle.server_core.specs.Steps.{AreServed, IfGiven, IfReply, IsParcel, IsReply, IsStepOf}
-use Rattle.server_core.specs.Steps.{asked_with}
+use Rattle.server_core.specs.Session.{Session as Serving}
+use Rattle.server_core.specs.Steps.{AreServed, IfGiven, IfReply, IsParcel, IsStepOf}
 use Rattle.server_core.specs.declared.step.Step.{Step}
 use Rattle.server_core.specs.declared.step.Step.TheVariants.{Took, Again, Ran, Give, Dropped}
 use Rattle.session_store.specs.Queue.{is_owned}
@@ -52,36 +44,6 @@ ServerServed mode_of v = AreServed mode_of v.slots
 abbrev pub AreServedAt : (ℕ → Mode) → ℕ → List Server → Type 0
 AreServedAt mode_of i servers = IfSome (slice_get servers i)
     (λ v. AllByRecursion (λ q. mode_of q.req_type ≢ Unserved) v.slots)
-
--- the session handled the packet
-pub record Handles {R : Type 0} (log : R → Log)
-    (mode : Mode) (jobs_full : Bool) (who : Who) (h : MessageHeader) (body : List ℕ)
-    (answer_of : Served → ℕ → List ℕ → List ℕ) (stands then_stands : Served → Type 0)
-    (noted_before noted_now : R) (step : Step) (old new : Ring EntryValue) (v w : Serving)
-    (before after : Pool) : Type 0 where
-  pub row : IsStepOf mode h (row_of mode jobs_full h v) step
-  pub rule : server_row mode jobs_full false (Some (shown before v)) v.peer h
-      ≡ row_of mode jobs_full h v
-  pub lacks : step ≡ Dropped NoMemory
-      → server_row mode jobs_full true (Some (shown before v)) v.peer h ≡ Drops NoMemory
-  pub ring_is : new ≡ ring (ring_after (row_of mode jobs_full h v) step v.number
-      (newest h.request v) old.items) old.size
-  pub handled : Handled log noted_before noted_now
-      (λ answer. packet_facts who v old.items (row_of mode jobs_full h v) h
-      (asked_with h body (shown before v)) answer step) answer_of stands then_stands h body
-      (shown before v) (shown after w) step
-  pub by_rule : h.session ≡ v.number
-      → IsByRule mode v old.items (row_of mode jobs_full h v) h body (shown before v) step
-  pub reply : IfReply step (IsReply h.request h.number w after)
-  pub give : IfGiven step (IsParcel answer_of stands h body (shown before v))
-  pub sound : IsSession w
-  pub spare : KeepsSpare v.slots w.slots before after
-  pub leaves : LeavesOthers v.slots w.slots before after
-  pub holds : HoldsAll v before old.items → HoldsAll w after (new.items ++ replies_of step)
-  pub queued : HoldsAll v before old.items → CountsQueued v old.items
-      → CountsQueued w (new.items ++ replies_of step)
-  pub counts : CountsBehind (replies_of step) old.items new.items before after
-  pub keeps : KeepsPool after w.slots
 
 -- the facts of a packet at a node, which are those of the server rule unless memory was wanting
 abbrev pub handled_facts : (me : ℕ) → List Fact → Step → List Fact

@@ -12,4 +12,4 @@ mod store;
 pub use server::ServerEnd;
 pub use side::{ClientEnd, Side};
 pub use stage::Stage;
-pub use store::Store;
+pub use store::{OwnRequests, Store};

@@ -10,12 +10,15 @@ ghost use Rattle.packet_header.specs.Parts.{IsMessage};
 ghost use Rattle.session_store.specs.Effects.{ServerEnds, ServerFinishes, ServerGone};
 ghost use Rattle.session_store.specs.Effects.{ServerSpells, ServerStep};
 ghost use Rattle.packet_rings.specs.Entries.{listed_entry, option_is};
-ghost use Rattle.session_store.specs.Serving.{Handles, ServerCanHold, ServerServed};
+ghost use Rattle.session_store.specs.Serving.{ServerCanHold, ServerServed};
 ghost use Rattle.session_store.specs.Sides.{HasReply, ServerHolds, ServerKept, ServerQueued};
 ghost use Rattle.session_store.specs.Sides.{Rises, has_number, numbers_in};
 ghost use Rattle.server_core.specs.Flushing.{replies_of};
 ghost use Rattle.server_core.specs.Serving.{IsUnheld};
-ghost use Rattle.server_core.specs.Steps.{IsAsking, UnlessRan};
+ghost use Rattle.server_core.specs.Handling.{Handles};
+ghost use Rattle.server_core.specs.Noting.{packet_facts};
+ghost use Rattle.server_core.specs.Session.{IsSession};
+ghost use Rattle.server_core.specs.Steps.{IsAsking};
 
 use buffer_pool::BufferPool;
 use packet_header::MessageHeader;
@@ -178,12 +181,10 @@ pub fn asked_at<V: Service, R: Recorder>(
     requires asking { IsAsking head.now (length body.now) }
     requires all_served { IfSome (slice_get servers.old.items i) (ServerServed V.mode_of) }
     requires founded { StandsForSome (V.stands service.old) }
-    ensures handles { ServerStep i (λ v w. Handles R.log (V.mode_of head.now.req_type)
-        jobs_full who head.now body.now V.answer (V.stands service.old) (V.stands service.new)
-        rec.old rec.new result tx.old tx.new v w pool.old pool.new) servers.old.items
-        servers.new.items }
-    ensures service { UnlessRan result (service.new ≡ service.old) }
-    ensures all_served { IfSome (slice_get servers.new.items i) (ServerServed V.mode_of) }
+    ensures handles { ServerStep i (λ v w. Handles V.Service R.log packet_facts jobs_full who
+        head.now body.now result v w pool.old pool.new tx.old tx.new service.old service.new
+        rec.old rec.new) servers.old.items servers.new.items }
+    ensures sound { IfSome (slice_get servers.new.items i) IsSession }
 {
     let server = &mut servers[i];
     let step = server.on_packet(alloc, pool, tx, service, head, body, jobs_full, who, rec);

@@ -12,6 +12,7 @@ mod timers;
 
 use crate::side::Side;
 use buffer_pool::BufferPool;
+pub use control::OwnRequests;
 use pacing_wheel::Pacer;
 use packet_rings::TxRing;
 use rpc_base::{MOST_REFERENCES, NoMemory};

@@ -22,6 +22,7 @@ ghost use Rattle.client_core.specs.Handing.{handed_waiting};
 ghost use Rattle.session_store.specs.Handing.{AreOfCalls, HandsBackIf, HandsInAt, ended_by};
 ghost use Rattle.session_store.specs.Hearing.{RepliesAt};
 ghost use Rattle.session_store.specs.Joined.{put_listed};
+ghost use Rattle.session_store.specs.Leaving.{ChangesCalls, ChangesClients, ChangesQueue};
 ghost use Rattle.session_store.specs.Sides.{HasRoom};
 ghost use Rattle.session_store.specs.Stages.{named};
 
@@ -174,14 +175,8 @@ impl Store {
         requires connected { state_of (slice_get self.old.clients i) ≡ Connected }
         requires above { IfSome (slice_get self.old.clients i)
             (λ x. AllByRecursion (λ c. c.what.number < waiting.call) x.calls) }
-        ensures clients { OnOk result (ChangesAt i (asks (asking_in waiting)) self.old.clients
-            self.new.clients) }
-        ensures servers { self.new.servers ≡ self.old.servers }
-        ensures queued { self.new.queued ≡ self.old.queued }
-        ensures size { self.new.size ≡ self.old.size }
-        ensures handed { OnOk result (HandsInAt i (handed_waiting waiting) self.old.handed
-            self.new.handed) }
-        ensures places { self.new.places ≡ self.old.places }
+        ensures asks { OnOk result (ChangesCalls (ChangesAt i (asks (asking_in waiting)))
+            (HandsInAt i (handed_waiting waiting)) self.old self.new) }
         ensures unchanged { OnErr result (self.new ≡ self.old) }
         ensures handed_back { IfErr result (λ back. back ≡ waiting) }
     {
@@ -215,12 +210,7 @@ impl Store {
     pub fn begin(&mut self, i: usize) -> Option<(CallNo, RequestNo)>
         requires known { i < length self.old.clients }
         requires room { HasRoom self.old }
-        ensures clients { BeginsAt i result self.old.clients self.new.clients }
-        ensures servers { self.new.servers ≡ self.old.servers }
-        ensures queued { self.new.queued ≡ self.old.queued }
-        ensures size { self.new.size ≡ self.old.size }
-        ensures handed { self.new.handed ≡ self.old.handed }
-        ensures places { self.new.places ≡ self.old.places }
+        ensures { ChangesClients (BeginsAt i result) self.old self.new }
     {
         if !self.sides[i].stage.is_connected() {
             return None;
@@ -235,13 +225,8 @@ impl Store {
         requires known { i < length self.old.clients }
         requires room { MayQueue i self.old }
         requires paced { IsSome due → MayPace i self.old }
-        ensures clients { PostsAt i (option_map packet_of_entry result) self.old.clients
-            self.new.clients }
-        ensures servers { self.new.servers ≡ self.old.servers }
-        ensures queued { self.new.queued ≡ put_listed due result self.old.queued }
-        ensures size { self.new.size ≡ self.old.size }
-        ensures handed { self.new.handed ≡ self.old.handed }
-        ensures places { self.new.places ≡ self.old.places }
+        ensures posts { ChangesQueue (PostsAt i (option_map packet_of_entry result))
+            (put_listed due result) self.old self.new }
         ensures owner { IfSome result (λ e. e.owner ≡ Ask i (request_in e.owner)) }
     {
         if !self.sides[i].stage.is_connected() {
@@ -269,14 +254,9 @@ impl Store {
         requires in_range { MessageInRange head.now }
         requires session { head.now.session ≡ i }
         requires windows { Windows self.old.clients self.old.queued }
-        ensures clients { RepliesAt i now peer head.now body.now (list_any
+        ensures { ChangesCalls (RepliesAt i now peer head.now body.now (list_any
             (is_queued (Ask head.now.session head.now.request) head.now.number) self.old.queued)
-            result self.old.clients self.new.clients }
-        ensures servers { self.new.servers ≡ self.old.servers }
-        ensures queued { self.new.queued ≡ self.old.queued }
-        ensures size { self.new.size ≡ self.old.size }
-        ensures handed { HandsBackIf i (ended_by result) self.old.handed self.new.handed }
-        ensures places { self.new.places ≡ self.old.places }
+            result) (HandsBackIf i (ended_by result)) self.old self.new }
     {
         if !self.sides[i].stage.is_connected() {
             return Reply::Dropped(DropReason::NoSession);

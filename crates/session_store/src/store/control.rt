@@ -3,22 +3,26 @@ ghost use Rattle.std.specs.Prelude.{◌≡◌, ◌<◌, ◌≤◌, ◌+◌, ◌^
 ghost use Rattle.std.specs.Prelude.{IfSome, OnErr, OnOk};
 ghost use Rattle.rpc_base.specs.declared.state.SessionState.TheVariants.{Closed, Closing};
 ghost use Rattle.rpc_base.specs.declared.state.SessionState.TheVariants.{Connecting, Failed};
-ghost use Rattle.rpc_laws.specs.ControlSteps.{own_request, retry_row};
 ghost use Rattle.rpc_laws.specs.Sessions.{comes_to, connects, opened_end};
-ghost use Rattle.session_store.specs.Changes.{ChangesAt, HasNoCalls, HasRequest, IsConnected};
+ghost use Rattle.session_store.specs.Changes.{HasNoCalls, HasRequest, IsConnected};
 ghost use Rattle.session_store.specs.Changes.{IsClientEnd, IsInState, sent_again};
+ghost use Rattle.session_store.specs.Leaving.{ChangesClient};
+ghost use Rattle.session_store.specs.OwnRequests.{CountsRequests};
 
 use super::Store;
 use crate::side::{ClientEnd, Side};
 use crate::stage::Stage;
 use client_core::ClientSession;
-use packet_header::{ACCEPTED, ControlHeader, ControlKind};
 use rpc_base::{MOST_CREDITS, NoMemory, Peer, SESSION_NUMBERS, SessionNo};
-use rpc_laws::RetryRow;
 use std::alloc::Global;
 
-/// A session sends its own request so many times.
-const MOST_SENDS: u64 = 9;
+/// The requests of its own that a client session sent.
+#[derive(Clone, Copy, Debug)]
+pub struct OwnRequests {
+    pub sends: u64,
+    /// The clock, in microseconds, when the last of them was sent.
+    pub sent_at: u64,
+}
 
 impl Store {
     /// A client session is opened to a peer, with 1 to 256 credits: it is Connecting, and its
@@ -59,12 +63,7 @@ impl Store {
         requires known { i < length self.old.clients }
         requires connecting { IsInState Connecting (slice_get self.old.clients i) }
         requires server { server < SESSION_NUMBERS }
-        ensures clients { ChangesAt i (connects server) self.old.clients self.new.clients }
-        ensures servers { self.new.servers ≡ self.old.servers }
-        ensures queued { self.new.queued ≡ self.old.queued }
-        ensures size { self.new.size ≡ self.old.size }
-        ensures places { self.new.places ≡ self.old.places }
-        ensures handed { self.new.handed ≡ self.old.handed }
+        ensures { ChangesClient i (connects server) self.old self.new }
     {
         let side = &mut self.sides[i];
         side.session.connected(server);
@@ -75,12 +74,7 @@ impl Store {
     pub fn failed(&mut self, i: usize)
         requires known { i < length self.old.clients }
         requires connecting { IsInState Connecting (slice_get self.old.clients i) }
-        ensures clients { ChangesAt i (comes_to Failed) self.old.clients self.new.clients }
-        ensures servers { self.new.servers ≡ self.old.servers }
-        ensures queued { self.new.queued ≡ self.old.queued }
-        ensures size { self.new.size ≡ self.old.size }
-        ensures places { self.new.places ≡ self.old.places }
-        ensures handed { self.new.handed ≡ self.old.handed }
+        ensures { ChangesClient i (comes_to Failed) self.old self.new }
     {
         let side = &mut self.sides[i];
         side.stage = Stage::Failed;
@@ -92,12 +86,7 @@ impl Store {
         requires known { i < length self.old.clients }
         requires connected { IsConnected (slice_get self.old.clients i) }
         requires idle { HasNoCalls (slice_get self.old.clients i) }
-        ensures clients { ChangesAt i (comes_to Closing) self.old.clients self.new.clients }
-        ensures servers { self.new.servers ≡ self.old.servers }
-        ensures queued { self.new.queued ≡ self.old.queued }
-        ensures size { self.new.size ≡ self.old.size }
-        ensures places { self.new.places ≡ self.old.places }
-        ensures handed { self.new.handed ≡ self.old.handed }
+        ensures { ChangesClient i (comes_to Closing) self.old self.new }
     {
         let side = &mut self.sides[i];
         side.stage = Stage::Closing {
@@ -110,12 +99,7 @@ impl Store {
     pub fn closed(&mut self, i: usize)
         requires known { i < length self.old.clients }
         requires closing { IsInState Closing (slice_get self.old.clients i) }
-        ensures clients { ChangesAt i (comes_to Closed) self.old.clients self.new.clients }
-        ensures servers { self.new.servers ≡ self.old.servers }
-        ensures queued { self.new.queued ≡ self.old.queued }
-        ensures size { self.new.size ≡ self.old.size }
-        ensures places { self.new.places ≡ self.old.places }
-        ensures handed { self.new.handed ≡ self.old.handed }
+        ensures { ChangesClient i (comes_to Closed) self.old self.new }
     {
         let side = &mut self.sides[i];
         side.stage = Stage::Closed;
@@ -136,47 +120,14 @@ impl Store {
         }
     }
 
-    /// The request of its own that session `i` sends: to connect while it is Connecting, and to
-    /// disconnect while it is Closing. None comes exactly in every other state.
-    pub fn own_request(&self, i: usize) -> Option<ControlHeader>
+    /// How many requests of its own session `i` sent since it was opened, or since it began to
+    /// close, and when the last of them: both are 0 in every other state.
+    pub fn own_requests(&self, i: usize) -> OwnRequests
         requires known { i < length self.now.clients }
-        ensures { IfSome (slice_get self.now.clients i) (λ x. result ≡ own_request x) }
-    {
-        let side = &self.sides[i];
-        match &side.stage {
-            Stage::Connecting { .. } => Some(ControlHeader {
-                kind: ControlKind::ConnectRequest,
-                client: side.session.session(),
-                server: None,
-                credits: side.session.limit(),
-                status: ACCEPTED,
-            }),
-            Stage::Closing { .. } => Some(ControlHeader {
-                kind: ControlKind::DisconnectRequest,
-                client: side.session.session(),
-                server: Some(side.session.server()),
-                credits: 0,
-                status: ACCEPTED,
-            }),
-            Stage::Connected | Stage::Closed | Stage::Failed | Stage::Broken => None,
-        }
-    }
-
-    /// What session `i` does about that request at `now`, with this timeout, both in microseconds.
-    pub fn retry_row(&self, i: usize, now: u64, timeout: u64) -> RetryRow
-        requires known { i < length self.now.clients }
-        ensures { IfSome (slice_get self.now.clients i)
-            (λ x. result ≡ retry_row now timeout x.sends x.sent_at) }
+        ensures { IfSome (slice_get self.now.clients i) (CountsRequests result) }
     {
         let (sends, sent_at) = self.sides[i].stage.sent();
-        if sends != 0 && now.saturating_sub(sent_at) < timeout {
-            return RetryRow::Rests;
-        }
-        if sends < MOST_SENDS {
-            RetryRow::Asks
-        } else {
-            RetryRow::GivesUp
-        }
+        OwnRequests { sends, sent_at }
     }
 
     /// Session `i` sent its own request once more, at `now`, in microseconds: it is Connecting or
@@ -185,12 +136,7 @@ impl Store {
         requires known { i < length self.old.clients }
         requires asking { HasRequest (slice_get self.old.clients i) }
         requires few { IfSome (slice_get self.old.clients i) (λ x. x.sends + 1 < 2 ^ 64) }
-        ensures clients { ChangesAt i (sent_again now) self.old.clients self.new.clients }
-        ensures servers { self.new.servers ≡ self.old.servers }
-        ensures queued { self.new.queued ≡ self.old.queued }
-        ensures size { self.new.size ≡ self.old.size }
-        ensures places { self.new.places ≡ self.old.places }
-        ensures handed { self.new.handed ≡ self.old.handed }
+        ensures { ChangesClient i (sent_again now) self.old self.new }
     {
         let side = &mut self.sides[i];
         side.stage = side.stage.asked(now);

@@ -7,6 +7,7 @@ ghost use Rattle.packet_header.specs.Header.{AreBytes};
 ghost use Rattle.rpc_laws.specs.Pacing.{line};
 ghost use Rattle.rpc_laws.specs.Queues.{made_ready, replies};
 ghost use Rattle.session_store.specs.Joined.{without_due};
+ghost use Rattle.session_store.specs.Leaving.{ChangesQueue, ChangesQueued};
 ghost use Rattle.session_store.specs.Queue.{IsFront, SendsFront, SpellsFront, is_owned};
 ghost use Rattle.session_store.specs.Queue.{queued_number};
 ghost use Rattle.session_store.specs.Sides.{queued_of};
@@ -76,12 +77,7 @@ impl Store {
     /// The entry in front of the queue was sent at `now`, in microseconds.
     pub fn sent(&mut self, now: u64)
         requires some { self.old.queued ≢ [] }
-        ensures clients { SendsFront now self.old.queued self.old.clients self.new.clients }
-        ensures servers { self.new.servers ≡ self.old.servers }
-        ensures queued { self.new.queued ≡ drop 1 self.old.queued }
-        ensures size { self.new.size ≡ self.old.size }
-        ensures handed { self.new.handed ≡ self.old.handed }
-        ensures places { self.new.places ≡ self.old.places }
+        ensures { ChangesQueue (SendsFront now self.old.queued) (drop 1) self.old self.new }
     {
         let Some(entry) = pop_in(&mut self.tx, &mut self.pacer) else {
             unreachable!()
@@ -109,13 +105,8 @@ impl Store {
         requires known { i < length self.old.clients }
         ensures taken { option_map queued_of result ≡ option_map without_due
             (least (is_owned (Ask i request)) queued_number self.old.queued) }
-        ensures queued { self.new.queued
-            ≡ without_least (is_owned (Ask i request)) queued_number self.old.queued }
-        ensures clients { self.new.clients ≡ self.old.clients }
-        ensures servers { self.new.servers ≡ self.old.servers }
-        ensures size { self.new.size ≡ self.old.size }
-        ensures handed { self.new.handed ≡ self.old.handed }
-        ensures places { self.new.places ≡ self.old.places }
+        ensures left { ChangesQueued (without_least (is_owned (Ask i request)) queued_number)
+            self.old self.new }
     {
         let owner = Owner::Ask {
             session: self.sides[i].session.session(),
@@ -134,13 +125,8 @@ impl Store {
     pub fn flush_reply(&mut self, session: SessionNo, request: RequestNo) -> Option<Entry>
         ensures taken { option_map queued_of result ≡ option_map without_due
             (least (is_owned (OfReply session request)) queued_number self.old.queued) }
-        ensures queued { self.new.queued
-            ≡ without_least (is_owned (OfReply session request)) queued_number self.old.queued }
-        ensures clients { self.new.clients ≡ self.old.clients }
-        ensures servers { self.new.servers ≡ self.old.servers }
-        ensures size { self.new.size ≡ self.old.size }
-        ensures handed { self.new.handed ≡ self.old.handed }
-        ensures places { self.new.places ≡ self.old.places }
+        ensures left { ChangesQueued (without_least (is_owned (OfReply session request))
+            queued_number) self.old self.new }
     {
         let owner = Owner::Reply { session, request };
         let flushed = flush_in(&mut self.tx, &mut self.pacer, &owner);
@@ -153,12 +139,7 @@ impl Store {
 
     /// At the end of a poll at `now`, in microseconds, what was due by then is ready.
     pub fn make_ready(&mut self, now: u64)
-        ensures queued { self.new.queued ≡ map (made_ready now) self.old.queued }
-        ensures clients { self.new.clients ≡ self.old.clients }
-        ensures servers { self.new.servers ≡ self.old.servers }
-        ensures size { self.new.size ≡ self.old.size }
-        ensures handed { self.new.handed ≡ self.old.handed }
-        ensures places { self.new.places ≡ self.old.places }
+        ensures { ChangesQueued (map (made_ready now)) self.old self.new }
     {
         make_ready_in(&mut self.tx, &mut self.pacer, now);
     }

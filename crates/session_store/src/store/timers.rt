@@ -2,9 +2,10 @@
 ghost use Rattle.std.specs.Prelude.{◌≡◌, ◌<◌, length, option_map, slice_get, IfSome};
 ghost use Rattle.client_core.specs.declared.outcome.Outcome.TheVariants.{PeerLost};
 ghost use Rattle.rpc_laws.specs.Sessions.{breaks};
-ghost use Rattle.session_store.specs.Changes.{ActiveAt, ChangesAt, IsConnected, IsIdle, IsLost};
-ghost use Rattle.session_store.specs.Changes.{LosesAt, MayRoll, RollsAt, RowAt};
+ghost use Rattle.session_store.specs.Changes.{ActiveAt, IsConnected, IsIdle, IsLost, LosesAt};
+ghost use Rattle.session_store.specs.Changes.{MayRoll, RollsAt, RowAt};
 ghost use Rattle.session_store.specs.Handing.{HandsBackIf};
+ghost use Rattle.session_store.specs.Leaving.{ChangesCalls, ChangesClient, ChangesClients};
 
 use super::Store;
 use crate::side::{lose_at, roll_at, told_row};
@@ -47,12 +48,7 @@ impl Store {
     pub fn roll(&mut self, i: usize, call: CallNo)
         requires known { i < length self.old.clients }
         requires may { MayRoll i call self.old }
-        ensures clients { RollsAt i call self.old.clients self.new.clients }
-        ensures servers { self.new.servers ≡ self.old.servers }
-        ensures queued { self.new.queued ≡ self.old.queued }
-        ensures size { self.new.size ≡ self.old.size }
-        ensures handed { self.new.handed ≡ self.old.handed }
-        ensures places { self.new.places ≡ self.old.places }
+        ensures { ChangesClients (RollsAt i call) self.old self.new }
     {
         roll_at(&mut self.sides, i, call);
     }
@@ -62,12 +58,7 @@ impl Store {
         requires known { i < length self.old.clients }
         requires connected { IsConnected (slice_get self.old.clients i) }
         requires idle { IsIdle i self.old.queued }
-        ensures clients { ChangesAt i breaks self.old.clients self.new.clients }
-        ensures servers { self.new.servers ≡ self.old.servers }
-        ensures queued { self.new.queued ≡ self.old.queued }
-        ensures size { self.new.size ≡ self.old.size }
-        ensures handed { self.new.handed ≡ self.old.handed }
-        ensures places { self.new.places ≡ self.old.places }
+        ensures { ChangesClient i breaks self.old self.new }
     {
         let side = &mut self.sides[i];
         side.stage = Stage::Broken;
@@ -80,14 +71,9 @@ impl Store {
         requires known { i < length self.old.clients }
         requires lost { IsLost (slice_get self.old.clients i) }
         requires idle { IsIdle i self.old.queued }
-        ensures clients { LosesAt i (option_map (λ d. d.call) result) self.old.clients
-            self.new.clients }
+        ensures loses { ChangesCalls (LosesAt i (option_map (λ d. d.call) result))
+            (HandsBackIf i result) self.old self.new }
         ensures ended_as { IfSome result (λ d. d.outcome ≡ PeerLost) }
-        ensures servers { self.new.servers ≡ self.old.servers }
-        ensures queued { self.new.queued ≡ self.old.queued }
-        ensures size { self.new.size ≡ self.old.size }
-        ensures handed { HandsBackIf i result self.old.handed self.new.handed }
-        ensures places { self.new.places ≡ self.old.places }
     {
         lose_at(&mut self.sides, i, &mut self.pool)
     }

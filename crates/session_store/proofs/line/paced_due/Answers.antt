@@ -1,4 +1,4 @@
-use Rattle.std.proofs.Common.{ap, refl, sym, ◌∙◌}
+use Rattle.std.proofs.Common.{ap, sym, ◌∙◌}
 use Rattle.std.specs.Prelude.{option_map}
 use Rattle.packet_rings.specs.Entries.{option_is}
 use Rattle.pacing_wheel.specs.Wheel.{entry_of, is_due}

@@ -15,15 +15,13 @@ returns c =
         left = e.left;
         was_sound = e.sound;
         sound = c.sound.ensures;
-        spare = e.spare;
-        leaves = e.others;
-        holds =
-            e.holds;
+        spare = e.places.spare;
+        leaves = e.places.others;
+        holds = e.holds;
         still_holds = e.still_holds;
         queued = e.queued;
         counts = e.counts;
-        keeps =
-            e.keeps_pool;
+        keeps = e.places.keeps_pool;
       };
       changed = refl;
     }

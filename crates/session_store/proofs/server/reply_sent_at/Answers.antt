@@ -10,7 +10,6 @@ unreachable-requires c =
 pub returns : goal.returns
 returns c =
     let first = sym c.place_of.ensures ∙ c.in-Some.is in
-    let e = c.sent.ensures in
     record {
       place = c.in-Some.place;
       first = first;
@@ -18,14 +17,6 @@ returns c =
       at = first-at c.args.session c.args.servers.now.items c.in-Some.place c.index_mut.result.now
           first c.index_mut.ensures.value;
       later = c.sent.new.self;
-      step = record {
-        session = e.session;
-        same = e.shown;
-        pool = e.pool;
-        holds = e.holds;
-        queued = e.queued;
-        counts = e.counts;
-        keeps = e.keeps_pool;
-      };
+      step = c.sent.ensures;
       changed = refl;
     }

@@ -1,5 +1,5 @@
 use Rattle.session_store.specs.Joined.{joined, undue}
-use Rattle.session_store.proofs.AskLemmas.{clients-ask, handed-ask, has-turns, kept-ask, places-ask}
+use Rattle.session_store.proofs.AskLemmas.{calls-ask, clients-ask, has-turns, kept-ask}
 use Rattle.session_store.proofs.UndueLemmas.{flat}
 use Rattle.std.proofs.Common.{refl, sym, ap}
 use Rattle.rpc_laws.specs.Sessions.{asks}
@@ -41,30 +41,9 @@ invariant_of-self c = (
   c.self.invariant.3,
 )
 
-pub returns-clause-clients : goal.returns-clause-clients
-returns-clause-clients c =
-    clients-ask c.self.inside.pool c.self.inside.sides.items c.self.inside.servers.items
-    (joined c.self.inside.tx c.self.inside.pacer) c.args.i (undue c.args.self.now)
-    (flat c.self.inside.pool c.self.inside.sides.items c.self.inside.servers.items
-    c.self.inside.tx c.self.inside.pacer c.args.self.now c.self.view_is) c.requires.connected
-    c.args.waiting
-    c.enqueue_at.new.sides.items c.enqueue_at.result c.self.invariant.0 c.requires.above
-    c.enqueue_at.ensures.waits
-
-pub returns-clause-places : goal.returns-clause-places
-returns-clause-places c =
+pub returns-clause-asks : goal.returns-clause-asks
+returns-clause-asks c =
     let s = c.self.inside in
-    rw (← c.self.view_is) (places-ask s.pool s.sides.items c.enqueue_at.new.sides.items
-    s.servers.items c.args.i c.args.waiting c.enqueue_at.result c.enqueue_at.ensures.waits
-    c.enqueue_at.ensures.unchanged)
-
-pub returns-clause-handed : goal.returns-clause-handed
-returns-clause-handed c =
-    rw (← c.self.view_is) (handed-ask c.self.inside.pool c.self.inside.sides.items
-    c.self.inside.servers.items
-    (joined c.self.inside.tx c.self.inside.pacer) c.args.i (undue c.args.self.now)
-    (flat c.self.inside.pool c.self.inside.sides.items c.self.inside.servers.items
-    c.self.inside.tx c.self.inside.pacer c.args.self.now c.self.view_is) c.requires.connected
-    c.args.waiting
-    c.enqueue_at.new.sides.items c.enqueue_at.result c.self.invariant.0 c.requires.above
-    c.enqueue_at.ensures.waits)
+    calls-ask s.pool s.sides.items c.enqueue_at.new.sides.items s.servers.items s.tx s.pacer
+    c.args.self.now c.self.view_is c.args.i c.requires.connected c.args.waiting
+    c.enqueue_at.result c.self.invariant.0 c.requires.above c.enqueue_at.ensures.waits

@@ -5,6 +5,9 @@ use Rattle.session_store.proofs.StoreLemmas.{size-begin, two-spare}
 use Rattle.session_store.proofs.UndueLemmas.{flat}
 use Rattle.session_store.proofs.StoreLemmas.{handed-begin}
 use Rattle.session_store.proofs.ShareLemmas.{begins-kept, clients-kept}
+use Rattle.session_store.proofs.ChangesLemmas.{changes-clients}
+use Rattle.session_store.specs.Changes.{BeginsAt}
+use Rattle.std.proofs.Common.{refl}
 use Rattle.session_store.proofs.store.Store.begin.Goals as goal
 
 pub begin_at-requires-clause-spare : goal.begin_at-requires-clause-spare
@@ -32,38 +35,23 @@ invariant_of-self c =
       c.self.invariant.3,
     )
 
-pub returns-clause-clients : goal.returns-clause-clients
-returns-clause-clients c =
+pub returns : goal.returns
+returns c =
+    let s = c.self.inside in
     let h = c.begin_at.ensures in
-    let connected = connected-at c.self.inside.sides.items c.args.i c.index.result.now h.side
+    let connected = connected-at s.sides.items c.args.i c.index.result.now h.side
     c.index.ensures h.at (sym c.is_connected.ensures ∙ c.if-not-is_connected.false) in
-    rw (← c.self.view_is) (clients-begin c.self.inside.pool c.begin_at.new.pool
-    c.self.inside.sides.items c.begin_at.new.sides.items c.self.inside.servers.items
-    (joined c.self.inside.tx c.self.inside.pacer) c.args.i c.self.invariant.0 c.begin_at.result h connected)
-
-pub returns-clause-servers : goal.returns-clause-servers
-returns-clause-servers c =
-    let h = c.begin_at.ensures in
-    let connected = connected-at c.self.inside.sides.items c.args.i c.index.result.now h.side
-    c.index.ensures h.at (sym c.is_connected.ensures ∙ c.if-not-is_connected.false) in
-    rw (← c.self.view_is) (servers-begin c.self.inside.pool c.begin_at.new.pool
-    c.self.inside.sides.items c.begin_at.new.sides.items c.self.inside.servers.items
-    (joined c.self.inside.tx c.self.inside.pacer) c.args.i c.self.invariant.0 c.begin_at.result h connected)
-
-pub returns-clause-places : goal.returns-clause-places
-returns-clause-places c =
-    let h = c.begin_at.ensures in
-    let connected = connected-at c.self.inside.sides.items c.args.i c.index.result.now h.side
-    c.index.ensures h.at (sym c.is_connected.ensures ∙ c.if-not-is_connected.false) in
-    rw (← c.self.view_is) (size-begin c.self.inside.pool c.begin_at.new.pool
-    c.self.inside.sides.items c.begin_at.new.sides.items c.self.inside.servers.items
-    (joined c.self.inside.tx c.self.inside.pacer) c.args.i c.self.invariant.0 c.begin_at.result h connected)
-
-pub returns-clause-handed : goal.returns-clause-handed
-returns-clause-handed c =
-    let h = c.begin_at.ensures in
-    let connected = connected-at c.self.inside.sides.items c.args.i c.index.result.now h.side
-    c.index.ensures h.at (sym c.is_connected.ensures ∙ c.if-not-is_connected.false) in
-    rw (← c.self.view_is) (handed-begin c.self.inside.pool c.begin_at.new.pool
-    c.self.inside.sides.items c.begin_at.new.sides.items c.self.inside.servers.items
-    (joined c.self.inside.tx c.self.inside.pacer) c.args.i c.self.invariant.0 c.begin_at.result h connected)
+    changes-clients s.pool c.begin_at.new.pool s.sides.items c.begin_at.new.sides.items
+    s.servers.items s.servers.items s.tx s.tx s.pacer s.pacer c.args.self.now c.self.view_is
+    (BeginsAt c.args.i c.begin_at.result) (rw (← c.self.view_is) (clients-begin s.pool c.begin_at.new.pool s.sides.items
+    c.begin_at.new.sides.items s.servers.items (joined s.tx s.pacer) c.args.i c.self.invariant.0
+    c.begin_at.result h connected))
+    (servers-begin s.pool c.begin_at.new.pool s.sides.items
+    c.begin_at.new.sides.items s.servers.items (joined s.tx s.pacer) c.args.i c.self.invariant.0
+    c.begin_at.result h connected)
+    (size-begin s.pool c.begin_at.new.pool s.sides.items
+    c.begin_at.new.sides.items s.servers.items (joined s.tx s.pacer) c.args.i c.self.invariant.0
+    c.begin_at.result h connected)
+    (handed-begin s.pool c.begin_at.new.pool s.sides.items
+    c.begin_at.new.sides.items s.servers.items (joined s.tx s.pacer) c.args.i c.self.invariant.0
+    c.begin_at.result h connected) refl refl

@@ -5,6 +5,9 @@ use Rattle.session_store.proofs.UndueLemmas.{flat}
 use Rattle.rpc_base.specs.declared.state.SessionState.{SessionState}
 use Rattle.std.proofs.Common.{refl}
 use Rattle.session_store.proofs.ShareLemmas.{live-in, share-stays}
+use Rattle.session_store.proofs.ChangesLemmas.{changes-clients}
+use Rattle.session_store.specs.Changes.{ChangesAt}
+use Rattle.rpc_laws.specs.Sessions.{connects}
 use Rattle.session_store.proofs.store.Store.connected.Goals as goal
 
 pub invariant_of-self : goal.invariant_of-self
@@ -25,38 +28,16 @@ invariant_of-self c =
       c.self.invariant.3,
     )
 
-pub returns-clause-clients : goal.returns-clause-clients
-returns-clause-clients c =
+pub returns : goal.returns
+returns c =
     let s = c.self.inside in
     let seen = flat s.pool s.sides.items s.servers.items s.tx s.pacer c.args.self.now c.self.view_is in
     let at = there-at s.pool s.sides.items s.servers.items (joined s.tx s.pacer) c.self.invariant.0
     (undue c.args.self.now) seen c.args.i c.index_mut-side.result.now c.requires.known
     c.index_mut-side.ensures.value in
     let moved = moved-connected s.pool s.sides.items s.servers.items (joined s.tx s.pacer) c.self.invariant.0
-    (undue c.args.self.now) seen c.args.i c.index_mut-side.result.now at
-    c.args.server c.connected.new.self c.connected.ensures c.requires.connecting in
-    moved.clients
-
-pub returns-clause-places : goal.returns-clause-places
-returns-clause-places c =
-    let s = c.self.inside in
-    let seen = flat s.pool s.sides.items s.servers.items s.tx s.pacer c.args.self.now c.self.view_is in
-    let at = there-at s.pool s.sides.items s.servers.items (joined s.tx s.pacer) c.self.invariant.0
-    (undue c.args.self.now) seen c.args.i c.index_mut-side.result.now c.requires.known
-    c.index_mut-side.ensures.value in
-    let moved = moved-connected s.pool s.sides.items s.servers.items (joined s.tx s.pacer) c.self.invariant.0
-    (undue c.args.self.now) seen c.args.i c.index_mut-side.result.now at
-    c.args.server c.connected.new.self c.connected.ensures c.requires.connecting in
-    rw (← c.self.view_is) moved.places
-
-pub returns-clause-handed : goal.returns-clause-handed
-returns-clause-handed c =
-    let s = c.self.inside in
-    let seen = flat s.pool s.sides.items s.servers.items s.tx s.pacer c.args.self.now c.self.view_is in
-    let at = there-at s.pool s.sides.items s.servers.items (joined s.tx s.pacer) c.self.invariant.0
-    (undue c.args.self.now) seen c.args.i c.index_mut-side.result.now c.requires.known
-    c.index_mut-side.ensures.value in
-    let moved = moved-connected s.pool s.sides.items s.servers.items (joined s.tx s.pacer) c.self.invariant.0
-    (undue c.args.self.now) seen c.args.i c.index_mut-side.result.now at
-    c.args.server c.connected.new.self c.connected.ensures c.requires.connecting in
-    rw (← c.self.view_is) moved.handed
+    (undue c.args.self.now) seen c.args.i c.index_mut-side.result.now at c.args.server c.connected.new.self
+    c.connected.ensures c.requires.connecting in
+    changes-clients s.pool s.pool s.sides.items _ s.servers.items s.servers.items s.tx s.tx s.pacer
+    s.pacer c.args.self.now c.self.view_is (ChangesAt c.args.i (connects c.args.server)) moved.clients refl
+    moved.places moved.handed refl refl

@@ -17,6 +17,11 @@ use Rattle.session_store.proofs.GoneLemmas.{flushed-handed}
 use Rattle.std.specs.Prelude.{map}
 use Rattle.rpc_laws.specs.Groups.{live_credits}
 use Rattle.session_store.proofs.ShareLemmas.{clients-kept}
+use Rattle.session_store.proofs.ChangesLemmas.{changes-queue, servers-released}
+use Rattle.std.proofs.Common.{◌≡◌, refl}
+use Rattle.session_store.specs.Sides.{Shown}
+use Rattle.packet_rings.specs.Rings.{Ring}
+use Rattle.packet_rings.specs.Values.{EntryValue}
 use Rattle.session_store.proofs.store.Store.flush.Goals as goal
 
 pub returns-in_default-clause-taken : goal.returns-in_default-clause-taken
@@ -31,17 +36,6 @@ returns-in_default-clause-taken c =
     ∙ taken-seen (Ask c.session.result c.args.request) s.tx s.pacer
     ∙ ap (λ n. option_map without_due (least (is_owned (Ask n c.args.request)) queued_number
     (queue_of s.tx s.pacer))) number)
-
-pub returns-in_default-clause-queued : goal.returns-in_default-clause-queued
-returns-in_default-clause-queued c =
-    let s = c.self.inside in
-    let number = c.session.ensures ∙ number-at s.pool s.sides.items s.servers.items
-    (joined s.tx s.pacer) c.self.invariant.0 (undue c.args.self.now) (flat s.pool s.sides.items
-    s.servers.items s.tx s.pacer c.args.self.now c.self.view_is) c.args.i c.index.result.now
-    c.requires.known c.index.ensures in
-    rw (← c.self.view_is) (c.flush_in-flushed.ensures.queue
-    ∙ ap (λ n. without_least (is_owned (Ask n c.args.request)) queued_number
-    (queue_of s.tx s.pacer)) number)
 
 pub flushed_at-requires-clause-held : goal.flushed_at-requires-clause-held
 flushed_at-requires-clause-held c =
@@ -101,69 +95,59 @@ returns-clause-taken c =
     ∙ ap (λ n. option_map without_due (least (is_owned (Ask n c.args.request)) queued_number
     (queue_of s.tx s.pacer))) number)
 
-pub returns-clause-queued : goal.returns-clause-queued
-returns-clause-queued c =
-    let s = c.self.inside in
-    let number = c.session.ensures ∙ number-at s.pool s.sides.items s.servers.items
-    (joined s.tx s.pacer) c.self.invariant.0 (undue c.args.self.now) (flat s.pool s.sides.items
-    s.servers.items s.tx s.pacer c.args.self.now c.self.view_is) c.args.i c.index.result.now
-    c.requires.known c.index.ensures in
-    rw (← c.self.view_is) (c.flush_in-flushed.ensures.queue
-    ∙ ap (λ n. without_least (is_owned (Ask n c.args.request)) queued_number
-    (queue_of s.tx s.pacer)) number)
-
-pub returns-clause-clients : goal.returns-clause-clients
-returns-clause-clients c =
-    let s = c.self.inside in
-    let number = c.session.ensures ∙ number-at s.pool s.sides.items s.servers.items (joined s.tx s.pacer)
-    c.self.invariant.0 (undue c.args.self.now) (flat c.self.inside.pool c.self.inside.sides.items
-    c.self.inside.servers.items c.self.inside.tx c.self.inside.pacer c.args.self.now c.self.view_is)
-    c.args.i c.index.result.now
-    c.requires.known c.index.ensures in
-    let h = rw c.in-Some.is at c.flush_in-flushed.ensures in
-    let own = least-own c.session.result c.args.request c.in-Some.entry h.own
-    ∙ ap (λ n. Ask n c.args.request) number in
-    rw (← c.self.view_is) (flushed-clients s.pool c.flushed_at.new.pool s.sides.items
-    c.flushed_at.new.sides.items s.servers.items (joined s.tx s.pacer) c.args.i c.args.request c.in-Some.entry
-    (is_entry (Ask c.session.result c.args.request) c.in-Some.entry.number)
-    (joined c.flush_in-flushed.new.tx c.flush_in-flushed.new.pacer).items c.self.invariant.0
-    h.nearest own c.flushed_at.ensures)
-
-pub returns-clause-places : goal.returns-clause-places
-returns-clause-places c =
-    let s = c.self.inside in
-    let number = c.session.ensures ∙ number-at s.pool s.sides.items s.servers.items (joined s.tx s.pacer)
-    c.self.invariant.0 (undue c.args.self.now) (flat c.self.inside.pool c.self.inside.sides.items
-    c.self.inside.servers.items c.self.inside.tx c.self.inside.pacer c.args.self.now c.self.view_is)
-    c.args.i c.index.result.now
-    c.requires.known c.index.ensures in
-    let h = rw c.in-Some.is at c.flush_in-flushed.ensures in
-    let own = least-own c.session.result c.args.request c.in-Some.entry h.own
-    ∙ ap (λ n. Ask n c.args.request) number in
-    rw (← c.self.view_is) (flushed-places s.pool c.flushed_at.new.pool s.sides.items
-    c.flushed_at.new.sides.items s.servers.items (joined s.tx s.pacer) c.args.i c.args.request c.in-Some.entry
-    (is_entry (Ask c.session.result c.args.request) c.in-Some.entry.number)
-    (joined c.flush_in-flushed.new.tx c.flush_in-flushed.new.pacer).items c.self.invariant.0
-    h.nearest own c.flushed_at.ensures)
-
 pub invariant_of-self : goal.invariant_of-self
 invariant_of-self c =
     let u = rw c.in_default.is at c.flush_in-flushed.ensures.unchanged in
     rw (u.0, u.1) c.self.invariant
 
-pub returns-clause-handed : goal.returns-clause-handed
-returns-clause-handed c =
+pub returns-in_default-clause-left : goal.returns-in_default-clause-left
+returns-in_default-clause-left c =
     let s = c.self.inside in
-    let number = c.session.ensures ∙ number-at s.pool s.sides.items s.servers.items (joined s.tx s.pacer)
-    c.self.invariant.0 (undue c.args.self.now) (flat c.self.inside.pool c.self.inside.sides.items
-    c.self.inside.servers.items c.self.inside.tx c.self.inside.pacer c.args.self.now c.self.view_is)
-    c.args.i c.index.result.now
+    let number = c.session.ensures ∙ number-at s.pool s.sides.items s.servers.items
+    (joined s.tx s.pacer) c.self.invariant.0 (undue c.args.self.now) (flat s.pool s.sides.items
+    s.servers.items s.tx s.pacer c.args.self.now c.self.view_is) c.args.i c.index.result.now
+    c.requires.known c.index.ensures in
+    let h = rw c.in_default.is at c.flush_in-flushed.ensures in
+    let still = rw c.in_default.is at c.flush_in-flushed.ensures.unchanged in
+    changes-queue s.pool s.pool s.sides.items s.sides.items s.servers.items s.servers.items s.tx
+    c.flush_in-flushed.new.tx s.pacer c.flush_in-flushed.new.pacer c.args.self.now c.self.view_is
+    (λ xs ys. ys ≡ xs) (ap (λ (v : Shown). v.clients) c.self.view_is) refl refl
+    (without_least (is_owned (Ask c.args.i c.args.request))
+    queued_number) refl (h.queue ∙ ap (λ n. without_least (is_owned (Ask n c.args.request)) queued_number
+    (queue_of s.tx s.pacer)) number)
+    (ap (λ (r : Ring EntryValue). r.size) still.0)
+
+pub returns-clause-left : goal.returns-clause-left
+returns-clause-left c =
+    let s = c.self.inside in
+    let number = c.session.ensures ∙ number-at s.pool s.sides.items s.servers.items
+    (joined s.tx s.pacer) c.self.invariant.0 (undue c.args.self.now) (flat s.pool s.sides.items
+    s.servers.items s.tx s.pacer c.args.self.now c.self.view_is) c.args.i c.index.result.now
     c.requires.known c.index.ensures in
     let h = rw c.in-Some.is at c.flush_in-flushed.ensures in
     let own = least-own c.session.result c.args.request c.in-Some.entry h.own
     ∙ ap (λ n. Ask n c.args.request) number in
-    rw (← c.self.view_is) (flushed-handed s.pool c.flushed_at.new.pool s.sides.items
-    c.flushed_at.new.sides.items s.servers.items (joined s.tx s.pacer) c.args.i c.args.request c.in-Some.entry
-    (is_entry (Ask c.session.result c.args.request) c.in-Some.entry.number)
+    changes-queue s.pool c.flushed_at.new.pool s.sides.items c.flushed_at.new.sides.items
+    s.servers.items s.servers.items s.tx c.flush_in-flushed.new.tx s.pacer
+    c.flush_in-flushed.new.pacer c.args.self.now c.self.view_is (λ xs ys. ys ≡ xs)
+    (flushed-clients s.pool c.flushed_at.new.pool s.sides.items
+    c.flushed_at.new.sides.items s.servers.items (joined s.tx s.pacer) c.args.i c.args.request
+    c.in-Some.entry (is_entry (Ask c.session.result c.args.request) c.in-Some.entry.number)
+    (joined c.flush_in-flushed.new.tx c.flush_in-flushed.new.pacer).items c.self.invariant.0
+    h.nearest own c.flushed_at.ensures ∙ ap (λ (v : Shown). v.clients) c.self.view_is)
+    (rw c.flushed_at.ensures.step.gone.pool (servers-released s.pool s.servers.items
+    c.in-Some.entry.place)) (flushed-places s.pool c.flushed_at.new.pool s.sides.items
+    c.flushed_at.new.sides.items s.servers.items (joined s.tx s.pacer) c.args.i c.args.request
+    c.in-Some.entry (is_entry (Ask c.session.result c.args.request) c.in-Some.entry.number)
     (joined c.flush_in-flushed.new.tx c.flush_in-flushed.new.pacer).items c.self.invariant.0
     h.nearest own c.flushed_at.ensures)
+    (without_least (is_owned (Ask c.args.i c.args.request))
+    queued_number)
+    (flushed-handed s.pool c.flushed_at.new.pool s.sides.items
+    c.flushed_at.new.sides.items s.servers.items (joined s.tx s.pacer) c.args.i c.args.request
+    c.in-Some.entry (is_entry (Ask c.session.result c.args.request) c.in-Some.entry.number)
+    (joined c.flush_in-flushed.new.tx c.flush_in-flushed.new.pacer).items c.self.invariant.0
+    h.nearest own c.flushed_at.ensures)
+    (h.queue ∙ ap (λ n. without_least (is_owned (Ask n c.args.request)) queued_number
+    (queue_of s.tx s.pacer)) number)
+    (ap (λ r. r.size) h.left)

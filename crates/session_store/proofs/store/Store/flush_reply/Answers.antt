@@ -12,6 +12,13 @@ use Rattle.session_store.proofs.ReplyGoneLemmas.{reply-places, reply-servers, re
 use Rattle.session_store.proofs.ReplyGoneLemmas.{reply-handed}
 use Rattle.session_store.proofs.ShareLemmas.{gone-kept, servers-kept}
 use Rattle.session_store.proofs.WayLemmas.{ends-kept, gone-ways}
+use Rattle.session_store.proofs.ChangesLemmas.{changes-queue}
+use Rattle.std.proofs.Common.{◌≡◌, refl}
+use Rattle.session_store.specs.Sides.{Shown}
+use Rattle.packet_rings.specs.Rings.{Ring}
+use Rattle.packet_rings.specs.Values.{EntryValue}
+use Rattle.session_store.specs.Queue.{is_owned, queued_number}
+use Rattle.rpc_base.specs.Least.{without_least}
 use Rattle.session_store.proofs.store.Store.flush_reply.Goals as goal
 
 pub returns-in_default-clause-taken : goal.returns-in_default-clause-taken
@@ -20,9 +27,6 @@ returns-in_default-clause-taken c =
     let h = rw c.in_default.is at c.flush_in-flushed.ensures in
     rw (← c.self.view_is) (ap (option_map queued_of) h.taken
     ∙ taken-seen (Reply c.args.session c.args.request) s.tx s.pacer)
-
-pub returns-in_default-clause-queued : goal.returns-in_default-clause-queued
-returns-in_default-clause-queued c = rw (← c.self.view_is) c.flush_in-flushed.ensures.queue
 
 pub reply_flushed_at-requires-clause-stands : goal.reply_flushed_at-requires-clause-stands
 reply_flushed_at-requires-clause-stands c =
@@ -75,54 +79,49 @@ returns-clause-taken c =
     rw (← c.self.view_is) (ap (option_map queued_of) h.taken
     ∙ taken-seen (Reply c.args.session c.args.request) s.tx s.pacer)
 
-pub returns-clause-queued : goal.returns-clause-queued
-returns-clause-queued c = rw (← c.self.view_is) c.flush_in-flushed.ensures.queue
-
-pub returns-clause-clients : goal.returns-clause-clients
-returns-clause-clients c =
-    let s = c.self.inside in
-    let h = rw c.in-Some.is at c.flush_in-flushed.ensures in
-    let own = least-reply c.args.session c.args.request c.in-Some.entry h.own in
-    rw (← c.self.view_is) (reply-clients s.pool c.reply_flushed_at.new.pool s.sides.items
-    s.servers.items c.reply_flushed_at.new.servers.items (joined s.tx s.pacer) c.args.session c.args.request
-    c.in-Some.entry (is_entry (Reply c.args.session c.args.request) c.in-Some.entry.number)
-    (joined c.flush_in-flushed.new.tx c.flush_in-flushed.new.pacer).items c.self.invariant.0
-    h.nearest own c.reply_flushed_at.ensures)
-
-pub returns-clause-servers : goal.returns-clause-servers
-returns-clause-servers c =
-    let s = c.self.inside in
-    let h = rw c.in-Some.is at c.flush_in-flushed.ensures in
-    let own = least-reply c.args.session c.args.request c.in-Some.entry h.own in
-    rw (← c.self.view_is) (reply-servers s.pool c.reply_flushed_at.new.pool s.sides.items
-    s.servers.items c.reply_flushed_at.new.servers.items (joined s.tx s.pacer) c.args.session c.args.request
-    c.in-Some.entry (is_entry (Reply c.args.session c.args.request) c.in-Some.entry.number)
-    (joined c.flush_in-flushed.new.tx c.flush_in-flushed.new.pacer).items c.self.invariant.0
-    h.nearest own c.reply_flushed_at.ensures)
-
-pub returns-clause-places : goal.returns-clause-places
-returns-clause-places c =
-    let s = c.self.inside in
-    let h = rw c.in-Some.is at c.flush_in-flushed.ensures in
-    let own = least-reply c.args.session c.args.request c.in-Some.entry h.own in
-    rw (← c.self.view_is) (reply-places s.pool c.reply_flushed_at.new.pool s.sides.items
-    s.servers.items c.reply_flushed_at.new.servers.items (joined s.tx s.pacer) c.args.session c.args.request
-    c.in-Some.entry (is_entry (Reply c.args.session c.args.request) c.in-Some.entry.number)
-    (joined c.flush_in-flushed.new.tx c.flush_in-flushed.new.pacer).items c.self.invariant.0
-    h.nearest own c.reply_flushed_at.ensures)
-
 pub invariant_of-self : goal.invariant_of-self
 invariant_of-self c =
     let u = rw c.in_default.is at c.flush_in-flushed.ensures.unchanged in
     rw (u.0, u.1) c.self.invariant
 
-pub returns-clause-handed : goal.returns-clause-handed
-returns-clause-handed c =
+pub returns-in_default-clause-left : goal.returns-in_default-clause-left
+returns-in_default-clause-left c =
+    let s = c.self.inside in
+    let still = rw c.in_default.is at c.flush_in-flushed.ensures.unchanged in
+    changes-queue s.pool s.pool s.sides.items s.sides.items s.servers.items s.servers.items s.tx
+    c.flush_in-flushed.new.tx s.pacer c.flush_in-flushed.new.pacer c.args.self.now c.self.view_is
+    (λ xs ys. ys ≡ xs) (ap (λ (v : Shown). v.clients) c.self.view_is) refl refl (without_least
+    (is_owned (Reply c.args.session c.args.request)) queued_number) refl
+    c.flush_in-flushed.ensures.queue (ap (λ (r : Ring EntryValue). r.size) still.0)
+
+pub returns-clause-left : goal.returns-clause-left
+returns-clause-left c =
     let s = c.self.inside in
     let h = rw c.in-Some.is at c.flush_in-flushed.ensures in
     let own = least-reply c.args.session c.args.request c.in-Some.entry h.own in
-    rw (← c.self.view_is) (reply-handed s.pool c.reply_flushed_at.new.pool s.sides.items
-    s.servers.items c.reply_flushed_at.new.servers.items (joined s.tx s.pacer) c.args.session c.args.request
-    c.in-Some.entry (is_entry (Reply c.args.session c.args.request) c.in-Some.entry.number)
-    (joined c.flush_in-flushed.new.tx c.flush_in-flushed.new.pacer).items c.self.invariant.0
-    h.nearest own c.reply_flushed_at.ensures)
+    changes-queue s.pool c.reply_flushed_at.new.pool s.sides.items s.sides.items
+    s.servers.items c.reply_flushed_at.new.servers.items s.tx c.flush_in-flushed.new.tx s.pacer
+    c.flush_in-flushed.new.pacer c.args.self.now c.self.view_is (λ xs ys. ys ≡ xs)
+    (reply-clients s.pool c.reply_flushed_at.new.pool s.sides.items
+    s.servers.items c.reply_flushed_at.new.servers.items (joined s.tx s.pacer) c.args.session
+    c.args.request c.in-Some.entry (is_entry (Reply c.args.session c.args.request)
+    c.in-Some.entry.number) (joined c.flush_in-flushed.new.tx c.flush_in-flushed.new.pacer).items
+    c.self.invariant.0 h.nearest own c.reply_flushed_at.ensures
+    ∙ ap (λ (v : Shown). v.clients) c.self.view_is)
+    (reply-servers s.pool c.reply_flushed_at.new.pool s.sides.items
+    s.servers.items c.reply_flushed_at.new.servers.items (joined s.tx s.pacer) c.args.session
+    c.args.request c.in-Some.entry (is_entry (Reply c.args.session c.args.request)
+    c.in-Some.entry.number) (joined c.flush_in-flushed.new.tx c.flush_in-flushed.new.pacer).items
+    c.self.invariant.0 h.nearest own c.reply_flushed_at.ensures)
+    (reply-places s.pool c.reply_flushed_at.new.pool s.sides.items
+    s.servers.items c.reply_flushed_at.new.servers.items (joined s.tx s.pacer) c.args.session
+    c.args.request c.in-Some.entry (is_entry (Reply c.args.session c.args.request)
+    c.in-Some.entry.number) (joined c.flush_in-flushed.new.tx c.flush_in-flushed.new.pacer).items
+    c.self.invariant.0 h.nearest own c.reply_flushed_at.ensures) (without_least
+    (is_owned (Reply c.args.session c.args.request)) queued_number)
+    (reply-handed s.pool c.reply_flushed_at.new.pool s.sides.items
+    s.servers.items c.reply_flushed_at.new.servers.items (joined s.tx s.pacer) c.args.session
+    c.args.request c.in-Some.entry (is_entry (Reply c.args.session c.args.request)
+    c.in-Some.entry.number) (joined c.flush_in-flushed.new.tx c.flush_in-flushed.new.pacer).items
+    c.self.invariant.0 h.nearest own c.reply_flushed_at.ensures) h.queue
+    (ap (λ r. r.size) h.left)

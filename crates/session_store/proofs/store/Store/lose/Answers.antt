@@ -9,6 +9,10 @@ use Rattle.rpc_laws.specs.Groups.{live_credits}
 use Rattle.client_core.specs.declared.outcome.Done.{Done}
 use Rattle.session_store.specs.Sides.{Shown}
 use Rattle.session_store.proofs.ShareLemmas.{clients-kept, loses-kept}
+use Rattle.session_store.proofs.ChangesLemmas.{changes-calls}
+use Rattle.session_store.specs.Changes.{LosesAt}
+use Rattle.session_store.specs.Handing.{HandsBackIf}
+use Rattle.std.proofs.Common.{refl}
 use Rattle.session_store.proofs.store.Store.lose.Goals as goal
 
 pub lose_at-requires-clause-unheld : goal.lose_at-requires-clause-unheld
@@ -46,64 +50,31 @@ invariant_of-self c =
       c.self.invariant.3,
     )
 
-pub returns-clause-clients : goal.returns-clause-clients
-returns-clause-clients c =
-    let s = c.self.inside in
-    let h = c.lose_at.ensures in
-    let broken = lost-broken s.pool s.sides.items s.servers.items (joined s.tx s.pacer) c.self.invariant.0
-    (undue c.args.self.now) (flat c.self.inside.pool c.self.inside.sides.items
-    c.self.inside.servers.items c.self.inside.tx c.self.inside.pacer c.args.self.now
-    c.self.view_is) c.args.i c.requires.lost h.side h.at in
-    lose-clients s.pool c.lose_at.new.pool s.sides.items c.lose_at.new.sides.items s.servers.items
-    (joined s.tx s.pacer) c.self.invariant.0 (undue c.args.self.now)
-    (flat c.self.inside.pool c.self.inside.sides.items c.self.inside.servers.items
-    c.self.inside.tx c.self.inside.pacer c.args.self.now c.self.view_is) c.args.i
-    (idle-undue c.args.i c.args.self.now.queued c.requires.idle)
-    c.lose_at.result h broken
-
-pub returns-clause-servers : goal.returns-clause-servers
-returns-clause-servers c =
-    let s = c.self.inside in
-    let h = c.lose_at.ensures in
-    let broken = lost-broken s.pool s.sides.items s.servers.items (joined s.tx s.pacer) c.self.invariant.0
-    (undue c.args.self.now) (flat c.self.inside.pool c.self.inside.sides.items
-    c.self.inside.servers.items c.self.inside.tx c.self.inside.pacer c.args.self.now
-    c.self.view_is) c.args.i c.requires.lost h.side h.at in
-    rw (← c.self.view_is) (lose-servers s.pool c.lose_at.new.pool s.sides.items
-    c.lose_at.new.sides.items s.servers.items (joined s.tx s.pacer) c.self.invariant.0
-    (undue c.args.self.now) (flat c.self.inside.pool c.self.inside.sides.items
-    c.self.inside.servers.items c.self.inside.tx c.self.inside.pacer c.args.self.now c.self.view_is)
-    c.args.i (idle-undue c.args.i c.args.self.now.queued c.requires.idle) c.lose_at.result h broken)
-
-pub returns-clause-places : goal.returns-clause-places
-returns-clause-places c =
-    let s = c.self.inside in
-    let h = c.lose_at.ensures in
-    let broken = lost-broken s.pool s.sides.items s.servers.items (joined s.tx s.pacer) c.self.invariant.0
-    (undue c.args.self.now) (flat c.self.inside.pool c.self.inside.sides.items
-    c.self.inside.servers.items c.self.inside.tx c.self.inside.pacer c.args.self.now
-    c.self.view_is) c.args.i c.requires.lost h.side h.at in
-    rw (← c.self.view_is) (lose-places s.pool c.lose_at.new.pool s.sides.items
-    c.lose_at.new.sides.items s.servers.items (joined s.tx s.pacer) c.self.invariant.0
-    (undue c.args.self.now) (flat c.self.inside.pool c.self.inside.sides.items
-    c.self.inside.servers.items c.self.inside.tx c.self.inside.pacer c.args.self.now c.self.view_is)
-    c.args.i (idle-undue c.args.i c.args.self.now.queued c.requires.idle) c.lose_at.result h broken)
-
 pub returns-clause-ended_as : goal.returns-clause-ended_as
 returns-clause-ended_as c =
     let h = c.lose_at.ensures in
     lost-as h.side.session h.later c.self.inside.pool c.lose_at.new.pool c.lose_at.result h.step
 
-pub returns-clause-handed : goal.returns-clause-handed
-returns-clause-handed c =
+pub returns-clause-loses : goal.returns-clause-loses
+returns-clause-loses c =
     let s = c.self.inside in
     let h = c.lose_at.ensures in
-    let broken = lost-broken s.pool s.sides.items s.servers.items (joined s.tx s.pacer) c.self.invariant.0
-    (undue c.args.self.now) (flat c.self.inside.pool c.self.inside.sides.items
-    c.self.inside.servers.items c.self.inside.tx c.self.inside.pacer c.args.self.now
-    c.self.view_is) c.args.i c.requires.lost h.side h.at in
-    rw (← c.self.view_is) (lose-handed s.pool c.lose_at.new.pool s.sides.items
+    let seen = flat s.pool s.sides.items s.servers.items s.tx s.pacer c.args.self.now c.self.view_is in
+    let idle = idle-undue c.args.i c.args.self.now.queued c.requires.idle in
+    let broken = lost-broken s.pool s.sides.items s.servers.items (joined s.tx s.pacer)
+    c.self.invariant.0 (undue c.args.self.now) seen c.args.i c.requires.lost h.side h.at in
+    changes-calls s.pool c.lose_at.new.pool s.sides.items c.lose_at.new.sides.items
+    s.servers.items s.servers.items s.tx s.tx s.pacer s.pacer c.args.self.now c.self.view_is
+    (LosesAt c.args.i (option_map (λ (d : Done). d.call) c.lose_at.result))
+    (lose-clients s.pool c.lose_at.new.pool s.sides.items
     c.lose_at.new.sides.items s.servers.items (joined s.tx s.pacer) c.self.invariant.0
-    (undue c.args.self.now) (flat c.self.inside.pool c.self.inside.sides.items
-    c.self.inside.servers.items c.self.inside.tx c.self.inside.pacer c.args.self.now c.self.view_is)
-    c.args.i (idle-undue c.args.i c.args.self.now.queued c.requires.idle) c.lose_at.result h broken)
+    (undue c.args.self.now) seen c.args.i idle c.lose_at.result h broken)
+    (lose-servers s.pool c.lose_at.new.pool s.sides.items
+    c.lose_at.new.sides.items s.servers.items (joined s.tx s.pacer) c.self.invariant.0
+    (undue c.args.self.now) seen c.args.i idle c.lose_at.result h broken)
+    (lose-places s.pool c.lose_at.new.pool s.sides.items
+    c.lose_at.new.sides.items s.servers.items (joined s.tx s.pacer) c.self.invariant.0
+    (undue c.args.self.now) seen c.args.i idle c.lose_at.result h broken)
+    (HandsBackIf c.args.i c.lose_at.result) (lose-handed s.pool c.lose_at.new.pool s.sides.items
+    c.lose_at.new.sides.items s.servers.items (joined s.tx s.pacer) c.self.invariant.0
+    (undue c.args.self.now) seen c.args.i idle c.lose_at.result h broken) refl refl

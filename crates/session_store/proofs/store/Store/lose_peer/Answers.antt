@@ -1,10 +1,13 @@
 use Rattle.session_store.specs.Joined.{joined, undue}
 use Rattle.session_store.proofs.FlushLemmas.{there-at}
-use Rattle.session_store.proofs.LoseLemmas.{breaks-clients, breaks-handed, breaks-kept}
+use Rattle.session_store.proofs.LoseLemmas.{breaks-clients, breaks-handed, breaks-kept, breaks-places}
 use Rattle.session_store.proofs.UndueLemmas.{flat, idle-undue}
 use Rattle.std.proofs.Common.{refl, ◌∙◌}
 use Rattle.session_store.specs.declared.stage.Stage.TheVariants.{Broken}
 use Rattle.session_store.proofs.ShareLemmas.{live-connected, share-ended, share-within}
+use Rattle.session_store.proofs.ChangesLemmas.{changes-clients}
+use Rattle.session_store.specs.Changes.{ChangesAt}
+use Rattle.rpc_laws.specs.Sessions.{breaks}
 use Rattle.session_store.proofs.store.Store.lose_peer.Goals as goal
 
 pub overflow_sub-self : goal.overflow_sub-self
@@ -41,30 +44,20 @@ invariant_of-self c =
       c.self.invariant.3,
     )
 
-pub returns-clause-clients : goal.returns-clause-clients
-returns-clause-clients c =
+pub returns : goal.returns
+returns c =
     let s = c.self.inside in
+    let seen = flat s.pool s.sides.items s.servers.items s.tx s.pacer c.args.self.now c.self.view_is in
     let at = there-at s.pool s.sides.items s.servers.items (joined s.tx s.pacer) c.self.invariant.0
-    (undue c.args.self.now) (flat c.self.inside.pool c.self.inside.sides.items
-    c.self.inside.servers.items c.self.inside.tx c.self.inside.pacer c.args.self.now
-    c.self.view_is) c.args.i c.index_mut-side.result.now c.requires.known
+    (undue c.args.self.now) seen c.args.i c.index_mut-side.result.now c.requires.known
     c.index_mut-side.ensures.value in
-    breaks-clients s.pool s.sides.items s.servers.items (joined s.tx s.pacer) c.self.invariant.0
-    (undue c.args.self.now) (flat c.self.inside.pool c.self.inside.sides.items
-    c.self.inside.servers.items c.self.inside.tx c.self.inside.pacer c.args.self.now c.self.view_is)
-    c.args.i c.index_mut-side.result.now at (idle-undue c.args.i c.args.self.now.queued
-    c.requires.idle) c.requires.connected
-
-pub returns-clause-handed : goal.returns-clause-handed
-returns-clause-handed c =
-    let s = c.self.inside in
-    let at = there-at s.pool s.sides.items s.servers.items (joined s.tx s.pacer) c.self.invariant.0
-    (undue c.args.self.now) (flat c.self.inside.pool c.self.inside.sides.items
-    c.self.inside.servers.items c.self.inside.tx c.self.inside.pacer c.args.self.now
-    c.self.view_is) c.args.i c.index_mut-side.result.now c.requires.known
-    c.index_mut-side.ensures.value in
-    rw (← c.self.view_is) (breaks-handed s.pool s.sides.items s.servers.items (joined s.tx s.pacer) c.self.invariant.0
-    (undue c.args.self.now) (flat c.self.inside.pool c.self.inside.sides.items
-    c.self.inside.servers.items c.self.inside.tx c.self.inside.pacer c.args.self.now c.self.view_is)
-    c.args.i c.index_mut-side.result.now at (idle-undue c.args.i c.args.self.now.queued
-    c.requires.idle) c.requires.connected)
+    let idle = idle-undue c.args.i c.args.self.now.queued c.requires.idle in
+    changes-clients s.pool s.pool s.sides.items _ s.servers.items s.servers.items s.tx s.tx s.pacer
+    s.pacer c.args.self.now c.self.view_is (ChangesAt c.args.i breaks)
+    (breaks-clients s.pool s.sides.items s.servers.items (joined s.tx s.pacer) c.self.invariant.0
+    (undue c.args.self.now) seen c.args.i c.index_mut-side.result.now at idle c.requires.connected)
+    refl (breaks-places s.pool s.sides.items s.servers.items (joined s.tx s.pacer)
+    c.self.invariant.0 (undue c.args.self.now) seen c.args.i c.index_mut-side.result.now at idle
+    c.requires.connected) (breaks-handed s.pool s.sides.items s.servers.items
+    (joined s.tx s.pacer) c.self.invariant.0 (undue c.args.self.now) seen c.args.i
+    c.index_mut-side.result.now at idle c.requires.connected) refl refl

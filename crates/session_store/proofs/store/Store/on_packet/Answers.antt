@@ -9,14 +9,14 @@ use Rattle.pacing_wheel.specs.Wheel.{entry_of}
 use Rattle.rpc_laws.specs.Queues.{numbers_of}
 use Rattle.server_core.specs.Flushing.{has_begun, replies_of}
 use Rattle.server_core.specs.Rows.{row_of}
-use Rattle.server_core.specs.Session.{newest}
+use Rattle.server_core.specs.Session.{IsSession, newest}
 use Rattle.session_store.specs.Joined.{joined, queue_of, undue}
 use Rattle.session_store.specs.Sides.{Kept}
 use Rattle.session_store.proofs.HandledLemmas.{beside-step, holds-ready, paced-calls, paced-numbers}
 use Rattle.session_store.proofs.HandledLemmas.{queue-none, queue-one, queued-ready}
 use Rattle.session_store.proofs.JoinLemmas.{put-behind}
 use Rattle.session_store.proofs.PutLemmas.{kept-put}
-use Rattle.session_store.proofs.ServeLemmas.{at-served, final-none, final-one, may-hold, new-room}
+use Rattle.session_store.proofs.ServeLemmas.{at-served, final-none, final-one, later-is, may-hold, new-room}
 use Rattle.session_store.proofs.ServeLemmas.{queue-by, seen-own, serve-at, serve-clients}
 use Rattle.session_store.proofs.ServeLemmas.{serve-kept, serve-places, served-at}
 use Rattle.session_store.proofs.StoreLemmas.{ring-room, two-spare}
@@ -71,44 +71,25 @@ invariant_of-self g c =
     let room = ring-room s.pool s.sides.items s.servers.items (joined s.tx s.pacer)
     (undue c.args.self.now) (flat s.pool s.sides.items s.servers.items s.tx s.pacer
     c.args.self.now c.self.view_is) (less-undue c.args.self.now c.requires.ring) in
-    let step = beside-step g.R.Recorder.log
-    (g.V.Service.mode_of c.args.head.now.req_type) c.args.jobs_full c.args.me c.args.i
-    c.args.head.now c.args.body.now g.V.Service.answer
-    (g.V.Service.stands c.args.service.now)
-    (g.V.Service.stands c.asked_at-step.new.service) c.args.rec.now c.asked_at-step.new.rec
-    c.asked_at-step.result s.tx c.asked_at-step.new.tx s.pool c.asked_at-step.new.pool
-    (map entry_of s.pacer.items) (paced-calls s.pacer.items calls) s.servers.items
-    c.asked_at-step.new.servers.items handles in
+    let step = beside-step (map entry_of s.pacer.items) (paced-calls s.pacer.items calls) handles in
+    let sound : IsSession handles.later = rw (later-is handles) at c.asked_at-step.ensures.sound in
     let none = c.reply_of.ensures ∙ ap listed_entry c.in_default.is in
-    let same = final-none g.R.Recorder.log
-    (g.V.Service.mode_of c.args.head.now.req_type) c.args.jobs_full c.args.me c.args.i
-    c.args.head.now c.args.body.now g.V.Service.answer
-    (g.V.Service.stands c.args.service.now)
-    (g.V.Service.stands c.asked_at-step.new.service) c.args.rec.now c.asked_at-step.new.rec
-    c.asked_at-step.result (joined s.tx s.pacer) (joined c.asked_at-step.new.tx s.pacer) s.pool
-    c.asked_at-step.new.pool s.sides.items s.servers.items c.asked_at-step.new.servers.items
-    c.self.invariant.0 room step none in
+    let done = handles.step.leaves.handled in
     let size = ap (λ r. r.size) handles.step.ring_is in (
       subst (λ (t : Ring EntryValue). Kept c.asked_at-step.new.pool s.sides.items
-          c.asked_at-step.new.servers.items t) same (serve-kept g.R.Recorder.log
-          (g.V.Service.mode_of c.args.head.now.req_type) c.args.jobs_full c.args.me c.args.i
-          c.args.head.now c.args.body.now g.V.Service.answer
-          (g.V.Service.stands c.args.service.now)
-          (g.V.Service.stands c.asked_at-step.new.service) c.args.rec.now c.asked_at-step.new.rec
-          c.asked_at-step.result (joined s.tx s.pacer) (joined c.asked_at-step.new.tx s.pacer) s.pool
-          c.asked_at-step.new.pool s.sides.items s.servers.items c.asked_at-step.new.servers.items
-          c.self.invariant.0 room step),
+          c.asked_at-step.new.servers.items t)
+          (final-none c.self.invariant.0 room step sound none)
+          (serve-kept c.self.invariant.0 room step sound),
       record { calls = calls; half = c.self.invariant.1.half ∙ sym size },
       servers-kept s.shares s.pool c.asked_at-step.new.pool s.sides.items s.servers.items
           c.asked_at-step.new.servers.items (step-kept c.args.i s.servers.items
           c.asked_at-step.new.servers.items handles.server handles.later handles.at handles.changed
-          (steps-credits c.asked_at-step.result handles.step.handled.answer c.args.head.now
-          c.args.body.now _ _ handles.step.handled.steps)) c.self.invariant.2,
+          (steps-credits c.asked_at-step.result done.answer c.args.head.now c.args.body.now _ _
+          done.steps)) c.self.invariant.2,
       ends-kept s.ends.items s.servers.items c.asked_at-step.new.servers.items
           (step-ways c.args.i s.servers.items c.asked_at-step.new.servers.items handles.server
-          handles.later handles.at handles.changed (steps-way c.asked_at-step.result
-          handles.step.handled.answer c.args.head.now c.args.body.now _ _
-          handles.step.handled.steps)) c.self.invariant.3,
+          handles.later handles.at handles.changed (steps-way c.asked_at-step.result done.answer
+          c.args.head.now c.args.body.now _ _ done.steps)) c.self.invariant.3,
     )
 
 pub push-requires : goal.push-requires
@@ -119,23 +100,15 @@ push-requires g c =
     let room = ring-room s.pool s.sides.items s.servers.items (joined s.tx s.pacer)
     (undue c.args.self.now) (flat s.pool s.sides.items s.servers.items s.tx s.pacer
     c.args.self.now c.self.view_is) (less-undue c.args.self.now c.requires.ring) in
-    let step = beside-step g.R.Recorder.log
-    (g.V.Service.mode_of c.args.head.now.req_type) c.args.jobs_full c.args.me c.args.i
-    c.args.head.now c.args.body.now g.V.Service.answer
-    (g.V.Service.stands c.args.service.now)
-    (g.V.Service.stands c.asked_at-step.new.service) c.args.rec.now c.asked_at-step.new.rec
-    c.asked_at-step.result s.tx c.asked_at-step.new.tx s.pool c.asked_at-step.new.pool
-    (map entry_of s.pacer.items) (paced-calls s.pacer.items calls) s.servers.items
-    c.asked_at-step.new.servers.items handles in
-    let free = new-room g.R.Recorder.log
-    (g.V.Service.mode_of c.args.head.now.req_type) c.args.jobs_full c.args.me c.args.i
-    c.args.head.now c.args.body.now g.V.Service.answer
-    (g.V.Service.stands c.args.service.now)
-    (g.V.Service.stands c.asked_at-step.new.service) c.args.rec.now c.asked_at-step.new.rec
-    c.asked_at-step.result (joined s.tx s.pacer) (joined c.asked_at-step.new.tx s.pacer) s.pool
-    c.asked_at-step.new.pool s.sides.items s.servers.items c.asked_at-step.new.servers.items
-    c.self.invariant.0 room step in
-    record { room = omega (arith, free, joined-length c.asked_at-step.new.tx s.pacer) }
+    let step = beside-step (map entry_of s.pacer.items) (paced-calls s.pacer.items calls) handles in
+    let sound : IsSession handles.later = rw (later-is handles) at c.asked_at-step.ensures.sound in
+    record {
+      room = omega (
+        arith,
+        new-room c.self.invariant.0 room step sound,
+        joined-length c.asked_at-step.new.tx s.pacer,
+      );
+    }
 
 pub invariant_of-self-2 : goal.invariant_of-self-2
 invariant_of-self-2 g c =
@@ -145,23 +118,10 @@ invariant_of-self-2 g c =
     let room = ring-room s.pool s.sides.items s.servers.items (joined s.tx s.pacer)
     (undue c.args.self.now) (flat s.pool s.sides.items s.servers.items s.tx s.pacer
     c.args.self.now c.self.view_is) (less-undue c.args.self.now c.requires.ring) in
-    let step = beside-step g.R.Recorder.log
-    (g.V.Service.mode_of c.args.head.now.req_type) c.args.jobs_full c.args.me c.args.i
-    c.args.head.now c.args.body.now g.V.Service.answer
-    (g.V.Service.stands c.args.service.now)
-    (g.V.Service.stands c.asked_at-step.new.service) c.args.rec.now c.asked_at-step.new.rec
-    c.asked_at-step.result s.tx c.asked_at-step.new.tx s.pool c.asked_at-step.new.pool
-    (map entry_of s.pacer.items) (paced-calls s.pacer.items calls) s.servers.items
-    c.asked_at-step.new.servers.items handles in
+    let step = beside-step (map entry_of s.pacer.items) (paced-calls s.pacer.items calls) handles in
+    let sound : IsSession handles.later = rw (later-is handles) at c.asked_at-step.ensures.sound in
     let one = c.reply_of.ensures ∙ ap listed_entry c.in-Some.is in
-    let same = final-one g.R.Recorder.log
-    (g.V.Service.mode_of c.args.head.now.req_type) c.args.jobs_full c.args.me c.args.i
-    c.args.head.now c.args.body.now g.V.Service.answer
-    (g.V.Service.stands c.args.service.now)
-    (g.V.Service.stands c.asked_at-step.new.service) c.args.rec.now c.asked_at-step.new.rec
-    c.asked_at-step.result (joined s.tx s.pacer) (joined c.asked_at-step.new.tx s.pacer) s.pool
-    c.asked_at-step.new.pool s.sides.items s.servers.items c.asked_at-step.new.servers.items
-    c.self.invariant.0 room step c.in-Some.reply one in
+    let done = handles.step.leaves.handled in
     let size = ap (λ r. r.size) handles.step.ring_is in
     let tx = c.asked_at-step.new.tx in
     rw c.push.ensures (
@@ -170,25 +130,19 @@ invariant_of-self-2 g c =
           (joined (ring (tx.items ++ c.in-Some.reply ∷ []) tx.size) s.pacer)
           (put-behind tx.items s.pacer.items c.in-Some.reply) refl
           (subst (λ (t : Ring EntryValue). Kept c.asked_at-step.new.pool s.sides.items
-          c.asked_at-step.new.servers.items t) same (serve-kept g.R.Recorder.log
-          (g.V.Service.mode_of c.args.head.now.req_type) c.args.jobs_full c.args.me c.args.i
-          c.args.head.now c.args.body.now g.V.Service.answer
-          (g.V.Service.stands c.args.service.now)
-          (g.V.Service.stands c.asked_at-step.new.service) c.args.rec.now c.asked_at-step.new.rec
-          c.asked_at-step.result (joined s.tx s.pacer) (joined c.asked_at-step.new.tx s.pacer) s.pool
-          c.asked_at-step.new.pool s.sides.items s.servers.items c.asked_at-step.new.servers.items
-          c.self.invariant.0 room step)),
+          c.asked_at-step.new.servers.items t)
+          (final-one c.self.invariant.0 room step sound c.in-Some.reply one)
+          (serve-kept c.self.invariant.0 room step sound)),
       record { calls = calls; half = c.self.invariant.1.half ∙ sym size },
       servers-kept s.shares s.pool c.asked_at-step.new.pool s.sides.items s.servers.items
           c.asked_at-step.new.servers.items (step-kept c.args.i s.servers.items
           c.asked_at-step.new.servers.items handles.server handles.later handles.at handles.changed
-          (steps-credits c.asked_at-step.result handles.step.handled.answer c.args.head.now
-          c.args.body.now _ _ handles.step.handled.steps)) c.self.invariant.2,
+          (steps-credits c.asked_at-step.result done.answer c.args.head.now c.args.body.now _ _
+          done.steps)) c.self.invariant.2,
       ends-kept s.ends.items s.servers.items c.asked_at-step.new.servers.items
           (step-ways c.args.i s.servers.items c.asked_at-step.new.servers.items handles.server
-          handles.later handles.at handles.changed (steps-way c.asked_at-step.result
-          handles.step.handled.answer c.args.head.now c.args.body.now _ _
-          handles.step.handled.steps)) c.self.invariant.3,
+          handles.later handles.at handles.changed (steps-way c.asked_at-step.result done.answer
+          c.args.head.now c.args.body.now _ _ done.steps)) c.self.invariant.3,
     )
 
 pub returns-in_default-clause-handles : goal.returns-in_default-clause-handles
@@ -199,44 +153,25 @@ returns-in_default-clause-handles g c =
     let room = ring-room s.pool s.sides.items s.servers.items (joined s.tx s.pacer)
     (undue c.args.self.now) (flat s.pool s.sides.items s.servers.items s.tx s.pacer
     c.args.self.now c.self.view_is) (less-undue c.args.self.now c.requires.ring) in
-    let step = beside-step g.R.Recorder.log
-    (g.V.Service.mode_of c.args.head.now.req_type) c.args.jobs_full c.args.me c.args.i
-    c.args.head.now c.args.body.now g.V.Service.answer
-    (g.V.Service.stands c.args.service.now)
-    (g.V.Service.stands c.asked_at-step.new.service) c.args.rec.now c.asked_at-step.new.rec
-    c.asked_at-step.result s.tx c.asked_at-step.new.tx s.pool c.asked_at-step.new.pool
-    (map entry_of s.pacer.items) (paced-calls s.pacer.items calls) s.servers.items
-    c.asked_at-step.new.servers.items handles in
+    let step = beside-step (map entry_of s.pacer.items) (paced-calls s.pacer.items calls) handles in
+    let sound : IsSession handles.later = rw (later-is handles) at c.asked_at-step.ensures.sound in
     let none = c.reply_of.ensures ∙ ap listed_entry c.in_default.is in
     let own = seen-own s.pool s.sides.items s.servers.items (joined s.tx s.pacer)
     (undue c.args.self.now) c.args.i c.args.head.now.session handles.server (flat s.pool
     s.sides.items s.servers.items s.tx s.pacer c.args.self.now c.self.view_is)
     c.requires.session handles.at in
     let n = handles.server.number in
-    let mode = g.V.Service.mode_of c.args.head.now.req_type in
-    let row = row_of mode c.args.jobs_full c.args.head.now handles.server in
+    let row = row_of (g.V.Service.mode_of c.args.head.now.req_type) c.args.jobs_full
+    c.args.head.now handles.server in
     let begins = has_begun row c.asked_at-step.result in
     let older = newest c.args.head.now.request handles.server in
     let seen : queue_of s.tx s.pacer ≡ c.args.self.now.queued = ap (λ v. v.queued) c.self.view_is in
-    serve-at g.R.Recorder.log
-    (g.V.Service.mode_of c.args.head.now.req_type) c.args.jobs_full c.args.me c.args.i
-    c.args.head.now c.args.body.now g.V.Service.answer
-    (g.V.Service.stands c.args.service.now)
-    (g.V.Service.stands c.asked_at-step.new.service) c.args.rec.now c.asked_at-step.new.rec
-    c.asked_at-step.result (joined s.tx s.pacer) (joined c.asked_at-step.new.tx s.pacer) s.pool
-    c.asked_at-step.new.pool s.sides.items s.servers.items c.asked_at-step.new.servers.items
-    c.self.invariant.0 room step own c.args.self.now _ (ap (λ v. v.servers) c.self.view_is) refl
+    serve-at c.self.invariant.0 room step sound own c.args.self.now _
+    (ap (λ v. v.servers) c.self.view_is) refl
     (λ r. paced-numbers n r s.tx.items s.pacer.items calls
     ∙ ap (λ qs. numbers_of (Reply n r) qs) seen)
-    (queue-by g.R.Recorder.log
-    (g.V.Service.mode_of c.args.head.now.req_type) c.args.jobs_full c.args.me c.args.i
-    c.args.head.now c.args.body.now g.V.Service.answer
-    (g.V.Service.stands c.args.service.now)
-    (g.V.Service.stands c.asked_at-step.new.service) c.args.rec.now c.asked_at-step.new.rec
-    c.asked_at-step.result (joined s.tx s.pacer) (joined c.asked_at-step.new.tx s.pacer) s.pool
-    c.asked_at-step.new.pool s.sides.items s.servers.items c.asked_at-step.new.servers.items
-    c.self.invariant.0 room step c.args.self.now.queued _ (queue-none s.pool n older s.tx.items
-    c.asked_at-step.new.tx.items s.pacer.items begins calls
+    (queue-by c.self.invariant.0 room step sound c.args.self.now.queued _ (queue-none s.pool n older
+    s.tx.items c.asked_at-step.new.tx.items s.pacer.items begins calls
     (ap (λ r. r.items) handles.step.ring_is) c.args.self.now.queued seen
     (replies_of c.asked_at-step.result) none))
 
@@ -248,44 +183,25 @@ returns-clause-handles g c =
     let room = ring-room s.pool s.sides.items s.servers.items (joined s.tx s.pacer)
     (undue c.args.self.now) (flat s.pool s.sides.items s.servers.items s.tx s.pacer
     c.args.self.now c.self.view_is) (less-undue c.args.self.now c.requires.ring) in
-    let step = beside-step g.R.Recorder.log
-    (g.V.Service.mode_of c.args.head.now.req_type) c.args.jobs_full c.args.me c.args.i
-    c.args.head.now c.args.body.now g.V.Service.answer
-    (g.V.Service.stands c.args.service.now)
-    (g.V.Service.stands c.asked_at-step.new.service) c.args.rec.now c.asked_at-step.new.rec
-    c.asked_at-step.result s.tx c.asked_at-step.new.tx s.pool c.asked_at-step.new.pool
-    (map entry_of s.pacer.items) (paced-calls s.pacer.items calls) s.servers.items
-    c.asked_at-step.new.servers.items handles in
+    let step = beside-step (map entry_of s.pacer.items) (paced-calls s.pacer.items calls) handles in
+    let sound : IsSession handles.later = rw (later-is handles) at c.asked_at-step.ensures.sound in
     let one = c.reply_of.ensures ∙ ap listed_entry c.in-Some.is in
     let own = seen-own s.pool s.sides.items s.servers.items (joined s.tx s.pacer)
     (undue c.args.self.now) c.args.i c.args.head.now.session handles.server (flat s.pool
     s.sides.items s.servers.items s.tx s.pacer c.args.self.now c.self.view_is)
     c.requires.session handles.at in
     let n = handles.server.number in
-    let mode = g.V.Service.mode_of c.args.head.now.req_type in
-    let row = row_of mode c.args.jobs_full c.args.head.now handles.server in
+    let row = row_of (g.V.Service.mode_of c.args.head.now.req_type) c.args.jobs_full
+    c.args.head.now handles.server in
     let begins = has_begun row c.asked_at-step.result in
     let older = newest c.args.head.now.request handles.server in
     let seen : queue_of s.tx s.pacer ≡ c.args.self.now.queued = ap (λ v. v.queued) c.self.view_is in
-    rw c.push.ensures (serve-at g.R.Recorder.log
-    (g.V.Service.mode_of c.args.head.now.req_type) c.args.jobs_full c.args.me c.args.i
-    c.args.head.now c.args.body.now g.V.Service.answer
-    (g.V.Service.stands c.args.service.now)
-    (g.V.Service.stands c.asked_at-step.new.service) c.args.rec.now c.asked_at-step.new.rec
-    c.asked_at-step.result (joined s.tx s.pacer) (joined c.asked_at-step.new.tx s.pacer) s.pool
-    c.asked_at-step.new.pool s.sides.items s.servers.items c.asked_at-step.new.servers.items
-    c.self.invariant.0 room step own c.args.self.now _ (ap (λ v. v.servers) c.self.view_is) refl
+    rw c.push.ensures (serve-at c.self.invariant.0 room step sound own c.args.self.now _
+    (ap (λ v. v.servers) c.self.view_is) refl
     (λ r. paced-numbers n r s.tx.items s.pacer.items calls
     ∙ ap (λ qs. numbers_of (Reply n r) qs) seen)
-    (queue-by g.R.Recorder.log
-    (g.V.Service.mode_of c.args.head.now.req_type) c.args.jobs_full c.args.me c.args.i
-    c.args.head.now c.args.body.now g.V.Service.answer
-    (g.V.Service.stands c.args.service.now)
-    (g.V.Service.stands c.asked_at-step.new.service) c.args.rec.now c.asked_at-step.new.rec
-    c.asked_at-step.result (joined s.tx s.pacer) (joined c.asked_at-step.new.tx s.pacer) s.pool
-    c.asked_at-step.new.pool s.sides.items s.servers.items c.asked_at-step.new.servers.items
-    c.self.invariant.0 room step c.args.self.now.queued _ (queue-one s.pool n older s.tx.items
-    c.asked_at-step.new.tx.items s.pacer.items begins calls
+    (queue-by c.self.invariant.0 room step sound c.args.self.now.queued _ (queue-one s.pool n older
+    s.tx.items c.asked_at-step.new.tx.items s.pacer.items begins calls
     (ap (λ r. r.items) handles.step.ring_is) c.args.self.now.queued seen
     (replies_of c.asked_at-step.result) c.in-Some.reply one)))
 
@@ -297,22 +213,9 @@ returns-in_default-clause-clients g c =
     let room = ring-room s.pool s.sides.items s.servers.items (joined s.tx s.pacer)
     (undue c.args.self.now) (flat s.pool s.sides.items s.servers.items s.tx s.pacer
     c.args.self.now c.self.view_is) (less-undue c.args.self.now c.requires.ring) in
-    let step = beside-step g.R.Recorder.log
-    (g.V.Service.mode_of c.args.head.now.req_type) c.args.jobs_full c.args.me c.args.i
-    c.args.head.now c.args.body.now g.V.Service.answer
-    (g.V.Service.stands c.args.service.now)
-    (g.V.Service.stands c.asked_at-step.new.service) c.args.rec.now c.asked_at-step.new.rec
-    c.asked_at-step.result s.tx c.asked_at-step.new.tx s.pool c.asked_at-step.new.pool
-    (map entry_of s.pacer.items) (paced-calls s.pacer.items calls) s.servers.items
-    c.asked_at-step.new.servers.items handles in
-    rw (← c.self.view_is) (serve-clients g.R.Recorder.log
-    (g.V.Service.mode_of c.args.head.now.req_type) c.args.jobs_full c.args.me c.args.i
-    c.args.head.now c.args.body.now g.V.Service.answer
-    (g.V.Service.stands c.args.service.now)
-    (g.V.Service.stands c.asked_at-step.new.service) c.args.rec.now c.asked_at-step.new.rec
-    c.asked_at-step.result (joined s.tx s.pacer) (joined c.asked_at-step.new.tx s.pacer) s.pool
-    c.asked_at-step.new.pool s.sides.items s.servers.items c.asked_at-step.new.servers.items
-    c.self.invariant.0 room step)
+    let step = beside-step (map entry_of s.pacer.items) (paced-calls s.pacer.items calls) handles in
+    let sound : IsSession handles.later = rw (later-is handles) at c.asked_at-step.ensures.sound in
+    rw (← c.self.view_is) (serve-clients c.self.invariant.0 room step sound)
 
 pub returns-in_default-clause-places : goal.returns-in_default-clause-places
 returns-in_default-clause-places g c =
@@ -322,82 +225,9 @@ returns-in_default-clause-places g c =
     let room = ring-room s.pool s.sides.items s.servers.items (joined s.tx s.pacer)
     (undue c.args.self.now) (flat s.pool s.sides.items s.servers.items s.tx s.pacer
     c.args.self.now c.self.view_is) (less-undue c.args.self.now c.requires.ring) in
-    let step = beside-step g.R.Recorder.log
-    (g.V.Service.mode_of c.args.head.now.req_type) c.args.jobs_full c.args.me c.args.i
-    c.args.head.now c.args.body.now g.V.Service.answer
-    (g.V.Service.stands c.args.service.now)
-    (g.V.Service.stands c.asked_at-step.new.service) c.args.rec.now c.asked_at-step.new.rec
-    c.asked_at-step.result s.tx c.asked_at-step.new.tx s.pool c.asked_at-step.new.pool
-    (map entry_of s.pacer.items) (paced-calls s.pacer.items calls) s.servers.items
-    c.asked_at-step.new.servers.items handles in
-    rw (← c.self.view_is) (serve-places g.R.Recorder.log
-    (g.V.Service.mode_of c.args.head.now.req_type) c.args.jobs_full c.args.me c.args.i
-    c.args.head.now c.args.body.now g.V.Service.answer
-    (g.V.Service.stands c.args.service.now)
-    (g.V.Service.stands c.asked_at-step.new.service) c.args.rec.now c.asked_at-step.new.rec
-    c.asked_at-step.result (joined s.tx s.pacer) (joined c.asked_at-step.new.tx s.pacer) s.pool
-    c.asked_at-step.new.pool s.sides.items s.servers.items c.asked_at-step.new.servers.items
-    c.self.invariant.0 room step)
-
-pub returns-in_default-clause-all_served : goal.returns-in_default-clause-all_served
-returns-in_default-clause-all_served g c =
-    at-served c.asked_at-step.new.pool c.asked_at-step.new.servers.items c.args.i
-    g.V.Service.mode_of c.asked_at-step.ensures.all_served
-
-pub returns-clause-clients : goal.returns-clause-clients
-returns-clause-clients g c =
-    let s = c.self.inside in
-    let handles = c.asked_at-step.ensures.handles in
-    let calls = c.self.invariant.1.calls in
-    let room = ring-room s.pool s.sides.items s.servers.items (joined s.tx s.pacer)
-    (undue c.args.self.now) (flat s.pool s.sides.items s.servers.items s.tx s.pacer
-    c.args.self.now c.self.view_is) (less-undue c.args.self.now c.requires.ring) in
-    let step = beside-step g.R.Recorder.log
-    (g.V.Service.mode_of c.args.head.now.req_type) c.args.jobs_full c.args.me c.args.i
-    c.args.head.now c.args.body.now g.V.Service.answer
-    (g.V.Service.stands c.args.service.now)
-    (g.V.Service.stands c.asked_at-step.new.service) c.args.rec.now c.asked_at-step.new.rec
-    c.asked_at-step.result s.tx c.asked_at-step.new.tx s.pool c.asked_at-step.new.pool
-    (map entry_of s.pacer.items) (paced-calls s.pacer.items calls) s.servers.items
-    c.asked_at-step.new.servers.items handles in
-    rw (← c.self.view_is) (serve-clients g.R.Recorder.log
-    (g.V.Service.mode_of c.args.head.now.req_type) c.args.jobs_full c.args.me c.args.i
-    c.args.head.now c.args.body.now g.V.Service.answer
-    (g.V.Service.stands c.args.service.now)
-    (g.V.Service.stands c.asked_at-step.new.service) c.args.rec.now c.asked_at-step.new.rec
-    c.asked_at-step.result (joined s.tx s.pacer) (joined c.asked_at-step.new.tx s.pacer) s.pool
-    c.asked_at-step.new.pool s.sides.items s.servers.items c.asked_at-step.new.servers.items
-    c.self.invariant.0 room step)
-
-pub returns-clause-places : goal.returns-clause-places
-returns-clause-places g c =
-    let s = c.self.inside in
-    let handles = c.asked_at-step.ensures.handles in
-    let calls = c.self.invariant.1.calls in
-    let room = ring-room s.pool s.sides.items s.servers.items (joined s.tx s.pacer)
-    (undue c.args.self.now) (flat s.pool s.sides.items s.servers.items s.tx s.pacer
-    c.args.self.now c.self.view_is) (less-undue c.args.self.now c.requires.ring) in
-    let step = beside-step g.R.Recorder.log
-    (g.V.Service.mode_of c.args.head.now.req_type) c.args.jobs_full c.args.me c.args.i
-    c.args.head.now c.args.body.now g.V.Service.answer
-    (g.V.Service.stands c.args.service.now)
-    (g.V.Service.stands c.asked_at-step.new.service) c.args.rec.now c.asked_at-step.new.rec
-    c.asked_at-step.result s.tx c.asked_at-step.new.tx s.pool c.asked_at-step.new.pool
-    (map entry_of s.pacer.items) (paced-calls s.pacer.items calls) s.servers.items
-    c.asked_at-step.new.servers.items handles in
-    rw (← c.self.view_is) (serve-places g.R.Recorder.log
-    (g.V.Service.mode_of c.args.head.now.req_type) c.args.jobs_full c.args.me c.args.i
-    c.args.head.now c.args.body.now g.V.Service.answer
-    (g.V.Service.stands c.args.service.now)
-    (g.V.Service.stands c.asked_at-step.new.service) c.args.rec.now c.asked_at-step.new.rec
-    c.asked_at-step.result (joined s.tx s.pacer) (joined c.asked_at-step.new.tx s.pacer) s.pool
-    c.asked_at-step.new.pool s.sides.items s.servers.items c.asked_at-step.new.servers.items
-    c.self.invariant.0 room step)
-
-pub returns-clause-all_served : goal.returns-clause-all_served
-returns-clause-all_served g c =
-    at-served c.asked_at-step.new.pool c.asked_at-step.new.servers.items c.args.i
-    g.V.Service.mode_of c.asked_at-step.ensures.all_served
+    let step = beside-step (map entry_of s.pacer.items) (paced-calls s.pacer.items calls) handles in
+    let sound : IsSession handles.later = rw (later-is handles) at c.asked_at-step.ensures.sound in
+    rw (← c.self.view_is) (serve-places c.self.invariant.0 room step sound)
 
 pub returns-in_default-clause-handed : goal.returns-in_default-clause-handed
 returns-in_default-clause-handed g c =
@@ -407,22 +237,42 @@ returns-in_default-clause-handed g c =
     let room = ring-room s.pool s.sides.items s.servers.items (joined s.tx s.pacer)
     (undue c.args.self.now) (flat s.pool s.sides.items s.servers.items s.tx s.pacer
     c.args.self.now c.self.view_is) (less-undue c.args.self.now c.requires.ring) in
-    let step = beside-step g.R.Recorder.log
-    (g.V.Service.mode_of c.args.head.now.req_type) c.args.jobs_full c.args.me c.args.i
-    c.args.head.now c.args.body.now g.V.Service.answer
-    (g.V.Service.stands c.args.service.now)
-    (g.V.Service.stands c.asked_at-step.new.service) c.args.rec.now c.asked_at-step.new.rec
-    c.asked_at-step.result s.tx c.asked_at-step.new.tx s.pool c.asked_at-step.new.pool
-    (map entry_of s.pacer.items) (paced-calls s.pacer.items calls) s.servers.items
-    c.asked_at-step.new.servers.items handles in
-    rw (← c.self.view_is) (serve-handed g.R.Recorder.log
-    (g.V.Service.mode_of c.args.head.now.req_type) c.args.jobs_full c.args.me c.args.i
-    c.args.head.now c.args.body.now g.V.Service.answer
-    (g.V.Service.stands c.args.service.now)
-    (g.V.Service.stands c.asked_at-step.new.service) c.args.rec.now c.asked_at-step.new.rec
-    c.asked_at-step.result (joined s.tx s.pacer) (joined c.asked_at-step.new.tx s.pacer) s.pool
-    c.asked_at-step.new.pool s.sides.items s.servers.items c.asked_at-step.new.servers.items
-    c.self.invariant.0 room step)
+    let step = beside-step (map entry_of s.pacer.items) (paced-calls s.pacer.items calls) handles in
+    let sound : IsSession handles.later = rw (later-is handles) at c.asked_at-step.ensures.sound in
+    rw (← c.self.view_is) (serve-handed c.self.invariant.0 room step sound)
+
+pub returns-in_default-clause-service : goal.returns-in_default-clause-service
+returns-in_default-clause-service g c = c.asked_at-step.ensures.handles.step.leaves.service
+
+pub returns-in_default-clause-all_served : goal.returns-in_default-clause-all_served
+returns-in_default-clause-all_served g c =
+    let handles = c.asked_at-step.ensures.handles in
+    at-served c.asked_at-step.new.pool c.asked_at-step.new.servers.items c.args.i
+    g.V.Service.mode_of (rw (later-is handles) handles.step.leaves.all_served)
+
+pub returns-clause-clients : goal.returns-clause-clients
+returns-clause-clients g c =
+    let s = c.self.inside in
+    let handles = c.asked_at-step.ensures.handles in
+    let calls = c.self.invariant.1.calls in
+    let room = ring-room s.pool s.sides.items s.servers.items (joined s.tx s.pacer)
+    (undue c.args.self.now) (flat s.pool s.sides.items s.servers.items s.tx s.pacer
+    c.args.self.now c.self.view_is) (less-undue c.args.self.now c.requires.ring) in
+    let step = beside-step (map entry_of s.pacer.items) (paced-calls s.pacer.items calls) handles in
+    let sound : IsSession handles.later = rw (later-is handles) at c.asked_at-step.ensures.sound in
+    rw (← c.self.view_is) (serve-clients c.self.invariant.0 room step sound)
+
+pub returns-clause-places : goal.returns-clause-places
+returns-clause-places g c =
+    let s = c.self.inside in
+    let handles = c.asked_at-step.ensures.handles in
+    let calls = c.self.invariant.1.calls in
+    let room = ring-room s.pool s.sides.items s.servers.items (joined s.tx s.pacer)
+    (undue c.args.self.now) (flat s.pool s.sides.items s.servers.items s.tx s.pacer
+    c.args.self.now c.self.view_is) (less-undue c.args.self.now c.requires.ring) in
+    let step = beside-step (map entry_of s.pacer.items) (paced-calls s.pacer.items calls) handles in
+    let sound : IsSession handles.later = rw (later-is handles) at c.asked_at-step.ensures.sound in
+    rw (← c.self.view_is) (serve-places c.self.invariant.0 room step sound)
 
 pub returns-clause-handed : goal.returns-clause-handed
 returns-clause-handed g c =
@@ -432,19 +282,15 @@ returns-clause-handed g c =
     let room = ring-room s.pool s.sides.items s.servers.items (joined s.tx s.pacer)
     (undue c.args.self.now) (flat s.pool s.sides.items s.servers.items s.tx s.pacer
     c.args.self.now c.self.view_is) (less-undue c.args.self.now c.requires.ring) in
-    let step = beside-step g.R.Recorder.log
-    (g.V.Service.mode_of c.args.head.now.req_type) c.args.jobs_full c.args.me c.args.i
-    c.args.head.now c.args.body.now g.V.Service.answer
-    (g.V.Service.stands c.args.service.now)
-    (g.V.Service.stands c.asked_at-step.new.service) c.args.rec.now c.asked_at-step.new.rec
-    c.asked_at-step.result s.tx c.asked_at-step.new.tx s.pool c.asked_at-step.new.pool
-    (map entry_of s.pacer.items) (paced-calls s.pacer.items calls) s.servers.items
-    c.asked_at-step.new.servers.items handles in
-    rw (← c.self.view_is) (serve-handed g.R.Recorder.log
-    (g.V.Service.mode_of c.args.head.now.req_type) c.args.jobs_full c.args.me c.args.i
-    c.args.head.now c.args.body.now g.V.Service.answer
-    (g.V.Service.stands c.args.service.now)
-    (g.V.Service.stands c.asked_at-step.new.service) c.args.rec.now c.asked_at-step.new.rec
-    c.asked_at-step.result (joined s.tx s.pacer) (joined c.asked_at-step.new.tx s.pacer) s.pool
-    c.asked_at-step.new.pool s.sides.items s.servers.items c.asked_at-step.new.servers.items
-    c.self.invariant.0 room step)
+    let step = beside-step (map entry_of s.pacer.items) (paced-calls s.pacer.items calls) handles in
+    let sound : IsSession handles.later = rw (later-is handles) at c.asked_at-step.ensures.sound in
+    rw (← c.self.view_is) (serve-handed c.self.invariant.0 room step sound)
+
+pub returns-clause-service : goal.returns-clause-service
+returns-clause-service g c = c.asked_at-step.ensures.handles.step.leaves.service
+
+pub returns-clause-all_served : goal.returns-clause-all_served
+returns-clause-all_served g c =
+    let handles = c.asked_at-step.ensures.handles in
+    at-served c.asked_at-step.new.pool c.asked_at-step.new.servers.items c.args.i
+    g.V.Service.mode_of (rw (later-is handles) handles.step.leaves.all_served)

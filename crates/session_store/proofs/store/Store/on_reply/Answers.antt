@@ -15,34 +15,11 @@ use Rattle.session_store.proofs.StoreLemmas.{connected-at}
 use Rattle.session_store.proofs.UndueLemmas.{flat, queued-undue, windows-undue}
 use Rattle.session_store.proofs.ReplyLemmas.{heard-handed}
 use Rattle.session_store.proofs.ShareLemmas.{clients-kept, replies-kept}
+use Rattle.session_store.proofs.ChangesLemmas.{changes-calls}
+use Rattle.session_store.specs.Hearing.{RepliesAt}
+use Rattle.session_store.specs.Handing.{HandsBackIf, ended_by}
+use Rattle.std.proofs.Common.{refl}
 use Rattle.session_store.proofs.store.Store.on_reply.Goals as goal
-
-pub returns-then-not-is_connected-clause-clients : goal.returns-then-not-is_connected-clause-clients
-returns-then-not-is_connected-clause-clients c =
-    let s = c.self.inside in
-    let there = there-at s.pool s.sides.items s.servers.items (joined s.tx s.pacer)
-    c.self.invariant.0 (undue c.args.self.now)
-    (flat c.self.inside.pool c.self.inside.sides.items c.self.inside.servers.items
-    c.self.inside.tx c.self.inside.pacer c.args.self.now c.self.view_is) c.args.i
-    c.index.result.now c.requires.known c.index.ensures in
-    rw (← c.self.view_is) (unconnected-clients s.pool s.sides.items c.args.i c.args.now c.args.peer
-    c.args.head.now c.args.body.now _ c.index.result.now there (sym c.is_connected.ensures ∙ c.if-not-is_connected.true))
-
-pub returns-then-ne-clause-clients : goal.returns-then-ne-clause-clients
-returns-then-ne-clause-clients c =
-    let s = c.self.inside in
-    let there = there-at s.pool s.sides.items s.servers.items (joined s.tx s.pacer)
-    c.self.invariant.0 (undue c.args.self.now)
-    (flat c.self.inside.pool c.self.inside.sides.items c.self.inside.servers.items
-    c.self.inside.tx c.self.inside.pacer c.args.self.now c.self.view_is) c.args.i
-    c.index.result.now c.requires.known c.index.ensures in
-    let differs = peer-differs c.args.peer c.index-2.result.now.peer (sym c.if-ne.true ∙ c.ne.ensures) in
-    let same = c.index-2.ensures ∙ got-same s.sides.items c.args.i c.index.result.now c.index-2.result.now there in
-    let connected = connected-stage c.index.result.now.stage
-    (sym c.is_connected.ensures ∙ c.if-not-is_connected.false) in
-    rw (← c.self.view_is) (other-clients s.pool s.sides.items c.args.i c.args.now c.args.peer
-    c.args.head.now c.args.body.now _ c.index.result.now there connected
-    (λ t. differs (t ∙ ap (λ (x : Side). x.peer) (sym same))))
 
 pub heard_at-requires-clause-unheld : goal.heard_at-requires-clause-unheld
 heard_at-requires-clause-unheld c =
@@ -95,54 +72,49 @@ invariant_of-self c =
       c.self.invariant.3,
     )
 
-pub returns-clause-servers : goal.returns-clause-servers
-returns-clause-servers c =
+pub returns-then-not-is_connected : goal.returns-then-not-is_connected
+returns-then-not-is_connected c =
     let s = c.self.inside in
-    let h = c.heard_at.ensures in
-    let connected = connected-at s.sides.items c.args.i c.index.result.now h.side c.index.ensures
-    h.at (sym c.is_connected.ensures ∙ c.if-not-is_connected.false) in
-    let windows = seen-windows s.pool s.sides.items s.servers.items (joined s.tx s.pacer)
-    (undue c.args.self.now) (flat c.self.inside.pool c.self.inside.sides.items
-    c.self.inside.servers.items c.self.inside.tx c.self.inside.pacer c.args.self.now
-    c.self.view_is) c.args.i (windows-undue c.args.self.now.clients c.args.self.now.queued
-    c.requires.windows) in
-    let waits = c.is_waiting-is_waiting.ensures ∙ sym
-    (queued-undue (Ask c.args.i c.args.head.now.request) c.args.head.now.number
-    c.args.self.now.queued) ∙ seen-waits s.pool s.sides.items s.servers.items
-    (joined s.tx s.pacer) (undue c.args.self.now)
+    let there = there-at s.pool s.sides.items s.servers.items (joined s.tx s.pacer)
+    c.self.invariant.0 (undue c.args.self.now)
     (flat c.self.inside.pool c.self.inside.sides.items c.self.inside.servers.items
-    c.self.inside.tx c.self.inside.pacer c.args.self.now c.self.view_is)
-    c.args.i c.args.head.now.request c.args.head.now.number in
-    rw (← c.self.view_is) (heard-servers s.pool c.heard_at.new.pool s.sides.items
-    c.heard_at.new.sides.items s.servers.items (joined s.tx s.pacer) c.args.i c.args.now c.args.head.now
-    c.args.body.now c.is_waiting-is_waiting.result c.heard_at.result c.self.invariant.0 h
-    connected c.requires.session windows waits)
+    c.self.inside.tx c.self.inside.pacer c.args.self.now c.self.view_is) c.args.i
+    c.index.result.now c.requires.known c.index.ensures in
+    record {
+      clients = rw (← c.self.view_is) (unconnected-clients s.pool s.sides.items c.args.i c.args.now c.args.peer
+          c.args.head.now c.args.body.now _ c.index.result.now there (sym c.is_connected.ensures ∙ c.if-not-is_connected.true));
+      servers = rw (← c.self.view_is) refl;
+      queued = rw (← c.self.view_is) refl;
+      size = rw (← c.self.view_is) refl;
+      places = rw (← c.self.view_is) refl;
+      handed = rw (← c.self.view_is) refl;
+    }
 
-pub returns-clause-places : goal.returns-clause-places
-returns-clause-places c =
+pub returns-then-ne : goal.returns-then-ne
+returns-then-ne c =
     let s = c.self.inside in
-    let h = c.heard_at.ensures in
-    let connected = connected-at s.sides.items c.args.i c.index.result.now h.side c.index.ensures
-    h.at (sym c.is_connected.ensures ∙ c.if-not-is_connected.false) in
-    let windows = seen-windows s.pool s.sides.items s.servers.items (joined s.tx s.pacer)
-    (undue c.args.self.now) (flat c.self.inside.pool c.self.inside.sides.items
-    c.self.inside.servers.items c.self.inside.tx c.self.inside.pacer c.args.self.now
-    c.self.view_is) c.args.i (windows-undue c.args.self.now.clients c.args.self.now.queued
-    c.requires.windows) in
-    let waits = c.is_waiting-is_waiting.ensures ∙ sym
-    (queued-undue (Ask c.args.i c.args.head.now.request) c.args.head.now.number
-    c.args.self.now.queued) ∙ seen-waits s.pool s.sides.items s.servers.items
-    (joined s.tx s.pacer) (undue c.args.self.now)
+    let there = there-at s.pool s.sides.items s.servers.items (joined s.tx s.pacer)
+    c.self.invariant.0 (undue c.args.self.now)
     (flat c.self.inside.pool c.self.inside.sides.items c.self.inside.servers.items
-    c.self.inside.tx c.self.inside.pacer c.args.self.now c.self.view_is)
-    c.args.i c.args.head.now.request c.args.head.now.number in
-    rw (← c.self.view_is) (heard-places s.pool c.heard_at.new.pool s.sides.items
-    c.heard_at.new.sides.items s.servers.items (joined s.tx s.pacer) c.args.i c.args.now c.args.head.now
-    c.args.body.now c.is_waiting-is_waiting.result c.heard_at.result c.self.invariant.0 h
-    connected c.requires.session windows waits)
+    c.self.inside.tx c.self.inside.pacer c.args.self.now c.self.view_is) c.args.i
+    c.index.result.now c.requires.known c.index.ensures in
+    let differs = peer-differs c.args.peer c.index-2.result.now.peer (sym c.if-ne.true ∙ c.ne.ensures) in
+    let same = c.index-2.ensures ∙ got-same s.sides.items c.args.i c.index.result.now c.index-2.result.now there in
+    let connected = connected-stage c.index.result.now.stage
+    (sym c.is_connected.ensures ∙ c.if-not-is_connected.false) in
+    record {
+      clients = rw (← c.self.view_is) (other-clients s.pool s.sides.items c.args.i c.args.now c.args.peer
+          c.args.head.now c.args.body.now _ c.index.result.now there connected
+          (λ t. differs (t ∙ ap (λ (x : Side). x.peer) (sym same))));
+      servers = rw (← c.self.view_is) refl;
+      queued = rw (← c.self.view_is) refl;
+      size = rw (← c.self.view_is) refl;
+      places = rw (← c.self.view_is) refl;
+      handed = rw (← c.self.view_is) refl;
+    }
 
-pub returns-clause-clients : goal.returns-clause-clients
-returns-clause-clients c =
+pub returns : goal.returns
+returns c =
     let s = c.self.inside in
     let h = c.heard_at.ensures in
     let connected = connected-at s.sides.items c.args.i c.index.result.now h.side c.index.ensures
@@ -169,30 +141,24 @@ returns-clause-clients c =
     ∙ ap (λ n. list_any (is_queued (Ask n c.args.head.now.request) c.args.head.now.number)
     c.args.self.now.queued) (sym c.requires.session) in
     let told = rw seen at (heard-clients s.pool c.heard_at.new.pool s.sides.items
-    c.heard_at.new.sides.items s.servers.items (joined s.tx s.pacer) c.args.i c.args.now c.args.head.now
-    c.args.body.now c.is_waiting-is_waiting.result c.heard_at.result c.self.invariant.0 h
-    connected c.requires.session windows waits c.args.peer peer) in
-    rw (ap (λ v. v.clients) (sym c.self.view_is)) told
-
-pub returns-clause-handed : goal.returns-clause-handed
-returns-clause-handed c =
-    let s = c.self.inside in
-    let h = c.heard_at.ensures in
-    let connected = connected-at s.sides.items c.args.i c.index.result.now h.side c.index.ensures
-    h.at (sym c.is_connected.ensures ∙ c.if-not-is_connected.false) in
-    let windows = seen-windows s.pool s.sides.items s.servers.items (joined s.tx s.pacer)
-    (undue c.args.self.now) (flat c.self.inside.pool c.self.inside.sides.items
-    c.self.inside.servers.items c.self.inside.tx c.self.inside.pacer c.args.self.now
-    c.self.view_is) c.args.i (windows-undue c.args.self.now.clients c.args.self.now.queued
-    c.requires.windows) in
-    let waits = c.is_waiting-is_waiting.ensures ∙ sym
-    (queued-undue (Ask c.args.i c.args.head.now.request) c.args.head.now.number
-    c.args.self.now.queued) ∙ seen-waits s.pool s.sides.items s.servers.items
-    (joined s.tx s.pacer) (undue c.args.self.now)
-    (flat c.self.inside.pool c.self.inside.sides.items c.self.inside.servers.items
-    c.self.inside.tx c.self.inside.pacer c.args.self.now c.self.view_is)
-    c.args.i c.args.head.now.request c.args.head.now.number in
-    rw (← c.self.view_is) (heard-handed s.pool c.heard_at.new.pool s.sides.items
-    c.heard_at.new.sides.items s.servers.items (joined s.tx s.pacer) c.args.i c.args.now c.args.head.now
-    c.args.body.now c.is_waiting-is_waiting.result c.heard_at.result c.self.invariant.0 h
-    connected c.requires.session windows waits)
+    c.heard_at.new.sides.items s.servers.items (joined s.tx s.pacer) c.args.i c.args.now
+    c.args.head.now c.args.body.now c.is_waiting-is_waiting.result c.heard_at.result
+    c.self.invariant.0 h connected c.requires.session windows waits c.args.peer peer) in
+    changes-calls s.pool c.heard_at.new.pool s.sides.items c.heard_at.new.sides.items
+    s.servers.items s.servers.items s.tx s.tx s.pacer s.pacer c.args.self.now c.self.view_is
+    (RepliesAt c.args.i c.args.now c.args.peer c.args.head.now c.args.body.now
+    (list_any (is_queued (Ask c.args.head.now.session c.args.head.now.request)
+    c.args.head.now.number) c.args.self.now.queued) c.heard_at.result)
+    (rw (ap (λ v. v.clients) (sym c.self.view_is)) told)
+    (heard-servers s.pool c.heard_at.new.pool s.sides.items
+    c.heard_at.new.sides.items s.servers.items (joined s.tx s.pacer) c.args.i c.args.now
+    c.args.head.now c.args.body.now c.is_waiting-is_waiting.result c.heard_at.result
+    c.self.invariant.0 h connected c.requires.session windows waits)
+    (heard-places s.pool c.heard_at.new.pool s.sides.items
+    c.heard_at.new.sides.items s.servers.items (joined s.tx s.pacer) c.args.i c.args.now
+    c.args.head.now c.args.body.now c.is_waiting-is_waiting.result c.heard_at.result
+    c.self.invariant.0 h connected c.requires.session windows waits)
+    (HandsBackIf c.args.i (ended_by c.heard_at.result)) (heard-handed s.pool c.heard_at.new.pool s.sides.items
+    c.heard_at.new.sides.items s.servers.items (joined s.tx s.pacer) c.args.i c.args.now
+    c.args.head.now c.args.body.now c.is_waiting-is_waiting.result c.heard_at.result
+    c.self.invariant.0 h connected c.requires.session windows waits) refl refl

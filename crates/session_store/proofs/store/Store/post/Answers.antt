@@ -12,6 +12,10 @@ use Rattle.session_store.proofs.UndueLemmas.{paced-counted, room-undue, flat}
 use Rattle.session_store.proofs.StoreLemmas.{unposted-handed}
 use Rattle.session_store.proofs.StoreLemmas.{posted-handed}
 use Rattle.session_store.proofs.ShareLemmas.{clients-kept, posts-kept}
+use Rattle.session_store.proofs.ChangesLemmas.{changes-queue, servers-held}
+use Rattle.session_store.specs.Changes.{PostsAt}
+use Rattle.session_store.specs.Joined.{put_listed}
+use Rattle.std.proofs.Common.{refl}
 use Rattle.session_store.proofs.store.Store.post.Goals as goal
 
 pub post_at-posted-requires-clause-keeps : goal.post_at-posted-requires-clause-keeps
@@ -36,15 +40,6 @@ invariant_of-self c =
           connected)) c.self.invariant.2,
       c.self.invariant.3,
     )
-
-pub returns-in_default-clause-clients : goal.returns-in_default-clause-clients
-returns-in_default-clause-clients c =
-    let h = rw c.in_default.is at c.post_at-posted.ensures in
-    let connected = connected-at c.self.inside.sides.items c.args.i c.index.result.now h.side
-    c.index.ensures h.at (sym c.is_connected.ensures ∙ c.if-not-is_connected.false) in
-    rw (← c.self.view_is) (unposted-clients c.self.inside.pool c.post_at-posted.new.pool
-    c.self.inside.sides.items c.post_at-posted.new.sides.items c.self.inside.servers.items
-    (joined c.self.inside.tx c.self.inside.pacer) c.args.i h connected)
 
 pub put_in-requires : goal.put_in-requires
 put_in-requires c =
@@ -107,70 +102,45 @@ invariant_of-self-2 c =
       c.self.invariant.3,
     )
 
-pub returns-clause-clients : goal.returns-clause-clients
-returns-clause-clients c =
+pub returns-in_default-clause-posts : goal.returns-in_default-clause-posts
+returns-in_default-clause-posts c =
     let s = c.self.inside in
-    let h = rw c.in-Some.is at c.post_at-posted.ensures in
-    let connected = connected-at c.self.inside.sides.items c.args.i c.index.result.now h.side
-    c.index.ensures h.at (sym c.is_connected.ensures ∙ c.if-not-is_connected.false) in
-    let room = room-there c.self.inside.pool c.post_at-posted.new.pool c.self.inside.sides.items
-    c.post_at-posted.new.sides.items c.self.inside.servers.items (joined c.self.inside.tx c.self.inside.pacer) c.args.i
-    c.in-Some.entry c.self.invariant.0 h connected (undue c.args.self.now)
-    (flat c.self.inside.pool c.self.inside.sides.items c.self.inside.servers.items c.self.inside.tx
-    c.self.inside.pacer c.args.self.now c.self.view_is)
-    (room-undue c.args.i c.args.self.now (queue-room s.pool s.sides.items s.servers.items s.tx
-    s.pacer c.args.self.now c.self.view_is c.args.i h.side h.at connected c.requires.room)) in
-    rw (← c.self.view_is) (posted-clients c.self.inside.pool c.post_at-posted.new.pool
-    c.self.inside.sides.items c.post_at-posted.new.sides.items c.self.inside.servers.items
-    (joined c.self.inside.tx c.self.inside.pacer) c.args.i c.in-Some.entry c.self.invariant.0 h connected room)
-
-pub returns-in_default-clause-places : goal.returns-in_default-clause-places
-returns-in_default-clause-places c =
     let h = rw c.in_default.is at c.post_at-posted.ensures in
-    rw (← c.self.view_is) (unposted-sum c.self.inside.pool c.post_at-posted.new.pool
-    c.self.inside.sides.items c.post_at-posted.new.sides.items c.self.inside.servers.items
-    (joined c.self.inside.tx c.self.inside.pacer) c.args.i h)
+    let connected = connected-at s.sides.items c.args.i c.index.result.now h.side
+    c.index.ensures h.at (sym c.is_connected.ensures ∙ c.if-not-is_connected.false) in
+    changes-queue s.pool c.post_at-posted.new.pool s.sides.items c.post_at-posted.new.sides.items
+    s.servers.items s.servers.items s.tx s.tx s.pacer s.pacer c.args.self.now c.self.view_is
+    (PostsAt c.args.i None) (rw (← c.self.view_is) (unposted-clients s.pool c.post_at-posted.new.pool
+    s.sides.items c.post_at-posted.new.sides.items s.servers.items
+    (joined s.tx s.pacer) c.args.i h connected))
+    (rw h.step.pool refl) (unposted-sum s.pool c.post_at-posted.new.pool
+    s.sides.items c.post_at-posted.new.sides.items s.servers.items
+    (joined s.tx s.pacer) c.args.i h) (put_listed c.args.due None)
+    (unposted-handed s.pool c.post_at-posted.new.pool
+    s.sides.items c.post_at-posted.new.sides.items s.servers.items
+    (joined s.tx s.pacer) c.args.i h) refl refl
 
-pub returns-clause-places : goal.returns-clause-places
-returns-clause-places c =
+pub returns-clause-posts : goal.returns-clause-posts
+returns-clause-posts c =
     let s = c.self.inside in
     let h = rw c.in-Some.is at c.post_at-posted.ensures in
-    let connected = connected-at c.self.inside.sides.items c.args.i c.index.result.now h.side
+    let connected = connected-at s.sides.items c.args.i c.index.result.now h.side
     c.index.ensures h.at (sym c.is_connected.ensures ∙ c.if-not-is_connected.false) in
-    let room = room-there c.self.inside.pool c.post_at-posted.new.pool c.self.inside.sides.items
-    c.post_at-posted.new.sides.items c.self.inside.servers.items (joined c.self.inside.tx c.self.inside.pacer) c.args.i
-    c.in-Some.entry c.self.invariant.0 h connected (undue c.args.self.now)
-    (flat c.self.inside.pool c.self.inside.sides.items c.self.inside.servers.items c.self.inside.tx
-    c.self.inside.pacer c.args.self.now c.self.view_is)
+    let room = room-there s.pool c.post_at-posted.new.pool s.sides.items
+    c.post_at-posted.new.sides.items s.servers.items (joined s.tx s.pacer) c.args.i
+    c.in-Some.entry c.self.invariant.0 h connected (undue c.args.self.now) (flat s.pool
+    s.sides.items s.servers.items s.tx s.pacer c.args.self.now c.self.view_is)
     (room-undue c.args.i c.args.self.now (queue-room s.pool s.sides.items s.servers.items s.tx
     s.pacer c.args.self.now c.self.view_is c.args.i h.side h.at connected c.requires.room)) in
-    rw (← c.self.view_is) (posted-sum c.self.inside.pool c.post_at-posted.new.pool
-    c.self.inside.sides.items c.post_at-posted.new.sides.items c.self.inside.servers.items
-    (joined c.self.inside.tx c.self.inside.pacer) c.args.i c.in-Some.entry c.self.invariant.0 h connected room)
-
-pub returns-clause-queued : goal.returns-clause-queued
-returns-clause-queued c = rw (← c.self.view_is) c.put_in.ensures.queue
-
-pub returns-in_default-clause-handed : goal.returns-in_default-clause-handed
-returns-in_default-clause-handed c =
-    let h = rw c.in_default.is at c.post_at-posted.ensures in
-    rw (← c.self.view_is) (unposted-handed c.self.inside.pool c.post_at-posted.new.pool
-    c.self.inside.sides.items c.post_at-posted.new.sides.items c.self.inside.servers.items
-    (joined c.self.inside.tx c.self.inside.pacer) c.args.i h)
-
-pub returns-clause-handed : goal.returns-clause-handed
-returns-clause-handed c =
-    let s = c.self.inside in
-    let h = rw c.in-Some.is at c.post_at-posted.ensures in
-    let connected = connected-at c.self.inside.sides.items c.args.i c.index.result.now h.side
-    c.index.ensures h.at (sym c.is_connected.ensures ∙ c.if-not-is_connected.false) in
-    let room = room-there c.self.inside.pool c.post_at-posted.new.pool c.self.inside.sides.items
-    c.post_at-posted.new.sides.items c.self.inside.servers.items (joined c.self.inside.tx c.self.inside.pacer) c.args.i
-    c.in-Some.entry c.self.invariant.0 h connected (undue c.args.self.now)
-    (flat c.self.inside.pool c.self.inside.sides.items c.self.inside.servers.items c.self.inside.tx
-    c.self.inside.pacer c.args.self.now c.self.view_is)
-    (room-undue c.args.i c.args.self.now (queue-room s.pool s.sides.items s.servers.items s.tx
-    s.pacer c.args.self.now c.self.view_is c.args.i h.side h.at connected c.requires.room)) in
-    rw (← c.self.view_is) (posted-handed c.self.inside.pool c.post_at-posted.new.pool
-    c.self.inside.sides.items c.post_at-posted.new.sides.items c.self.inside.servers.items
-    (joined c.self.inside.tx c.self.inside.pacer) c.args.i c.in-Some.entry c.self.invariant.0 h connected room)
+    changes-queue s.pool c.post_at-posted.new.pool s.sides.items c.post_at-posted.new.sides.items
+    s.servers.items s.servers.items s.tx c.put_in.new.tx s.pacer c.put_in.new.pacer
+    c.args.self.now c.self.view_is (PostsAt c.args.i (Some (packet_of_entry c.in-Some.entry)))
+    (rw (← c.self.view_is) (posted-clients s.pool c.post_at-posted.new.pool
+    s.sides.items c.post_at-posted.new.sides.items s.servers.items
+    (joined s.tx s.pacer) c.args.i c.in-Some.entry c.self.invariant.0 h connected room))
+    (rw h.step.pool (servers-held s.pool s.servers.items c.in-Some.entry.place)) (posted-sum s.pool c.post_at-posted.new.pool
+    s.sides.items c.post_at-posted.new.sides.items s.servers.items
+    (joined s.tx s.pacer) c.args.i c.in-Some.entry c.self.invariant.0 h connected room) (put_listed c.args.due (Some c.in-Some.entry))
+    (posted-handed s.pool c.post_at-posted.new.pool
+    s.sides.items c.post_at-posted.new.sides.items s.servers.items
+    (joined s.tx s.pacer) c.args.i c.in-Some.entry c.self.invariant.0 h connected room) c.put_in.ensures.queue c.put_in.ensures.size

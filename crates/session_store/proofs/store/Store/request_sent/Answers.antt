@@ -3,6 +3,10 @@ use Rattle.session_store.proofs.FlushLemmas.{there-at}
 use Rattle.session_store.proofs.MovedLemmas.{moved-asked, few-sends}
 use Rattle.session_store.proofs.UndueLemmas.{flat}
 use Rattle.session_store.proofs.ShareLemmas.{live-asking, share-asked}
+use Rattle.session_store.proofs.ChangesLemmas.{changes-clients}
+use Rattle.session_store.specs.Changes.{ChangesAt}
+use Rattle.session_store.specs.Changes.{sent_again}
+use Rattle.std.proofs.Common.{refl}
 use Rattle.session_store.proofs.store.Store.request_sent.Goals as goal
 
 pub asked-side-requires : goal.asked-side-requires
@@ -33,38 +37,16 @@ invariant_of-self c =
       c.self.invariant.3,
     )
 
-pub returns-clause-clients : goal.returns-clause-clients
-returns-clause-clients c =
+pub returns : goal.returns
+returns c =
     let s = c.self.inside in
     let seen = flat s.pool s.sides.items s.servers.items s.tx s.pacer c.args.self.now c.self.view_is in
     let at = there-at s.pool s.sides.items s.servers.items (joined s.tx s.pacer) c.self.invariant.0
     (undue c.args.self.now) seen c.args.i c.index_mut-side.result.now c.requires.known
     c.index_mut-side.ensures.value in
     let moved = moved-asked s.pool s.sides.items s.servers.items (joined s.tx s.pacer) c.self.invariant.0
-    (undue c.args.self.now) seen c.args.i c.index_mut-side.result.now at
-    c.args.now c.asked-side.result c.asked-side.ensures c.requires.asking in
-    moved.clients
-
-pub returns-clause-places : goal.returns-clause-places
-returns-clause-places c =
-    let s = c.self.inside in
-    let seen = flat s.pool s.sides.items s.servers.items s.tx s.pacer c.args.self.now c.self.view_is in
-    let at = there-at s.pool s.sides.items s.servers.items (joined s.tx s.pacer) c.self.invariant.0
-    (undue c.args.self.now) seen c.args.i c.index_mut-side.result.now c.requires.known
-    c.index_mut-side.ensures.value in
-    let moved = moved-asked s.pool s.sides.items s.servers.items (joined s.tx s.pacer) c.self.invariant.0
-    (undue c.args.self.now) seen c.args.i c.index_mut-side.result.now at
-    c.args.now c.asked-side.result c.asked-side.ensures c.requires.asking in
-    rw (← c.self.view_is) moved.places
-
-pub returns-clause-handed : goal.returns-clause-handed
-returns-clause-handed c =
-    let s = c.self.inside in
-    let seen = flat s.pool s.sides.items s.servers.items s.tx s.pacer c.args.self.now c.self.view_is in
-    let at = there-at s.pool s.sides.items s.servers.items (joined s.tx s.pacer) c.self.invariant.0
-    (undue c.args.self.now) seen c.args.i c.index_mut-side.result.now c.requires.known
-    c.index_mut-side.ensures.value in
-    let moved = moved-asked s.pool s.sides.items s.servers.items (joined s.tx s.pacer) c.self.invariant.0
-    (undue c.args.self.now) seen c.args.i c.index_mut-side.result.now at
-    c.args.now c.asked-side.result c.asked-side.ensures c.requires.asking in
-    rw (← c.self.view_is) moved.handed
+    (undue c.args.self.now) seen c.args.i c.index_mut-side.result.now at c.args.now c.asked-side.result
+    c.asked-side.ensures c.requires.asking in
+    changes-clients s.pool s.pool s.sides.items _ s.servers.items s.servers.items s.tx s.tx s.pacer
+    s.pacer c.args.self.now c.self.view_is (ChangesAt c.args.i (sent_again c.args.now)) moved.clients refl
+    moved.places moved.handed refl refl

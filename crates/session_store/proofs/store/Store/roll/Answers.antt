@@ -8,6 +8,9 @@ use Rattle.std.specs.Prelude.{map}
 use Rattle.rpc_laws.specs.Groups.{live_credits}
 use Rattle.session_store.specs.Sides.{Shown}
 use Rattle.session_store.proofs.ShareLemmas.{clients-kept, rolls-kept}
+use Rattle.session_store.proofs.ChangesLemmas.{changes-clients}
+use Rattle.session_store.specs.Changes.{RollsAt}
+use Rattle.std.proofs.Common.{refl}
 use Rattle.session_store.proofs.store.Store.roll.Goals as goal
 
 pub roll_at-requires-clause-active : goal.roll_at-requires-clause-active
@@ -58,29 +61,16 @@ invariant_of-self c = (
   c.self.invariant.3,
 )
 
-pub returns-clause-clients : goal.returns-clause-clients
-returns-clause-clients c =
-    rolled-clients c.self.inside.pool c.self.inside.sides.items c.self.inside.servers.items
-    (joined c.self.inside.tx c.self.inside.pacer) c.args.i c.args.call (undue c.args.self.now)
-    (flat c.self.inside.pool c.self.inside.sides.items c.self.inside.servers.items
-    c.self.inside.tx c.self.inside.pacer c.args.self.now c.self.view_is)
-    (may-undue c.args.i c.args.call c.args.self.now c.requires.may)
-    c.roll_at.new.sides.items c.self.invariant.0 c.roll_at.ensures
-
-pub returns-clause-places : goal.returns-clause-places
-returns-clause-places c =
-    rw (← c.self.view_is) (places-roll c.self.inside.pool c.self.inside.sides.items
-    c.self.inside.servers.items (joined c.self.inside.tx c.self.inside.pacer) c.args.i c.args.call
-    (undue c.args.self.now) (flat c.self.inside.pool c.self.inside.sides.items
-    c.self.inside.servers.items c.self.inside.tx c.self.inside.pacer c.args.self.now c.self.view_is)
-    (may-undue c.args.i c.args.call c.args.self.now c.requires.may) c.roll_at.new.sides.items
-    c.self.invariant.0 c.roll_at.ensures)
-
-pub returns-clause-handed : goal.returns-clause-handed
-returns-clause-handed c =
-    rw (← c.self.view_is) (handed-roll c.self.inside.pool c.self.inside.sides.items
-    c.self.inside.servers.items (joined c.self.inside.tx c.self.inside.pacer) c.args.i c.args.call
-    (undue c.args.self.now) (flat c.self.inside.pool c.self.inside.sides.items
-    c.self.inside.servers.items c.self.inside.tx c.self.inside.pacer c.args.self.now c.self.view_is)
-    (may-undue c.args.i c.args.call c.args.self.now c.requires.may) c.roll_at.new.sides.items
-    c.self.invariant.0 c.roll_at.ensures)
+pub returns : goal.returns
+returns c =
+    let s = c.self.inside in
+    let seen = flat s.pool s.sides.items s.servers.items s.tx s.pacer c.args.self.now c.self.view_is in
+    let may = may-undue c.args.i c.args.call c.args.self.now c.requires.may in
+    changes-clients s.pool s.pool s.sides.items c.roll_at.new.sides.items s.servers.items
+    s.servers.items s.tx s.tx s.pacer s.pacer c.args.self.now c.self.view_is
+    (RollsAt c.args.i c.args.call) (rolled-clients s.pool s.sides.items s.servers.items (joined s.tx s.pacer) c.args.i c.args.call
+    (undue c.args.self.now) seen may c.roll_at.new.sides.items c.self.invariant.0 c.roll_at.ensures)
+    refl (places-roll s.pool s.sides.items s.servers.items (joined s.tx s.pacer) c.args.i c.args.call
+    (undue c.args.self.now) seen may c.roll_at.new.sides.items c.self.invariant.0 c.roll_at.ensures)
+    (handed-roll s.pool s.sides.items s.servers.items (joined s.tx s.pacer) c.args.i c.args.call
+    (undue c.args.self.now) seen may c.roll_at.new.sides.items c.self.invariant.0 c.roll_at.ensures) refl refl

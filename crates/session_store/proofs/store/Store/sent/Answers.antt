@@ -16,6 +16,8 @@ use Rattle.session_store.proofs.ReplyGoneLemmas.{reply-handed}
 use Rattle.rpc_laws.specs.Groups.{live_credits}
 use Rattle.session_store.proofs.ShareLemmas.{clients-kept, gone-kept, sends-kept, servers-kept}
 use Rattle.session_store.proofs.WayLemmas.{ends-kept, gone-ways}
+use Rattle.session_store.proofs.ChangesLemmas.{changes-queue, servers-released}
+use Rattle.session_store.specs.Queue.{SendsFront}
 use Rattle.session_store.proofs.store.Store.sent.Goals as goal
 
 pub invariant_of-self : goal.invariant_of-self
@@ -71,97 +73,74 @@ invariant_of-self-in-Reply c =
           c.reply_sent_at.ensures) c.self.invariant.3,
     )
 
-pub returns-in-Ask-clause-clients : goal.returns-in-Ask-clause-clients
-returns-in-Ask-clause-clients c =
+pub returns-in-Ask : goal.returns-in-Ask
+returns-in-Ask c =
     let s = c.self.inside in
     let front = sym c.pop_in.ensures.front ∙ c.in-Some.is in
     let own : c.in-Some.entry.owner ≡ Ask c.from.result c.in-Ask.request =
     sym (ap (λ (e : EntryValue). e.owner) c.entry.view_is) ∙ c.in-Ask.is
     ∙ ap (λ n. Ask n c.in-Ask.request) (sym (c.from.ensures ∙ c.session.view_is)) in
-    let e = sent-clients s.pool c.sent_at.new.pool s.sides.items c.sent_at.new.sides.items
-    s.servers.items (joined s.tx s.pacer) c.from.result c.in-Ask.request c.in-Some.entry (λ d. false)
-    (drop 1 (joined s.tx s.pacer).items) c.self.invariant.0
-    (front-taken (joined s.tx s.pacer).items c.in-Some.entry front) own
-    c.args.now c.sent_at.ensures in
-    sends-undue c.args.now c.args.self.now.queued _ _
+    changes-queue s.pool c.sent_at.new.pool s.sides.items c.sent_at.new.sides.items
+    s.servers.items s.servers.items s.tx c.pop_in.new.tx s.pacer c.pop_in.new.pacer
+    c.args.self.now c.self.view_is (SendsFront c.args.now c.args.self.now.queued)
+    (sends-undue c.args.now c.args.self.now.queued _ _
     (sends-seen s.pool s.sides.items s.servers.items (joined s.tx s.pacer) c.self.invariant.0
-    (undue c.args.self.now) (flat c.self.inside.pool c.self.inside.sides.items
-    c.self.inside.servers.items c.self.inside.tx c.self.inside.pacer c.args.self.now c.self.view_is)
-    c.in-Some.entry c.args.now _ front
-    (e ∙ ap (λ o. clients_sent c.args.now o c.in-Some.entry.number
-    (map (shown_side s.pool) s.sides.items)) (sym own)))
-
-pub returns-in-Reply-clause-clients : goal.returns-in-Reply-clause-clients
-returns-in-Reply-clause-clients c =
-    let s = c.self.inside in
-    let front = sym c.pop_in.ensures.front ∙ c.in-Some.is in
-    let own : c.in-Some.entry.owner ≡ Reply c.in-Reply.session c.in-Reply.request =
-    sym (ap (λ (e : EntryValue). e.owner) c.entry.view_is) ∙ c.in-Reply.is in
-    let e = reply-clients s.pool c.reply_sent_at.new.pool s.sides.items s.servers.items
-    c.reply_sent_at.new.servers.items (joined s.tx s.pacer) c.in-Reply.session c.in-Reply.request
-    c.in-Some.entry (λ d. false) (drop 1 (joined s.tx s.pacer).items) c.self.invariant.0
-    (front-taken (joined s.tx s.pacer).items c.in-Some.entry front) own c.reply_sent_at.ensures in
-    sends-undue c.args.now c.args.self.now.queued _ _
-    (sends-seen s.pool s.sides.items s.servers.items (joined s.tx s.pacer) c.self.invariant.0
-    (undue c.args.self.now) (flat c.self.inside.pool c.self.inside.sides.items
-    c.self.inside.servers.items c.self.inside.tx c.self.inside.pacer c.args.self.now c.self.view_is)
-    c.in-Some.entry c.args.now _ front
-    (e ∙ ap (λ o. clients_sent c.args.now o c.in-Some.entry.number
-    (map (shown_side s.pool) s.sides.items)) (sym own)))
-
-pub returns-in-Reply-clause-servers : goal.returns-in-Reply-clause-servers
-returns-in-Reply-clause-servers c =
-    let s = c.self.inside in
-    let front = sym c.pop_in.ensures.front ∙ c.in-Some.is in
-    let own : c.in-Some.entry.owner ≡ Reply c.in-Reply.session c.in-Reply.request =
-    sym (ap (λ (e : EntryValue). e.owner) c.entry.view_is) ∙ c.in-Reply.is in
-    rw (← c.self.view_is) (reply-servers s.pool c.reply_sent_at.new.pool s.sides.items
-    s.servers.items c.reply_sent_at.new.servers.items (joined s.tx s.pacer) c.in-Reply.session c.in-Reply.request
-    c.in-Some.entry (λ d. false) (drop 1 (joined s.tx s.pacer).items) c.self.invariant.0
-    (front-taken (joined s.tx s.pacer).items c.in-Some.entry front) own c.reply_sent_at.ensures)
-
-pub returns-in-Ask-clause-places : goal.returns-in-Ask-clause-places
-returns-in-Ask-clause-places c =
-    let s = c.self.inside in
-    let front = sym c.pop_in.ensures.front ∙ c.in-Some.is in
-    let own : c.in-Some.entry.owner ≡ Ask c.from.result c.in-Ask.request =
-    sym (ap (λ (e : EntryValue). e.owner) c.entry.view_is) ∙ c.in-Ask.is
-    ∙ ap (λ n. Ask n c.in-Ask.request) (sym (c.from.ensures ∙ c.session.view_is)) in
-    rw (← c.self.view_is) (sent-places s.pool c.sent_at.new.pool s.sides.items
+    (undue c.args.self.now) (flat s.pool s.sides.items s.servers.items s.tx s.pacer
+    c.args.self.now c.self.view_is) c.in-Some.entry c.args.now _ front
+    (sent-clients s.pool c.sent_at.new.pool s.sides.items
     c.sent_at.new.sides.items s.servers.items (joined s.tx s.pacer) c.from.result c.in-Ask.request
     c.in-Some.entry (λ d. false) (drop 1 (joined s.tx s.pacer).items) c.self.invariant.0
-    (front-taken (joined s.tx s.pacer).items c.in-Some.entry front) own c.args.now c.sent_at.ensures)
-
-pub returns-in-Reply-clause-places : goal.returns-in-Reply-clause-places
-returns-in-Reply-clause-places c =
-    let s = c.self.inside in
-    let front = sym c.pop_in.ensures.front ∙ c.in-Some.is in
-    let own : c.in-Some.entry.owner ≡ Reply c.in-Reply.session c.in-Reply.request =
-    sym (ap (λ (e : EntryValue). e.owner) c.entry.view_is) ∙ c.in-Reply.is in
-    rw (← c.self.view_is) (reply-places s.pool c.reply_sent_at.new.pool s.sides.items
-    s.servers.items c.reply_sent_at.new.servers.items (joined s.tx s.pacer) c.in-Reply.session c.in-Reply.request
-    c.in-Some.entry (λ d. false) (drop 1 (joined s.tx s.pacer).items) c.self.invariant.0
-    (front-taken (joined s.tx s.pacer).items c.in-Some.entry front) own c.reply_sent_at.ensures)
-
-pub returns-in-Ask-clause-handed : goal.returns-in-Ask-clause-handed
-returns-in-Ask-clause-handed c =
-    let s = c.self.inside in
-    let front = sym c.pop_in.ensures.front ∙ c.in-Some.is in
-    let own : c.in-Some.entry.owner ≡ Ask c.from.result c.in-Ask.request =
-    sym (ap (λ (e : EntryValue). e.owner) c.entry.view_is) ∙ c.in-Ask.is
-    ∙ ap (λ n. Ask n c.in-Ask.request) (sym (c.from.ensures ∙ c.session.view_is)) in
-    rw (← c.self.view_is) (sent-handed s.pool c.sent_at.new.pool s.sides.items
+    (front-taken (joined s.tx s.pacer).items c.in-Some.entry front) own c.args.now
+    c.sent_at.ensures
+    ∙ ap (λ o. clients_sent c.args.now o c.in-Some.entry.number
+    (map (shown_side s.pool) s.sides.items)) (sym own))))
+    (rw c.sent_at.ensures.step.gone.pool (servers-released s.pool s.servers.items
+    c.in-Some.entry.place)) (sent-places s.pool c.sent_at.new.pool s.sides.items
     c.sent_at.new.sides.items s.servers.items (joined s.tx s.pacer) c.from.result c.in-Ask.request
     c.in-Some.entry (λ d. false) (drop 1 (joined s.tx s.pacer).items) c.self.invariant.0
-    (front-taken (joined s.tx s.pacer).items c.in-Some.entry front) own c.args.now c.sent_at.ensures)
+    (front-taken (joined s.tx s.pacer).items c.in-Some.entry front) own c.args.now
+    c.sent_at.ensures) (drop 1)
+    (sent-handed s.pool c.sent_at.new.pool s.sides.items
+    c.sent_at.new.sides.items s.servers.items (joined s.tx s.pacer) c.from.result c.in-Ask.request
+    c.in-Some.entry (λ d. false) (drop 1 (joined s.tx s.pacer).items) c.self.invariant.0
+    (front-taken (joined s.tx s.pacer).items c.in-Some.entry front) own c.args.now
+    c.sent_at.ensures) c.pop_in.ensures.queue
+    (ap (λ r. r.size) c.pop_in.ensures.rest)
 
-pub returns-in-Reply-clause-handed : goal.returns-in-Reply-clause-handed
-returns-in-Reply-clause-handed c =
+pub returns-in-Reply : goal.returns-in-Reply
+returns-in-Reply c =
     let s = c.self.inside in
     let front = sym c.pop_in.ensures.front ∙ c.in-Some.is in
     let own : c.in-Some.entry.owner ≡ Reply c.in-Reply.session c.in-Reply.request =
     sym (ap (λ (e : EntryValue). e.owner) c.entry.view_is) ∙ c.in-Reply.is in
-    rw (← c.self.view_is) (reply-handed s.pool c.reply_sent_at.new.pool s.sides.items
-    s.servers.items c.reply_sent_at.new.servers.items (joined s.tx s.pacer) c.in-Reply.session c.in-Reply.request
-    c.in-Some.entry (λ d. false) (drop 1 (joined s.tx s.pacer).items) c.self.invariant.0
-    (front-taken (joined s.tx s.pacer).items c.in-Some.entry front) own c.reply_sent_at.ensures)
+    changes-queue s.pool c.reply_sent_at.new.pool s.sides.items s.sides.items
+    s.servers.items c.reply_sent_at.new.servers.items s.tx c.pop_in.new.tx s.pacer
+    c.pop_in.new.pacer c.args.self.now c.self.view_is
+    (SendsFront c.args.now c.args.self.now.queued)
+    (sends-undue c.args.now c.args.self.now.queued _ _
+    (sends-seen s.pool s.sides.items s.servers.items (joined s.tx s.pacer) c.self.invariant.0
+    (undue c.args.self.now) (flat s.pool s.sides.items s.servers.items s.tx s.pacer
+    c.args.self.now c.self.view_is) c.in-Some.entry c.args.now _ front
+    (reply-clients s.pool c.reply_sent_at.new.pool s.sides.items
+    s.servers.items c.reply_sent_at.new.servers.items (joined s.tx s.pacer) c.in-Reply.session
+    c.in-Reply.request c.in-Some.entry (λ d. false) (drop 1 (joined s.tx s.pacer).items)
+    c.self.invariant.0 (front-taken (joined s.tx s.pacer).items c.in-Some.entry front) own
+    c.reply_sent_at.ensures
+    ∙ ap (λ o. clients_sent c.args.now o c.in-Some.entry.number
+    (map (shown_side s.pool) s.sides.items)) (sym own))))
+    (reply-servers s.pool c.reply_sent_at.new.pool s.sides.items
+    s.servers.items c.reply_sent_at.new.servers.items (joined s.tx s.pacer) c.in-Reply.session
+    c.in-Reply.request c.in-Some.entry (λ d. false) (drop 1 (joined s.tx s.pacer).items)
+    c.self.invariant.0 (front-taken (joined s.tx s.pacer).items c.in-Some.entry front) own
+    c.reply_sent_at.ensures)
+    (reply-places s.pool c.reply_sent_at.new.pool s.sides.items
+    s.servers.items c.reply_sent_at.new.servers.items (joined s.tx s.pacer) c.in-Reply.session
+    c.in-Reply.request c.in-Some.entry (λ d. false) (drop 1 (joined s.tx s.pacer).items)
+    c.self.invariant.0 (front-taken (joined s.tx s.pacer).items c.in-Some.entry front) own
+    c.reply_sent_at.ensures) (drop 1)
+    (reply-handed s.pool c.reply_sent_at.new.pool s.sides.items
+    s.servers.items c.reply_sent_at.new.servers.items (joined s.tx s.pacer) c.in-Reply.session
+    c.in-Reply.request c.in-Some.entry (λ d. false) (drop 1 (joined s.tx s.pacer).items)
+    c.self.invariant.0 (front-taken (joined s.tx s.pacer).items c.in-Some.entry front) own
+    c.reply_sent_at.ensures) c.pop_in.ensures.queue
+    (ap (λ r. r.size) c.pop_in.ensures.rest)
