@@ -1,132 +1,199 @@
--- What a connect request does at a node, row by row of the control table.
-use Rattle.std.proofs.Common.{◌≡◌, ℕ, Bool, true, false, ◌||◌, Option, Some, None, List, [], ◌∷◌}
-use Rattle.std.proofs.Common.{get_or, refl, sym, ap, ◌∙◌}
-use Rattle.std.specs.Prelude.{IfSome, position, slice_get}
-use Rattle.std.specs.List.{find}
-use Rattle.std.proofs.lemmas.List.Quantifiers.{position-Some}
-use Rattle.std.proofs.lemmas.Option.{slice_get-get_or}
-use Rattle.rpc_base.proofs.TablesLemmas.{find-found, find-missing}
+-- What a row of the control rule does at a node.
+use Rattle.std.proofs.Common.{◌≡◌, ℕ, ◌<◌, Bool, true, false, not, ◌||◌, Option, Some, None}
+use Rattle.std.proofs.Common.{[], ◌∷◌, length, refl, sym, ap, ◌∙◌, arith}
+use Rattle.std.specs.Prelude.{option_map, slice_get}
+use Rattle.std.proofs.lemmas.Option.{slice_get_within}
 use Rattle.rpc_base.specs.declared.event.Event.{Event}
-use Rattle.rpc_base.specs.declared.event.Event.TheVariants.{Accepted}
-use Rattle.rpc_base.specs.declared.fact.Fact.{Fact}
+use Rattle.rpc_base.specs.declared.limits.TheConstants.{SESSION_NUMBERS}
+use Rattle.rpc_base.specs.declared.state.SessionState.{SessionState}
+use Rattle.rpc_base.specs.declared.state.SessionState.TheVariants.{Closing, Connecting}
+use Rattle.packet_header.specs.Header.{ControlInRange, IsServer}
 use Rattle.packet_header.specs.declared.packet.ControlHeader.{ControlHeader}
+use Rattle.packet_header.specs.declared.packet.ControlKind.{ControlKind}
 use Rattle.packet_header.specs.declared.packet.ControlKind.TheVariants.{ConnectRequest}
+use Rattle.packet_header.specs.declared.packet.ControlKind.TheVariants.{ConnectReply}
+use Rattle.packet_header.specs.declared.packet.ControlKind.TheVariants.{DisconnectRequest}
+use Rattle.packet_header.specs.declared.packet.ControlKind.TheVariants.{DisconnectReply}
 use Rattle.rpc_laws.specs.declared.rows.ControlRow.{ControlRow}
-use Rattle.rpc_laws.specs.declared.rows.ControlRow.TheVariants.{Accepts, Confirms, Declines, Starves}
-use Rattle.rpc_laws.specs.declared.tables.Server.{Server}
+use Rattle.rpc_laws.specs.declared.rows.ControlRow.TheVariants.{Closes, Connects, Ends, Fails}
+use Rattle.rpc_laws.specs.declared.tables.Client.{Client}
+use Rattle.rpc_laws.specs.declared.tables.Lists.{Lists}
 use Rattle.rpc_laws.specs.declared.tables.Timed.{Timed}
-use Rattle.rpc_laws.specs.ControlTable.{connect_row, control_facts, control_reply}
-use Rattle.rpc_laws.specs.ControlTable.{control_row, is_end_of}
+use Rattle.rpc_laws.specs.ControlTable.{control_facts, control_reply, control_row, control_row_of}
+use Rattle.rpc_laws.specs.ControlTable.{named_end, session_end}
 use Rattle.rpc_laws.specs.Facts.{plain}
-use Rattle.rpc_laws.specs.Groups.{has_no_room, servers_spent}
-use Rattle.rpc_laws.specs.Requests.{server_end}
+use Rattle.rpc_laws.specs.Groups.{has_no_room, server_refusal, servers_spent, told_state}
 use Rattle.rpc_laws.specs.Steps.{Goes, NotesNext}
 use Rattle.rpc_outside.specs.Recording.{Grew, Log}
-use Rattle.rpc_base.proofs.BasicLemmas.{not-false, not-true}
+use Rattle.node_laws.specs.Valid.{NumberedFrom, client_no}
 use Rattle.server_core.proofs.FlushLemmas.{grew-none}
-use Rattle.session_store.specs.declared.server.ServerEnd.{ServerEnd}
-use Rattle.session_store.specs.Changes.{IsEnd}
-use Rattle.endpoint_loop.specs.Controlling.{Controls, takes_server}
+use Rattle.session_mgmt.specs.Control.{ChangesOwn, accepts, found_in, own_end}
+use Rattle.session_mgmt.specs.declared.control.OwnEnd.{OwnEnd}
+use Rattle.session_store.specs.Changes.{IsInState}
+use Rattle.endpoint_loop.specs.Controlling.{Acts, Controls}
+use Rattle.endpoint_loop.specs.Ending.{ending}
+use Rattle.endpoint_loop.specs.Fits.{IsCredit}
 use Rattle.endpoint_loop.specs.Noting.{Makes}
 use Rattle.endpoint_loop.specs.Seen.{Asks, asking}
+use Rattle.endpoint_loop.specs.Watching.{Notes}
+use Rattle.endpoint_loop.proofs.AskLemmas.{client-by}
+use Rattle.endpoint_loop.proofs.StateLemmas.{told-closing, told-connecting}
 
--- a row that is known, with what was noted
-module _ {R : Type 0} (log : R → Log) (before now : R)
-    (peer : ℕ) (h : ControlHeader) (reply : Option ControlHeader) (s t : Timed) (lacks : Bool)
-    (row : ControlRow) (is : (asks : Asks) → control_row lacks peer h (asking asks s).lists ≡ row)
-    (answer : reply ≡ control_reply h row) where
-  pub controls-by : (x : List Fact) → Grew (log before) (log now) x
-      → ((asks : Asks) → x ≡ control_facts (asking asks s).lists peer h row)
-      → ((asks : Asks) → Goes (asking asks s) x (asking asks t))
-      → Makes log (Controls peer h reply) s t before now
-  controls-by x grew facts-are goes = record {
-    noted = x;
-    grew = grew;
-    step = λ asks. record {
-      lacks = lacks;
-      by = rw (is asks) (record { facts = facts-are asks; answer = answer; goes = goes asks });
-    };
+-- a row that is done is a step of the control rule, whatever the jobs that are out ask
+module _ {R : Type 0} (log : R → Log) (before now : R) (peer : ℕ) (h : ControlHeader)
+    (row : ControlRow) (s t : Timed) where
+  row-by : (lacks : Bool) (asks : Asks) (kind : ControlKind)
+      → control_row_of kind lacks peer h (asking asks s).lists
+      ≡ control_row_of kind lacks peer h s.lists
+  row-by lacks asks ConnectRequest = refl
+  row-by lacks asks ConnectReply = refl
+  row-by lacks asks DisconnectRequest = refl
+  row-by lacks asks DisconnectReply = refl
+
+  pub acts-controls : (lacks : Bool) → control_row lacks peer h s.lists ≡ row
+      → Makes log (Acts row peer h) s t before now
+      → Makes log (Controls peer h (control_reply h row)) s t before now
+  acts-controls lacks is made = record {
+    noted = made.noted;
+    grew = made.grew;
+    step = λ asks.
+        let step = made.step asks in
+        let it : control_row lacks peer h (asking asks s).lists ≡ row =
+        row-by lacks asks h.kind ∙ is in
+        record {
+          lacks = lacks;
+          by = rw it (record {
+            facts = step.facts;
+            answer = refl;
+            goes = step.goes;
+          });
+        };
   }
 
+  -- an event is noted
+  pub acts-noted : (next : Lists → Option Event) (e : Event)
+      → ((asks : Asks) → next (asking asks s).lists ≡ Some e)
+      → ((asks : Asks) → control_facts (asking asks s).lists peer h row ≡ plain s.lists.me e ∷ [])
+      → Makes log (NotesNext next) s t before now → Makes log (Acts row peer h) s t before now
+  acts-noted next e is facts-are made = record {
+    noted = made.noted;
+    grew = made.grew;
+    step = λ asks.
+        let step = made.step asks in
+        record {
+          facts = step.facts ∙ ap (λ (d : Event). plain s.lists.me d ∷ [])
+              (some-same step.event e (sym step.is_next ∙ is asks)) ∙ sym (facts-are asks);
+          goes = step.goes;
+        };
+  }
+    where
+      some-same : (a b : Event) → Some a ≡ Some b → a ≡ b
+      some-same a b e = cc
+
+-- an event is noted by which nothing changes
+pub acts-told : {R : Type 0} (log : R → Log) (before now : R) (peer : ℕ) (h : ControlHeader)
+    (row : ControlRow) (s : Timed) (e : Event)
+    → ((asks : Asks) → control_facts (asking asks s).lists peer h row ≡ plain s.lists.me e ∷ [])
+    → ((asks : Asks) → Goes (asking asks s) (plain s.lists.me e ∷ []) (asking asks s))
+    → Grew (log before) (log now) (plain s.lists.me e ∷ [])
+    → Makes log (Acts row peer h) s s before now
+acts-told log before now peer h row s e facts-are goes grew = record {
+  noted = plain s.lists.me e ∷ [];
+  grew = grew;
+  step = λ asks. record { facts = sym (facts-are asks); goes = goes asks };
+}
+
 -- nothing is noted, and nothing changes
-pub controls-none : {R : Type 0} (log : R → Log) (r : R)
-    (peer : ℕ) (h : ControlHeader) (reply : Option ControlHeader) (s : Timed) (lacks : Bool)
-    (row : ControlRow) → ((asks : Asks) → control_row lacks peer h (asking asks s).lists ≡ row)
-    → reply ≡ control_reply h row
+pub acts-none : {R : Type 0} (log : R → Log) (r : R) (peer : ℕ) (h : ControlHeader)
+    (row : ControlRow) (s : Timed)
     → ((asks : Asks) → control_facts (asking asks s).lists peer h row ≡ [])
-    → Makes log (Controls peer h reply) s s r r
-controls-none log r peer h reply s lacks row is answer none =
-    controls-by log r r peer h reply s s lacks row is answer [] (grew-none log r)
-    (λ asks. sym (none asks)) (λ asks. refl)
+    → Makes log (Acts row peer h) s s r r
+acts-none log r peer h row s none = record {
+  noted = [];
+  grew = grew-none log r;
+  step = λ asks. record { facts = sym (none asks); goes = refl };
+}
 
-abbrev pub no-server : Server
-no-server = server_end 0 0 0 0
+-- a client session that a packet names is there, in this state
+pub record IsThere (state : SessionState) (i : ℕ) (s : Lists) : Type 0 where
+  pub known : i < length s.clients
+  pub stands : IsInState state (slice_get s.clients i)
 
-module _ (peer : ℕ) (h : ControlHeader) (kind : h.kind ≡ ConnectRequest) (s : Timed) where
-  abbrev its : Server → Bool
-  its = is_end_of peer h.client
-
-  by-kind : (lacks : Bool) (asks : Asks)
-      → control_row lacks peer h (asking asks s).lists ≡ connect_row lacks peer h s.lists
-  by-kind lacks asks = rw kind refl
-
-  -- the session is there
-  pub confirms : (i : ℕ) (end : ServerEnd) (lacks : Bool) (asks : Asks)
-      → Some i ≡ position its s.lists.servers → IfSome (slice_get s.lists.servers i) (IsEnd end)
-      → control_row lacks peer h (asking asks s).lists ≡ Confirms end.session end.credits
-  confirms i end lacks asks at ends =
-      let within = (position-Some its s.lists.servers i no-server (sym at)).0 in
-      let place = slice_get-get_or s.lists.servers i no-server within in
-      let own : IsEnd end (get_or s.lists.servers i no-server) = rw place at ends in
-      let found : find its s.lists.servers ≡ Some (get_or s.lists.servers i no-server) =
-      find-found its s.lists.servers i (sym at) ∙ place in
-      by-kind lacks asks ∙ rw (found, own.number, own.credits) refl
-
-  -- it isn't, and there is no room for one
-  module _ (none : None ≡ position its s.lists.servers) where
-    not-found : find its s.lists.servers ≡ None
-    not-found = find-missing its s.lists.servers (sym none)
-
-    pub declines : (lacks : Bool) (asks : Asks) → takes_server h.credits s.lists ≡ false
-        → control_row lacks peer h (asking asks s).lists ≡ Declines
-    declines lacks asks takes =
-        by-kind lacks asks
-        ∙ rw (not-found, not-false (has_no_room h.credits s.lists || servers_spent s.lists) takes)
-        refl
-
-    -- or there is
-    pub accepts : (asks : Asks) → takes_server h.credits s.lists ≡ true
-        → control_row false peer h (asking asks s).lists ≡ Accepts s.lists.server_numbers
-    accepts asks takes =
-        by-kind false asks
-        ∙ rw (not-found, not-true (has_no_room h.credits s.lists || servers_spent s.lists) takes)
-        refl
-
-    pub starves : (asks : Asks) → takes_server h.credits s.lists ≡ true
-        → control_row true peer h (asking asks s).lists ≡ Starves
-    starves asks takes =
-        by-kind true asks
-        ∙ rw (not-found, not-true (has_no_room h.credits s.lists || servers_spent s.lists) takes)
-        refl
-
--- a session was accepted
-pub accepted-as : {R : Type 0} (log : R → Log) (before now : R)
-    (peer : ℕ) (h : ControlHeader) (kind : h.kind ≡ ConnectRequest) (s t : Timed)
-    (reply : Option ControlHeader) → None ≡ position (is_end_of peer h.client) s.lists.servers
-    → takes_server h.credits s.lists ≡ true
-    → reply ≡ control_reply h (Accepts s.lists.server_numbers)
-    → Makes log (NotesNext (λ l. Some (Accepted l.server_numbers peer h.client h.credits)))
-    s t before now
-    → Makes log (Controls peer h reply) s t before now
-accepted-as log before now peer h kind s t reply none takes answer made =
-    controls-by log before now peer h reply s t false (Accepts s.lists.server_numbers)
-    (λ asks. accepts peer h kind s none asks takes) answer made.noted made.grew
-    (λ asks.
-    let step = made.step asks in
-    let same : step.event ≡ Accepted s.lists.server_numbers peer h.client h.credits =
-    some-same step.event _ (sym step.is_next) in
-    step.facts ∙ ap (λ (e : Event). plain s.lists.me e ∷ []) same)
-    (λ asks. (made.step asks).goes)
+module _ (peer : ℕ) (h : ControlHeader) (s : Lists) (numbered : NumberedFrom client_no 0 s.clients)
   where
-    some-same : (a b : Event) → Some a ≡ Some b → a ≡ b
+    own-there : (state : SessionState)
+        → ((was : SessionState) (asked : ℕ) → told_state was asked ≡ state → was ≡ state)
+        → (own : OwnEnd) → (found_in peer h s).own ≡ Some own → own.state ≡ state
+        → IsThere state h.client s
+    own-there state back own found is =
+        by (slice_get s.clients h.client) refl
+        (ap (option_map own_end) (client-by s.clients h.client h.client numbered refl) ∙ found)
+      where
+        some-same : (a b : OwnEnd) → Some a ≡ Some b → a ≡ b
+        some-same a b e = cc
+
+        by : (o : Option Client) → slice_get s.clients h.client ≡ o
+            → option_map own_end o ≡ Some own → IsThere state h.client s
+        by None place e = cc
+        by (Some x) place e = record {
+          known = slice_get_within s.clients h.client x place;
+          stands = rw place (back x.state x.asked
+              (ap (λ (w : OwnEnd). w.state) (some-same (own_end x) own e) ∙ is));
+        }
+
+    pub connects-there : (t : ℕ) → ChangesOwn (Connects t) h (found_in peer h s)
+        → IsThere Connecting h.client s
+    connects-there t c = own-there Connecting told-connecting c.own c.found c.cause.0
+
+    pub fails-there : ChangesOwn Fails h (found_in peer h s) → IsThere Connecting h.client s
+    fails-there c = own-there Connecting told-connecting c.own c.found c.cause
+
+    pub closes-there : ChangesOwn Closes h (found_in peer h s) → IsThere Closing h.client s
+    closes-there c = own-there Closing told-closing c.own c.found c.cause
+
+-- a server session that a packet names has a number
+pub named-below : (h : ControlHeader) (t : ℕ) → ControlInRange h → h.server ≡ Some t
+    → t < SESSION_NUMBERS
+named-below h t range named = by _ h.server range.server named
+  where
+    some-same : (a b : ℕ) → Some a ≡ Some b → a ≡ b
     some-same a b e = cc
+
+    by : (b : Bool) (o : Option ℕ) → IsServer b o → o ≡ Some t → t < SESSION_NUMBERS
+    by true (Some u) within e = omega (arith, within.1, some-same u t e)
+    by true None within e = absurd within
+    by false (Some u) within e = absurd within
+    by false None within e = cc
+
+-- a session that is accepted isn't refused
+pub accepts-fits : (peer : ℕ) (h : ControlHeader) (s : Lists)
+    → accepts h.credits (found_in peer h s) ≡ true → server_refusal h.credits s ≡ None
+accepts-fits peer h s takes = by (has_no_room h.credits s) (servers_spent s) refl refl takes
+  where
+    by : (full spent : Bool) → has_no_room h.credits s ≡ full → servers_spent s ≡ spent
+        → not (full || spent) ≡ true → server_refusal h.credits s ≡ None
+    by true spent e f takes = cc
+    by false true e f takes = cc
+    by false false e f takes = rw (f, e) refl
+
+-- a connect request asks for 1 to 256 credits
+pub asked-credits : (h : ControlHeader) → h.kind ≡ ConnectRequest → ControlInRange h
+    → IsCredit h.credits
+asked-credits h kind range =
+    let within = range.credits in rw kind at within
+
+-- the session that a packet names ends
+pub acts-ended : {R : Type 0} (log : R → Log) (before now : R) (peer : ℕ) (h : ControlHeader)
+    (s t : Timed) (i : ℕ)
+    → named_end peer h.client h.server s.lists.servers ≡ slice_get s.lists.servers i
+    → Makes log (Notes (ending i)) s t before now → Makes log (Acts Ends peer h) s t before now
+acts-ended log before now peer h s t i named made = record {
+  noted = made.noted;
+  grew = made.grew;
+  step = λ asks.
+      let step = made.step asks in
+      record {
+        facts = step.facts ∙ ap (session_end s.lists.me s.lists.queued) (sym named);
+        goes = step.goes;
+      };
+}

@@ -44,7 +44,9 @@ use Rattle.session_store.specs.Changes.{IsDrained}
 use Rattle.session_store.specs.Queue.{is_owned}
 use Rattle.session_store.specs.Serving.{without_owned}
 use Rattle.session_store.specs.Sides.{Shown}
-use Rattle.endpoint_loop.specs.Ending.{ending, flushing_slot, flushing_slots, leaving}
+use Rattle.endpoint_loop.specs.Ending.{LeavesSessions, ending, flushing_slot, flushing_slots}
+use Rattle.endpoint_loop.specs.Ending.{leaving}
+use Rattle.endpoint_loop.specs.Handing.{Holding}
 use Rattle.endpoint_loop.specs.Fits.{Fits, HasCredit}
 use Rattle.endpoint_loop.specs.Noting.{Makes}
 use Rattle.endpoint_loop.specs.Seen.{Asks, Tallies, asking, asking_jobs, seen_node}
@@ -443,3 +445,15 @@ module _ {R : Type 0} (log : R → Log) (i : ℕ) where
       let made = all-flushed n a b f g last p in
       rw same (drained-after i (asking no_asks a) made.noted (asking no_asks b) served
       (made.step no_asks))
+
+-- more are taken out
+pub sessions-then : (a b c : Holding) → LeavesSessions a b → LeavesSessions b c
+    → LeavesSessions a c
+sessions-then a b c p q = record {
+  clients = q.clients ∙ p.clients;
+  servers = q.servers ∙ p.servers;
+  inbox = q.inbox ∙ p.inbox;
+  me = q.me ∙ p.me;
+  jobs = q.jobs ∙ p.jobs;
+  handed = q.handed ∙ p.handed;
+}

@@ -23,7 +23,7 @@ mod IdleLemmas
 mod InboxLemmas
 mod JobLemmas
 mod JoinLemmas
-mod JoinRows
+mod LeavingLemmas
 mod ListenLemmas
 mod LoanLemmas
 mod LoseLemmas
@@ -42,6 +42,7 @@ mod RateLemmas
 mod ReadingLemmas
 mod RollLemmas
 mod SentLemmas
+mod StateLemmas
 mod ServeLemmas
 mod ServerLemmas
 mod TakenLemmas

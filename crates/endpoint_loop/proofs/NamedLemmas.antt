@@ -1,46 +1,39 @@
--- Which session a disconnect request names, and replies to sessions that aren't there.
-use Rattle.std.proofs.Common.{eqb, get_or, ◌≡◌, ◌≢◌, ℕ, ◌≤◌, ◌<◌, Bool, true, false, ◌&&◌, Option, Some, None}
-use Rattle.std.proofs.Common.{List, length, refl, sym, ap, subst, ◌∙◌, arith}
-use Rattle.std.specs.Prelude.{IfSome, count_by, position, slice_get}
+-- Which server session a control packet names, and what is found of the ends of sessions.
+use Rattle.std.proofs.Common.{eqb, get_or, ◌≡◌, ◌≢◌, ℕ, ◌≤◌, ◌<◌, Bool, true, false, ◌&&◌, Option}
+use Rattle.std.proofs.Common.{Some, None, List, length, refl, sym, ap, ◌∙◌, arith}
+use Rattle.std.specs.Prelude.{IfSome, count_by, is_some, option_map, position, slice_get}
 use Rattle.std.specs.List.{find}
 use Rattle.std.proofs.lemmas.Bool.{and_parts, eq-eqb, ne_eqb}
 use Rattle.std.proofs.lemmas.List.Quantifiers.{position-Some}
 use Rattle.std.proofs.lemmas.Option.{slice_get-get_or, slice_get_within}
-use Rattle.rpc_outside.specs.Recording.{Log}
-use Rattle.packet_header.specs.declared.packet.ControlHeader.{ControlHeader}
-use Rattle.packet_header.specs.declared.packet.ControlKind.TheVariants.{ConnectReply}
-use Rattle.packet_header.specs.declared.packet.ControlKind.TheVariants.{DisconnectReply}
-use Rattle.packet_header.specs.declared.packet.ControlKind.TheVariants.{DisconnectRequest}
 use Rattle.rpc_base.proofs.BasicLemmas.{and-false}
 use Rattle.rpc_base.proofs.FindLemmas.{at-found}
 use Rattle.rpc_base.proofs.FirstLemmas.{count-fewer, found-own}
 use Rattle.rpc_base.proofs.TablesLemmas.{find-found}
 use Rattle.rpc_base.proofs.TakingLemmas.{find-passes}
 use Rattle.rpc_base.specs.declared.state.SessionState.{SessionState}
-use Rattle.rpc_base.specs.declared.state.SessionState.TheVariants.{Unknown, Connecting, Connected}
-use Rattle.rpc_base.specs.declared.state.SessionState.TheVariants.{Closing, Closed, Failed, Spent}
-use Rattle.rpc_base.specs.declared.state.SessionState.TheVariants.{Broken as IsBroken}
-use Rattle.rpc_laws.specs.declared.rows.ControlRow.TheVariants.{Ends, Ignores, Misses}
+use Rattle.packet_header.specs.declared.packet.ControlHeader.{ControlHeader}
 use Rattle.rpc_laws.specs.declared.tables.Client.{Client}
+use Rattle.rpc_laws.specs.declared.tables.Lists.{Lists}
 use Rattle.rpc_laws.specs.declared.tables.Server.{Server}
-use Rattle.rpc_laws.specs.declared.tables.Timed.{Timed}
-use Rattle.rpc_laws.specs.ControlTable.{control_reply, control_row, is_end_of, named_end}
-use Rattle.rpc_laws.specs.ControlTable.{over_row, session_end}
-use Rattle.rpc_laws.specs.Requests.{is_server}
+use Rattle.rpc_laws.specs.ControlTable.{is_end_of}
+use Rattle.rpc_laws.specs.Groups.{shares, state_of}
+use Rattle.rpc_laws.specs.Requests.{is_server, server_end}
 use Rattle.rpc_laws.specs.Sessions.{is_client}
 use Rattle.node_laws.specs.Valid.{NumberedFrom, client_no}
+use Rattle.session_mgmt.specs.Control.{found_in, other_end, own_end}
+use Rattle.session_mgmt.specs.declared.control.Found.{Found}
+use Rattle.session_mgmt.specs.declared.control.OtherEnd.{OtherEnd}
+use Rattle.session_mgmt.specs.declared.control.OwnEnd.{OwnEnd}
 use Rattle.session_store.specs.declared.side.ClientEnd.{ClientEnd}
 use Rattle.session_store.specs.declared.server.ServerEnd.{ServerEnd}
 use Rattle.session_store.specs.Changes.{IsClientEnd, IsEnd}
-use Rattle.endpoint_loop.specs.Controlling.{Controls}
-use Rattle.endpoint_loop.specs.Ending.{ending}
-use Rattle.endpoint_loop.specs.Noting.{Makes}
-use Rattle.endpoint_loop.specs.Seen.{Asks, asking}
-use Rattle.endpoint_loop.specs.Watching.{Notes}
 use Rattle.endpoint_loop.proofs.AskLemmas.{client-by}
-use Rattle.endpoint_loop.proofs.ControlLemmas.{controls-by, no-server}
 use Rattle.endpoint_loop.proofs.ReadingLemmas.{there}
 use Rattle.endpoint_loop.proofs.ServerLemmas.{slice_get-some}
+
+abbrev no-server : Server
+no-server = server_end 0 0 0 0
 
 -- the session of a number that is the other end of a peer's
 module _ (servers : List Server) (t peer client : ℕ)
@@ -91,107 +84,6 @@ module _ (servers : List Server) (t peer client : ℕ)
       by None e = refl
       by (Some w) e = let found = sym none ∙ found-number w e in cc
 
--- a disconnect request that names no session
-module _ {R : Type 0} (log : R → Log) (peer : ℕ)
-    (h : ControlHeader) (kind : h.kind ≡ DisconnectRequest) (s : Timed) where
-  pub row-misses : (lacks : Bool) (asks : Asks)
-      → named_end peer h.client h.server s.lists.servers ≡ None
-      → control_row lacks peer h (asking asks s).lists ≡ Misses
-  row-misses lacks asks none = rw (kind, none) refl
-
-  row-ends : (lacks : Bool) (asks : Asks) (o : Option Server) → (o ≡ None → ⊥)
-      → named_end peer h.client h.server s.lists.servers ≡ o
-      → control_row lacks peer h (asking asks s).lists ≡ Ends
-  row-ends lacks asks None there named = absurd (there refl)
-  row-ends lacks asks (Some v) there named = rw (kind, named) refl
-
-  -- or one
-  pub ends-named : (i : ℕ) (t : Timed) (before now : R) (reply : Option ControlHeader)
-      → i < length s.lists.servers
-      → named_end peer h.client h.server s.lists.servers ≡ slice_get s.lists.servers i
-      → reply ≡ control_reply h Ends → Makes log (Notes (ending i)) s t before now
-      → Makes log (Controls peer h reply) s t before now
-  ends-named i t before now reply within named answer made =
-      controls-by log before now peer h reply s t false Ends
-      (λ asks. row-ends false asks (slice_get s.lists.servers i)
-      (slice_get-some s.lists.servers i within) named) answer made.noted made.grew
-      (λ asks. (made.step asks).facts
-      ∙ ap (session_end s.lists.me s.lists.queued) (sym named))
-      (λ asks. (made.step asks).goes)
-
--- a reply to a session that isn't there
-no-client : (s : Timed) (i n : ℕ) → length s.lists.clients ≤ i → n ≡ i
-    → NumberedFrom client_no 0 s.lists.clients → find (is_client n) s.lists.clients ≡ None
-no-client s i n past same numbered =
-    sym (client-by s.lists.clients i n numbered same) ∙ by (slice_get s.lists.clients i) refl
-  where
-    by : (o : Option Client) → slice_get s.lists.clients i ≡ o → o ≡ None
-    by None e = refl
-    by (Some x) e =
-        let within = slice_get_within s.lists.clients i x e in absurd (omega (arith, past, within))
-
-module _ (peer : ℕ) (h : ControlHeader) (s : Timed) (i : ℕ) (number : h.client ≡ i)
-    (in_order : NumberedFrom client_no 0 s.lists.clients) where
-  pub connect-unknown : (lacks : Bool) (asks : Asks) → h.kind ≡ ConnectReply
-      → length s.lists.clients ≤ i → control_row lacks peer h (asking asks s).lists ≡ Ignores
-  connect-unknown lacks asks kind past = rw (kind, no-client s i h.client past number in_order) refl
-
-  pub disconnect-unknown : (lacks : Bool) (asks : Asks) → h.kind ≡ DisconnectReply
-      → length s.lists.clients ≤ i → control_row lacks peer h (asking asks s).lists ≡ Ignores
-  disconnect-unknown lacks asks kind past =
-      rw (kind, no-client s i h.client past number in_order) refl
-
-  -- or of another peer
-  module _ (within : i < length s.lists.clients) (end : ClientEnd)
-      (ends : IfSome (slice_get s.lists.clients i) (IsClientEnd end)) where
-    abbrev x : Client
-    x = (there s.lists.clients i within).0
-
-    place : slice_get s.lists.clients i ≡ Some x
-    place = (there s.lists.clients i within).1
-
-    own : IsClientEnd end x
-    own = rw place at ends
-
-    found : find (is_client h.client) s.lists.clients ≡ Some x
-    found = sym (client-by s.lists.clients i h.client in_order number) ∙ place
-
-    pub connect-stranger : (lacks : Bool) (asks : Asks) → h.kind ≡ ConnectReply → end.peer ≢ peer
-        → control_row lacks peer h (asking asks s).lists ≡ Ignores
-    connect-stranger lacks asks kind other =
-        rw (kind, found, ne_eqb x.way.peer peer (λ same. other (own.peer ∙ same))) refl
-
-    pub disconnect-stranger : (lacks : Bool) (asks : Asks) → h.kind ≡ DisconnectReply
-        → end.peer ≢ peer → control_row lacks peer h (asking asks s).lists ≡ Ignores
-    disconnect-stranger lacks asks kind other =
-        rw (kind, found, ne_eqb x.way.peer peer (λ same. other (own.peer ∙ same))) refl
-
-    -- one that names no server session
-    pub disconnect-nameless : (lacks : Bool) (asks : Asks) → h.kind ≡ DisconnectReply
-        → end.peer ≡ peer → h.server ≡ None
-        → control_row lacks peer h (asking asks s).lists ≡ Ignores
-    disconnect-nameless lacks asks kind same none =
-        rw (kind, found, eq-eqb x.way.peer peer (sym own.peer ∙ same), none)
-        (nameless x.state x.way.other)
-      where
-        nameless : (state : SessionState) (other : ℕ) → over_row state other None ≡ Ignores
-        nameless Connected other = refl
-        nameless Spent other = refl
-        nameless Closing other = refl
-        nameless IsBroken other = refl
-        nameless Unknown other = refl
-        nameless Connecting other = refl
-        nameless Closed other = refl
-        nameless Failed other = refl
-
--- by the peer that was compared
-pub controls-peer : {R : Type 0} (log : R → Log) (p q : ℕ)
-    (h : ControlHeader) (reply : Option ControlHeader) (s t : Timed) (before now : R) → p ≡ q
-    → Makes log (Controls p h reply) s t before now
-    → Makes log (Controls q h reply) s t before now
-controls-peer log p q h reply s t before now same made =
-    subst (λ n. Makes log (Controls n h reply) s t before now) same made
-
 -- the session at a place, by its ends
 module _ (servers : List Server) (t peer client : ℕ)
     (alone : count_by (is_server t) servers ≤ 1) (i : ℕ)
@@ -233,3 +125,76 @@ module _ (servers : List Server) (t peer client : ℕ)
       let two = ne_eqb v.way.other client (λ same. other (its-end.client ∙ same)) in
       named-other servers t peer client alone i v stands its-number
       (rw two (and-false (eqb v.way.peer peer)))
+
+abbrev pub other_of : ServerEnd → OtherEnd
+other_of e = record { number = e.session; credits = e.credits }
+
+abbrev pub own_of : SessionState → ClientEnd → OwnEnd
+own_of state e = record {
+  peer = e.peer;
+  state = state;
+  credits = e.credits;
+  server = e.server;
+}
+
+-- the other end of a peer's client session, by its place
+pub end-found : (servers : List Server) (peer client i : ℕ) (end : ServerEnd)
+    → Some i ≡ position (is_end_of peer client) servers
+    → IfSome (slice_get servers i) (IsEnd end)
+    → Some (other_of end) ≡ option_map other_end (find (is_end_of peer client) servers)
+end-found servers peer client i end at ends =
+    let its : Server → Bool = is_end_of peer client in
+    let within = (position-Some its servers i no-server (sym at)).0 in
+    let place = slice_get-get_or servers i no-server within in
+    let own : IsEnd end (get_or servers i no-server) = rw place at ends in
+    rw (find-found its servers i (sym at) ∙ place, own.number, own.credits) refl
+
+-- the client session of a number, by its place
+module _ (clients : List Client) (numbered : NumberedFrom client_no 0 clients) (i n : ℕ)
+    (same : n ≡ i) where
+  pub own-missing : length clients ≤ i → None ≡ option_map own_end (find (is_client n) clients)
+  own-missing past = rw (sym (client-by clients i n numbered same)) (by (slice_get clients i) refl)
+    where
+      by : (o : Option Client) → slice_get clients i ≡ o → None ≡ option_map own_end o
+      by None e = refl
+      by (Some x) e =
+          let within = slice_get_within clients i x e in absurd (omega (arith, past, within))
+
+  pub own-found : (end : ClientEnd) (state : SessionState) → i < length clients
+      → IfSome (slice_get clients i) (IsClientEnd end) → state ≡ state_of (slice_get clients i)
+      → Some (own_of state end) ≡ option_map own_end (find (is_client n) clients)
+  own-found end state within ends is =
+      let at = there clients i within in
+      let own : IsClientEnd end at.0 = rw at.1 at ends in
+      let told = is ∙ ap state_of at.1 in
+      rw (sym (client-by clients i n numbered same) ∙ at.1, own.peer, own.credits, own.server, told)
+      refl
+
+-- whether a session is named is whether its place was found
+pub named-found : (servers : List Server) (o : Option ℕ) (n : Option Server)
+    → IfSome o (λ i. (i < length servers) × (n ≡ slice_get servers i)) → (o ≡ None → n ≡ None)
+    → is_some o ≡ is_some n
+named-found servers None n found missing = rw (missing refl) refl
+named-found servers (Some i) n found missing = by (slice_get servers i) refl
+  where
+    by : (o : Option Server) → slice_get servers i ≡ o → true ≡ is_some n
+    by None e = absurd (slice_get-some servers i found.0 e)
+    by (Some v) e = rw (found.1 ∙ e) refl
+
+-- what is found of all of them
+abbrev pub found_by : Option OtherEnd → Bool → Option OwnEnd → (numbers credits ring : ℕ) → Found
+found_by end named own numbers credits ring = record {
+  end = end;
+  is_named = named;
+  own = own;
+  numbers = numbers;
+  shares = credits;
+  ring = ring;
+}
+
+pub found-as : (peer : ℕ) (h : ControlHeader) (s : Lists) (end : Option OtherEnd) (named : Bool)
+    (own : Option OwnEnd) (numbers credits ring : ℕ) → end ≡ (found_in peer h s).end
+    → named ≡ (found_in peer h s).is_named → own ≡ (found_in peer h s).own
+    → numbers ≡ s.server_numbers → credits ≡ shares s → ring ≡ s.room
+    → found_by end named own numbers credits ring ≡ found_in peer h s
+found-as peer h s end named own numbers credits ring e n o m c r = rw (e, n, o, m, c, r) refl

@@ -43,7 +43,9 @@ use Rattle.rpc_outside.specs.Recording.{Grew, Log}
 use Rattle.rpc_outside.specs.declared.link.Link as Link
 use Rattle.node_laws.specs.Valid.{NumberedFrom, client_no}
 use Rattle.node_laws.proofs.Allowed.{Allowed}
+use Rattle.rpc_laws.specs.Groups.{told_state}
 use Rattle.node_laws.proofs.NumberLemmas.{numbered-at}
+use Rattle.endpoint_loop.proofs.StateLemmas.{told-request}
 use Rattle.session_store.specs.Changes.{ChangesAt, IsInState, sent_again}
 use Rattle.session_store.specs.Sides.{Shown}
 use Rattle.endpoint_loop.specs.Controlling.{Spoke}
@@ -519,3 +521,14 @@ module _ {R L : Type 0} (log : R → Log)
         silent q all =
             let is = rw place at (p.step no_asks).facts in
             subst (AllStill q) (sym is) (all x.state x.way.number)
+
+-- the own request of a session, by what is told of it
+pub own-told : (xs : List Client) (i : ℕ) (x : Client) → slice_get xs i ≡ Some x
+    → NumberedFrom client_no 0 xs → (state : SessionState) {server credits : ℕ}
+    → server ≡ x.way.other → credits ≡ x.limit → state ≡ told_state x.state x.asked
+    → request_by state i server credits ≡ own_request x
+own-told xs i x place numbered state other limit told =
+    let named : x.way.number ≡ i =
+    (let at = numbered-at client_no 0 i xs x numbered place in omega (arith, at)) in
+    rw (told, other, limit, sym named)
+    (told-request x.state x.asked x.way.number x.way.other x.limit)

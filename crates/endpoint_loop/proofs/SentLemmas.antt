@@ -1,8 +1,8 @@
 -- What a sent packet is for the node.
-use Rattle.std.proofs.Common.{◌≡◌, ℕ, ◌+◌, ◌≤◌, ◌<◌, Bool, true, false, cond, ltb, Option, Some}
+use Rattle.std.proofs.Common.{◌≡◌, ◌≢◌, ℕ, ◌+◌, ◌≤◌, ◌<◌, Bool, true, false, cond, ltb, Option, Some}
 use Rattle.std.proofs.Common.{None, List, [], ◌∷◌, ◌++◌, length, drop, refl, sym, ap, subst, ◌∙◌}
 use Rattle.std.proofs.Common.{arith}
-use Rattle.std.specs.Prelude.{map, option_map, slice_get, IfSome, IsTrue}
+use Rattle.std.specs.Prelude.{map, option_map, slice_get, IfSome}
 use Rattle.std.specs.List.{AllByRecursion, find}
 use Rattle.std.proofs.lemmas.Bool.{eq-eqb}
 use Rattle.rpc_base.specs.Tables.{at_first, without_first}
@@ -42,7 +42,6 @@ use Rattle.session_store.specs.Queue.{IsFront, SendsFront, SpellsFront, clients_
 use Rattle.session_store.specs.Queue.{peer_in}
 use Rattle.session_store.specs.Sides.{Shown, queued_of}
 use Rattle.session_store.proofs.AscendsLemmas.{ascends-changed}
-use Rattle.rpc_laws.specs.Pacing.{line}
 use Rattle.session_store.specs.Joined.{is_some_due, without_due}
 use Rattle.endpoint_loop.proofs.QueueLemmas.{replies-made, sendable-made}
 use Rattle.endpoint_loop.specs.Fits.{CallsAscend, Fits, IsSendable, IsSettled, is_of_call}
@@ -371,19 +370,14 @@ pub front-fewer : (clock : ℕ) (e : EntryValue) (qs rs : List Queued)
 front-fewer clock e [] rs is left = cc
 front-fewer clock e (p ∷ ps) rs is left = omega (arith, ap (λ (xs : List Queued). length xs) left)
 
--- where the store has a front, it may be sent
-pub some-due : (clock : ℕ) (e : EntryValue) (s : Shown) → IsFront clock s e
-    → line clock s.queued ≡ [] → IsTrue false
-some-due clock e s front empty = never s.queued empty front.due
+-- where the store has a front, something is queued
+pub front-there : (clock : ℕ) (e : EntryValue) (s : Shown) → IsFront clock s e → s.queued ≢ []
+front-there clock e s front = there s.queued front.front
   where
-    never : (qs : List Queued) → line clock qs ≡ [] → is_some_due clock (slice_get qs 0) ≡ true
-        → IsTrue false
-    never [] h e = cc
-    never (q ∷ qs) h e = by (is_due clock q.due) e h
-      where
-        by : (b : Bool) → b ≡ true → cond b (q ∷ line clock qs) (line clock qs) ≡ [] → IsTrue false
-        by true t f = cc
-        by false t f = cc
+    there : (qs : List Queued) → option_map without_due (slice_get qs 0) ≡ Some (queued_of e)
+        → qs ≢ []
+    there [] is = λ h. cc
+    there (q ∷ qs) is = λ h. cc
 
 -- the end of a poll: what was due is ready
 module _ (me : ℕ) (limits : Limits) (tallies : Tallies) (paces : List Pace) (jobs : Jobs)

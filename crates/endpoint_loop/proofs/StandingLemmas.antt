@@ -33,7 +33,7 @@ use Rattle.rpc_laws.specs.PollOrder.{Closes as EndsPoll, FinishesOne, FinishesSo
 use Rattle.rpc_laws.specs.PollOrder.{Poll, PollBy, PostsAll, raised, SendsSome}
 use Rattle.rpc_laws.specs.Sessions.{is_client, is_live}
 use Rattle.rpc_laws.specs.Service.{Answers, served_after_all, rules_of}
-use Rattle.rpc_laws.specs.Steps.{Chain, Rel, Then, more, none}
+use Rattle.rpc_laws.specs.Steps.{Chain, Rel, more, none}
 use Rattle.rpc_laws.proofs.AnswerLemmas.{answers-append, served-append}
 use Rattle.rpc_laws.proofs.PollLemmas.{Within, chain-cons, within-first, within-second}
 use Rattle.rpc_laws.proofs.RunLemmas.{me-after_all}

@@ -1,24 +1,24 @@
 -- What a control packet does at a node, and how one is handed to the link.
-use Rattle.std.specs.Prelude.{◌≡◌, ℕ, ◌++◌, ◌||◌, not, Bool, false, Option, option_map, List, []}
+use Rattle.std.specs.Prelude.{◌≡◌, ℕ, ◌++◌, Bool, false, Option, option_map, List, []}
 use Rattle.std.specs.Prelude.{◌∷◌, Result, Ok, Err}
 use Rattle.packet_header.specs.Header.{AreBytes, Spells}
 use Rattle.packet_header.specs.declared.packet.ControlHeader.{ControlHeader}
 use Rattle.packet_header.specs.declared.packet.Packet.TheVariants.{Control as ControlPacket}
 use Rattle.rpc_base.specs.declared.fact.Fact.{Fact}
 use Rattle.rpc_laws.specs.declared.rows.ControlRow.{ControlRow}
-use Rattle.rpc_laws.specs.declared.tables.Lists.{Lists}
 use Rattle.rpc_laws.specs.declared.tables.Timed.{Timed}
 use Rattle.rpc_laws.specs.ControlSteps.{control_fact}
 use Rattle.rpc_laws.specs.ControlTable.{control_facts, control_reply, control_row}
-use Rattle.rpc_laws.specs.Groups.{has_no_room, servers_spent}
 use Rattle.rpc_laws.specs.Steps.{Goes}
 use Rattle.rpc_outside.specs.Linking.{Carried}
 use Rattle.rpc_outside.specs.Recording.{Grew, Log}
 use Rattle.endpoint_loop.specs.Noting.{sent_of}
 
--- whether there are a number and room for a server session of so many credits
-abbrev pub takes_server : (credits : ℕ) → Lists → Bool
-takes_server credits s = not (has_no_room credits s || servers_spent s)
+-- what a row says of a control packet of this peer is done
+pub record Acts (row : ControlRow) (peer : ℕ) (h : ControlHeader) (s : Timed) (x : List Fact)
+    (t : Timed) : Type 0 where
+  pub facts : x ≡ control_facts s.lists peer h row
+  pub goes : Goes s x t
 
 -- a control packet of this peer is handled by this row: its facts, and the packet that answers it
 pub record ControlsBy (row : ControlRow) (peer : ℕ) (h : ControlHeader)

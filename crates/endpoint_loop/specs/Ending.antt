@@ -1,5 +1,5 @@
 -- What the end of a server session notes at a node.
-use Rattle.std.specs.Prelude.{ℕ, zero, suc, ◌++◌, Option, Some, None, List, [], ◌∷◌, slice_get}
+use Rattle.std.specs.Prelude.{◌≡◌, ℕ, zero, suc, ◌++◌, Option, Some, None, List, [], ◌∷◌, slice_get}
 use Rattle.rpc_base.specs.declared.event.Event.TheVariants.{Ended}
 use Rattle.rpc_base.specs.declared.fact.Fact.{Fact}
 use Rattle.rpc_laws.specs.declared.tables.Server.{Server}
@@ -7,6 +7,16 @@ use Rattle.rpc_laws.specs.declared.tables.Timed.{Timed}
 use Rattle.rpc_laws.specs.ControlTable.{session_end}
 use Rattle.rpc_laws.specs.Facts.{plain}
 use Rattle.rpc_laws.specs.ServerTable.{flushes_older}
+use Rattle.endpoint_loop.specs.Handing.{Holding}
+
+-- what stays where queued replies are taken out
+pub record LeavesSessions (old new : Holding) : Type 0 where
+  pub clients : new.lists.clients ≡ old.lists.clients
+  pub servers : new.lists.servers ≡ old.lists.servers
+  pub inbox : new.lists.inbox ≡ old.lists.inbox
+  pub me : new.lists.me ≡ old.lists.me
+  pub jobs : new.lists.jobs ≡ old.lists.jobs
+  pub handed : new.handed ≡ old.handed
 
 -- the queued replies to the newest request of a slot of the server session at place i are taken out
 abbrev pub flushing_slot : (i slot : ℕ) → Timed → List Fact

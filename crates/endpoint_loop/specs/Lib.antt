@@ -12,6 +12,7 @@ pub mod Handing
 pub mod Handling
 pub mod Hearing
 pub mod Inbox
+pub mod Leaving
 pub mod Lending
 pub mod Listening
 pub mod Loans

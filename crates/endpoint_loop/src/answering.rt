@@ -1,36 +1,47 @@
-//! What each kind of control packet does at a node.
-ghost use Rattle.std.specs.Prelude.{◌≡◌, ◌<◌, length, slice_get, IfSome, None, Some};
+//! What a connect or disconnect request does at a node, and what the node has of its server
+//! sessions.
+ghost use Rattle.std.specs.Prelude.{◌≡◌, ◌<◌, ◌≤◌, length, option_map, slice_get, true, IfOk};
+ghost use Rattle.std.specs.Prelude.{Bool, IfSome, None, OnErr, OnOk, Some, is_some};
+ghost use Rattle.std.specs.List.{find};
+ghost use Rattle.endpoint_loop.specs.Controlling.{Acts, Controls};
 ghost use Rattle.endpoint_loop.specs.Handing.{timed_of};
-ghost use Rattle.endpoint_loop.specs.Controlling.{Controls};
+ghost use Rattle.endpoint_loop.specs.Leaving.{LeavesPackets};
 ghost use Rattle.endpoint_loop.specs.Noting.{Makes};
 ghost use Rattle.packet_header.specs.Header.{ControlInRange};
-ghost use Rattle.packet_header.specs.declared.packet.ControlKind.TheVariants.{ConnectReply};
-ghost use Rattle.packet_header.specs.declared.packet.ControlKind.TheVariants.{DisconnectReply};
-ghost use Rattle.packet_header.specs.declared.packet.ControlKind.TheVariants.{DisconnectRequest};
-ghost use Rattle.rpc_laws.specs.ControlTable.{disconnect_as, named_end};
+ghost use Rattle.rpc_base.specs.declared.event.Event.TheVariants.{Accepted};
+ghost use Rattle.rpc_laws.specs.declared.rows.ControlRow.TheVariants.{Accepts, Declines, Ends};
+ghost use Rattle.rpc_laws.specs.declared.rows.ControlRow.TheVariants.{Starves};
+ghost use Rattle.rpc_laws.specs.ControlTable.{control_reply, control_row, is_end_of, named_end};
+ghost use Rattle.rpc_laws.specs.Groups.{server_refusal};
+ghost use Rattle.rpc_laws.specs.Steps.{NotesNext};
+ghost use Rattle.session_mgmt.specs.Control.{other_end, starved_if};
 
 use crate::node::Node;
-use packet_header::{ACCEPTED, ControlHeader, ControlKind, GONE};
-use rpc_base::{Peer, SessionNo};
+use packet_header::ControlHeader;
+use rpc_base::{Event, MOST_CREDITS, NoMemory, Peer, SESSION_NUMBERS, SessionNo, Who};
+use rpc_laws::ControlRow;
 use rpc_outside::Recorder;
-
-// A disconnect reply, which names the same sessions.
-fn disconnect_reply(head: &ControlHeader, status: u8) -> ControlHeader
-    ensures { result ≡ disconnect_as DisconnectReply head.now status }
-{
-    ControlHeader {
-        kind: ControlKind::DisconnectReply,
-        client: head.client,
-        server: head.server,
-        credits: 0,
-        status,
-    }
-}
+use session_mgmt::OtherEnd;
 
 impl Node {
+    // The first server session that is the other end of a peer's client session.
+    pub(crate) fn other_end(&self, peer: Peer, client: SessionNo) -> Option<OtherEnd>
+        ensures { result ≡ option_map other_end
+            (find (is_end_of peer client) self.now.lists.servers) }
+    {
+        let Some(i) = self.store.place_of_end(peer, client) else {
+            return None;
+        };
+        let end = self.store.end_of_server(i);
+        Some(OtherEnd {
+            number: end.session,
+            credits: end.credits,
+        })
+    }
+
     // Where the server session of a number stands, if that is the other end of a peer's client
     // session.
-    fn place_of_named(&self, peer: Peer, client: SessionNo, server: SessionNo) -> Option<usize>
+    fn place_of(&self, peer: Peer, client: SessionNo, server: SessionNo) -> Option<usize>
         ensures found { IfSome result (λ i. (i < length self.now.lists.servers)
             × (named_end peer client (Some server) self.now.lists.servers
             ≡ slice_get self.now.lists.servers i)) }
@@ -48,127 +59,119 @@ impl Node {
         Some(i)
     }
 
-    // The session that a disconnect request names ends, where it is there.
-    fn end_named<R: Recorder>(
+    // Where the server session stands that a packet names, if that is the other end of the peer's.
+    pub(crate) fn place_of_named(&self, peer: Peer, head: &ControlHeader) -> Option<usize>
+        ensures found { IfSome result (λ i. (i < length self.now.lists.servers)
+            × (named_end peer head.now.client head.now.server self.now.lists.servers
+            ≡ slice_get self.now.lists.servers i)) }
+        ensures missing { result ≡ None →
+            named_end peer head.now.client head.now.server self.now.lists.servers ≡ None }
+    {
+        match head.server {
+            Some(server) => self.place_of(peer, head.client, server),
+            None => None,
+        }
+    }
+
+    // There is no room for the session that a peer asks for.
+    pub(crate) fn decline<R: Recorder>(&self, peer: Peer, head: &ControlHeader, rec: &mut R)
+        ensures { Makes R.log (Acts Declines peer head.now) (timed_of self.now)
+            (timed_of self.now) rec.old rec.new }
+    {
+        let (client, credits) = (head.client, head.credits);
+        let event = Event::Declined {
+            peer,
+            client,
+            credits,
+        };
+        rec.note(Who::Node(self.me), event, &[], &[]);
+    }
+
+    // There is no memory for the session that a peer asks for.
+    fn starve<R: Recorder>(&self, peer: Peer, head: &ControlHeader, rec: &mut R)
+        ensures { Makes R.log (Acts Starves peer head.now) (timed_of self.now)
+            (timed_of self.now) rec.old rec.new }
+    {
+        let (client, credits) = (head.client, head.credits);
+        let event = Event::Starved {
+            peer,
+            client,
+            credits,
+        };
+        rec.note(Who::Node(self.me), event, &[], &[]);
+    }
+
+    // Makes the server end of a peer's session, with the next number, as its connect request asks.
+    // `NoMemory` comes where there is no memory for it, and then nothing changed.
+    fn add_accepted<R: Recorder>(
+        &mut self,
+        peer: Peer,
+        client: SessionNo,
+        credits: u16,
+        rec: &mut R,
+    ) -> Result<SessionNo, NoMemory>
+        requires fits { server_refusal credits self.old.lists ≡ None }
+        requires client { client < SESSION_NUMBERS }
+        requires some { 1 ≤ credits }
+        requires most { credits ≤ MOST_CREDITS }
+        ensures number { IfOk result (λ t. t ≡ self.old.lists.server_numbers) }
+        ensures makes { OnOk result (Makes R.log (NotesNext (λ s. Some (Accepted
+            s.server_numbers peer client credits))) (timed_of self.old) (timed_of self.new) rec.old
+            rec.new) }
+        ensures rest { LeavesPackets self.old self.new }
+        ensures unchanged { OnErr result ((self.new ≡ self.old) × (rec.new ≡ rec.old)) }
+    {
+        let session = SessionNo(self.server_numbers as u16);
+        self.store.pair_server(session, client, peer, credits)?;
+        self.server_numbers += 1;
+        let event = Event::Accepted {
+            session,
+            peer,
+            client,
+            credits,
+        };
+        rec.note(Who::Node(self.me), event, &[], &[]);
+        Ok(session)
+    }
+
+    // The session that a connect request asks for is made, for which there are a number and room.
+    // The result is what was done: `Starves` where there is no memory for it.
+    pub(crate) fn accept_session<R: Recorder>(
         &mut self,
         peer: Peer,
         head: &ControlHeader,
-        server: SessionNo,
         rec: &mut R,
-    ) -> Option<ControlHeader>
-        requires kind { head.now.kind ≡ DisconnectRequest }
-        requires named { head.now.server ≡ Some server }
-        ensures controls { Makes R.log (Controls peer head.now result) (timed_of self.old)
-            (timed_of self.new) rec.old rec.new }
-        ensures inbox { self.new.lists.inbox ≡ self.old.lists.inbox }
-        ensures jobs { self.new.lists.jobs ≡ self.old.lists.jobs }
-        ensures handed { self.new.handed ≡ self.old.handed }
+    ) -> ControlRow
+        requires row { (lacks : Bool) → control_row lacks peer head.now self.old.lists
+            ≡ starved_if lacks (Accepts self.old.lists.server_numbers) }
+        requires fits { server_refusal head.now.credits self.old.lists ≡ None }
+        requires in_range { ControlInRange head.now }
+        requires some { 1 ≤ head.now.credits }
+        requires most { head.now.credits ≤ MOST_CREDITS }
+        ensures controls { Makes R.log (Controls peer head.now (control_reply head.now result))
+            (timed_of self.old) (timed_of self.new) rec.old rec.new }
+        ensures rest { LeavesPackets self.old self.new }
     {
-        let Some(i) = self.place_of_named(peer, head.client, server) else {
-            return Some(disconnect_reply(head, GONE));
+        match self.add_accepted(peer, head.client, head.credits, rec) {
+            Ok(server) => ControlRow::Accepts { server },
+            Err(_) => {
+                self.starve(peer, head, rec);
+                ControlRow::Starves
+            }
+        }
+    }
+
+    // The session that a disconnect request names ends, which is there.
+    pub(crate) fn end_named<R: Recorder>(&mut self, peer: Peer, head: &ControlHeader, rec: &mut R)
+        requires named { is_some (named_end peer head.now.client head.now.server
+            self.old.lists.servers) ≡ true }
+        ensures acts { Makes R.log (Acts Ends peer head.now) (timed_of self.old)
+            (timed_of self.new) rec.old rec.new }
+        ensures rest { LeavesPackets self.old self.new }
+    {
+        let Some(i) = self.place_of_named(peer, head) else {
+            unreachable!()
         };
         self.end_session(i, rec);
-        Some(disconnect_reply(head, ACCEPTED))
-    }
-
-    // A disconnect request: the session that it names ends.
-    fn on_disconnect_request<R: Recorder>(
-        &mut self,
-        peer: Peer,
-        head: &ControlHeader,
-        rec: &mut R,
-    ) -> Option<ControlHeader>
-        requires kind { head.now.kind ≡ DisconnectRequest }
-        ensures controls { Makes R.log (Controls peer head.now result) (timed_of self.old)
-            (timed_of self.new) rec.old rec.new }
-        ensures inbox { self.new.lists.inbox ≡ self.old.lists.inbox }
-        ensures jobs { self.new.lists.jobs ≡ self.old.lists.jobs }
-        ensures handed { self.new.handed ≡ self.old.handed }
-    {
-        match head.server {
-            None => Some(disconnect_reply(head, GONE)),
-            Some(server) => self.end_named(peer, head, server, rec),
-        }
-    }
-
-    // A connect reply: it connects a session that is Connecting, or tells it that there is no room.
-    // A server session that the client doesn't know is disowned.
-    fn on_connect_reply<R: Recorder>(
-        &mut self,
-        peer: Peer,
-        head: &ControlHeader,
-        rec: &mut R,
-    ) -> Option<ControlHeader>
-        requires kind { head.now.kind ≡ ConnectReply }
-        requires in_range { ControlInRange head.now }
-        ensures controls { Makes R.log (Controls peer head.now result) (timed_of self.old)
-            (timed_of self.new) rec.old rec.new }
-        ensures inbox { self.new.lists.inbox ≡ self.old.lists.inbox }
-        ensures jobs { self.new.lists.jobs ≡ self.old.lists.jobs }
-        ensures handed { self.new.handed ≡ self.old.handed }
-    {
-        let i = usize::from(head.client.0);
-        if self.store.clients() <= i {
-            return None;
-        }
-        let end = self.store.end_of_client(i);
-        if end.peer.0 != peer.0 {
-            return None;
-        }
-        match head.server {
-            None => self.refuse_session(i, head, &end, rec),
-            Some(server) => self.join_session(i, head, &end, server, rec),
-        }
-    }
-
-    // A disconnect reply: it closes a session that is Closing.
-    fn on_disconnect_reply<R: Recorder>(
-        &mut self,
-        peer: Peer,
-        head: &ControlHeader,
-        rec: &mut R,
-    ) -> Option<ControlHeader>
-        requires kind { head.now.kind ≡ DisconnectReply }
-        ensures controls { Makes R.log (Controls peer head.now result) (timed_of self.old)
-            (timed_of self.new) rec.old rec.new }
-        ensures inbox { self.new.lists.inbox ≡ self.old.lists.inbox }
-        ensures jobs { self.new.lists.jobs ≡ self.old.lists.jobs }
-        ensures handed { self.new.handed ≡ self.old.handed }
-    {
-        let i = usize::from(head.client.0);
-        if self.store.clients() <= i {
-            return None;
-        }
-        let end = self.store.end_of_client(i);
-        if end.peer.0 != peer.0 {
-            return None;
-        }
-        match head.server {
-            None => None,
-            Some(server) => self.finish_session(i, head, &end, server, rec),
-        }
-    }
-
-    // A control packet of a peer is handled. The result is the packet that answers it, where there
-    // is one.
-    pub(crate) fn on_control<R: Recorder>(
-        &mut self,
-        peer: Peer,
-        head: &ControlHeader,
-        rec: &mut R,
-    ) -> Option<ControlHeader>
-        requires in_range { ControlInRange head.now }
-        ensures controls { Makes R.log (Controls peer head.now result) (timed_of self.old)
-            (timed_of self.new) rec.old rec.new }
-        ensures inbox { self.new.lists.inbox ≡ self.old.lists.inbox }
-        ensures jobs { self.new.lists.jobs ≡ self.old.lists.jobs }
-        ensures handed { self.new.handed ≡ self.old.handed }
-    {
-        match head.kind {
-            ControlKind::ConnectRequest => self.on_connect_request(peer, head, rec),
-            ControlKind::ConnectReply => self.on_connect_reply(peer, head, rec),
-            ControlKind::DisconnectRequest => self.on_disconnect_request(peer, head, rec),
-            ControlKind::DisconnectReply => self.on_disconnect_reply(peer, head, rec),
-        }
     }
 }

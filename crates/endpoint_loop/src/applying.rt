@@ -14,7 +14,7 @@ ghost use Rattle.endpoint_loop.specs.Rating.{RatedAs};
 ghost use Rattle.rpc_laws.specs.Groups.{Asks, SetsRate, client_refusal, server_refusal, state_of};
 ghost use Rattle.rpc_laws.specs.Sessions.{is_client};
 ghost use Rattle.endpoint_loop.specs.Standing.{GoesOn};
-ghost use Rattle.session_mgmt.specs.Table.{refused};
+ghost use Rattle.session_mgmt.specs.Refusals.{refused};
 
 use crate::asking::Refused;
 use crate::delivering::Delivery;

@@ -31,7 +31,7 @@ impl Node {
         requires known { i < length self.now.lists.clients }
         ensures { IfSome (slice_get self.now.lists.clients i) (λ x. result ≡ is_visited x) }
     {
-        self.store.pending(i) != 0 || self.store.own_request(i).is_some()
+        self.store.pending(i) != 0 || self.own_request(i).is_some()
     }
 
     // Session `i` isn't visited any more, where it has neither a call nor a request of its own,

@@ -1,5 +1,6 @@
 //! The end of a poll.
 ghost use Rattle.endpoint_loop.specs.Handing.{timed_of};
+ghost use Rattle.endpoint_loop.specs.Leaving.{LeavesServing};
 ghost use Rattle.std.specs.Prelude.{◌≡◌};
 ghost use Rattle.endpoint_loop.specs.Noting.{Makes};
 ghost use Rattle.rpc_laws.specs.PollOrder.{Closes};
@@ -13,9 +14,7 @@ impl Node {
     pub fn close<R: Recorder>(&mut self, rec: &mut R)
         ensures makes { Makes R.log Closes (timed_of self.old) (timed_of self.new) rec.old
             rec.new }
-        ensures jobs { self.new.lists.jobs ≡ self.old.lists.jobs }
-        ensures servers { self.new.lists.servers ≡ self.old.lists.servers }
-        ensures handed { self.new.handed ≡ self.old.handed }
+        ensures rest { LeavesServing self.old self.new }
     {
         let event = Event::Polled { now: self.clock };
         rec.note(Who::Node(self.me), event, &[], &[]);

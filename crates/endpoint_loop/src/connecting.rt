@@ -5,6 +5,7 @@ ghost use Rattle.std.specs.Prelude.{IfOk, OnErr, OnOk};
 ghost use Rattle.std.specs.List.{find};
 ghost use Rattle.endpoint_loop.specs.Applying.{IfNoMemory, Leaves, StartsRate, UnlessNoMemory};
 ghost use Rattle.endpoint_loop.specs.Handing.{timed_of};
+ghost use Rattle.endpoint_loop.specs.Leaving.{LeavesServing};
 ghost use Rattle.endpoint_loop.specs.Noting.{Makes};
 ghost use Rattle.endpoint_loop.specs.Standing.{GoesOn};
 ghost use Rattle.rpc_base.specs.declared.event.Event.TheVariants.{Closing, Opened};
@@ -13,7 +14,7 @@ ghost use Rattle.rpc_laws.specs.Groups.{pending as pending_of, state_of};
 ghost use Rattle.rpc_laws.specs.Sessions.{is_client, is_connected as is_connected_in, is_live};
 ghost use Rattle.rpc_laws.specs.Sessions.{opened_end};
 ghost use Rattle.rpc_laws.specs.Steps.{NotesNext};
-ghost use Rattle.session_mgmt.specs.Table.{closing, refused};
+ghost use Rattle.session_mgmt.specs.Refusals.{closing, refused};
 
 use crate::endpoint::Endpoint;
 use crate::node::Node;
@@ -88,9 +89,7 @@ impl Node {
             self.old.lists.clients)) ≡ true }
         ensures makes { Makes R.log (StartsRate session rate) (timed_of self.old)
             (timed_of self.new) rec.old rec.new }
-        ensures jobs { self.new.lists.jobs ≡ self.old.lists.jobs }
-        ensures servers { self.new.lists.servers ≡ self.old.lists.servers }
-        ensures handed { self.new.handed ≡ self.old.handed }
+        ensures rest { LeavesServing self.old self.new }
     {
         if rate == 0 {
             return;
@@ -148,9 +147,7 @@ impl Node {
         requires idle { pending_of (find (is_client session) self.old.lists.clients) ≡ 0 }
         ensures makes { Makes R.log (NotesNext (λ s. Some (Closing session)))
             (timed_of self.old) (timed_of self.new) rec.old rec.new }
-        ensures jobs { self.new.lists.jobs ≡ self.old.lists.jobs }
-        ensures servers { self.new.lists.servers ≡ self.old.lists.servers }
-        ensures handed { self.new.handed ≡ self.old.handed }
+        ensures rest { LeavesServing self.old self.new }
     {
         self.store.closing(usize::from(session.0));
         self.callers.enter(session.0);
@@ -174,9 +171,7 @@ impl Node {
         ensures refused { IfErr result (λ why. closing session why ≡ disconnect_by
             (state_of (find (is_client session) self.old.lists.clients)) session
             (pending_of (find (is_client session) self.old.lists.clients))) }
-        ensures jobs { self.new.lists.jobs ≡ self.old.lists.jobs }
-        ensures servers { self.new.lists.servers ≡ self.old.lists.servers }
-        ensures handed { self.new.handed ≡ self.old.handed }
+        ensures rest { LeavesServing self.old self.new }
         ensures unchanged { OnErr result (self.new ≡ self.old) }
     {
         let state = self.state(session);

@@ -1,127 +1,99 @@
-//! What a control packet does at a node: the control table. A packet that answers it is given out.
-ghost use Rattle.std.specs.Prelude.{◌≡◌, ◌<◌, ◌≤◌, IfOk, OnErr, OnOk, None, Some};
+//! What a control packet does at a node: its row of the control rule is found and done.
+ghost use Rattle.std.specs.Prelude.{◌≡◌, Bool, false};
+ghost use Rattle.endpoint_loop.specs.Controlling.{Controls};
 ghost use Rattle.endpoint_loop.specs.Handing.{timed_of};
-ghost use Rattle.endpoint_loop.specs.Controlling.{Controls, takes_server};
+ghost use Rattle.endpoint_loop.specs.Leaving.{LeavesPackets};
 ghost use Rattle.endpoint_loop.specs.Noting.{Makes};
 ghost use Rattle.packet_header.specs.Header.{ControlInRange};
-ghost use Rattle.packet_header.specs.declared.packet.ControlKind.TheVariants.{ConnectRequest};
-ghost use Rattle.rpc_base.specs.declared.event.Event.TheVariants.{Accepted};
-ghost use Rattle.rpc_laws.specs.Groups.{server_refusal};
-ghost use Rattle.rpc_laws.specs.ControlTable.{connect_reply};
-ghost use Rattle.rpc_laws.specs.Steps.{NotesNext};
+ghost use Rattle.rpc_laws.specs.ControlTable.{control_reply, control_row};
+ghost use Rattle.session_mgmt.specs.Control.{HasCause, found_in, starved_if};
 
 use crate::node::Node;
-use packet_header::{ACCEPTED, ControlHeader, ControlKind, NO_ROOM};
-use rpc_base::{Event, MOST_CREDITS, NoMemory, Peer, SESSION_NUMBERS, SessionNo, Who};
+use packet_header::ControlHeader;
+use rpc_base::Peer;
+use rpc_laws::ControlRow;
 use rpc_outside::Recorder;
-
-// A connect reply, which names the same client session.
-fn connect_reply(
-    head: &ControlHeader,
-    server: Option<SessionNo>,
-    credits: u16,
-    status: u8,
-) -> ControlHeader
-    ensures { result ≡ connect_reply head.now server credits status }
-{
-    ControlHeader {
-        kind: ControlKind::ConnectReply,
-        client: head.client,
-        server,
-        credits,
-        status,
-    }
-}
+use session_mgmt::{Found, control_reply, control_row};
 
 impl Node {
-    // Whether there are a number and room for a server session of so many credits.
-    fn takes_server(&self, credits: u16) -> bool
-        ensures { result ≡ takes_server credits self.now.lists }
+    // What the node has of the sessions that a control packet names.
+    fn found(&self, peer: Peer, head: &ControlHeader) -> Found
+        ensures { result ≡ found_in peer head.now self.now.lists }
     {
-        if u64::from(SESSION_NUMBERS) <= self.server_numbers {
-            return false;
+        Found {
+            end: self.other_end(peer, head.client),
+            is_named: self.place_of_named(peer, head).is_some(),
+            own: self.own_end(head.client),
+            numbers: self.server_numbers,
+            shares: self.shares(),
+            ring: self.rx.size(),
         }
-        let (shares, ring) = (self.shares(), self.rx.size());
-        u64::from(shares) + u64::from(credits) <= u64::from(ring)
     }
 
-    // Makes the server end of a peer's session, with the next number, as its connect request asks.
-    // `NoMemory` comes where there is no memory for it, and then nothing changed.
-    fn accept_session<R: Recorder>(
+    // What the row of a control packet says is done. The result is the row: `Starves` in place of
+    // `Accepts` where there is no memory for the session.
+    fn act<R: Recorder>(
         &mut self,
+        row: ControlRow,
         peer: Peer,
-        client: SessionNo,
-        credits: u16,
+        head: &ControlHeader,
         rec: &mut R,
-    ) -> Result<SessionNo, NoMemory>
-        requires fits { server_refusal credits self.old.lists ≡ None }
-        requires client { client < SESSION_NUMBERS }
-        requires some { 1 ≤ credits }
-        requires most { credits ≤ MOST_CREDITS }
-        ensures number { IfOk result (λ t. t ≡ self.old.lists.server_numbers) }
-        ensures makes { OnOk result (Makes R.log (NotesNext (λ s. Some (Accepted
-            s.server_numbers peer client credits))) (timed_of self.old) (timed_of self.new) rec.old
-            rec.new) }
-        ensures clients { self.new.lists.clients ≡ self.old.lists.clients }
-        ensures inbox { self.new.lists.inbox ≡ self.old.lists.inbox }
-        ensures jobs { self.new.lists.jobs ≡ self.old.lists.jobs }
-        ensures handed { self.new.handed ≡ self.old.handed }
-        ensures unchanged { OnErr result ((self.new ≡ self.old) × (rec.new ≡ rec.old)) }
+    ) -> ControlRow
+        requires row { (lacks : Bool) → control_row lacks peer head.now self.old.lists
+            ≡ starved_if lacks row }
+        requires cause { HasCause row head.now (found_in peer head.now self.old.lists) }
+        requires in_range { ControlInRange head.now }
+        ensures controls { Makes R.log (Controls peer head.now (control_reply head.now result))
+            (timed_of self.old) (timed_of self.new) rec.old rec.new }
+        ensures rest { LeavesPackets self.old self.new }
     {
-        let session = SessionNo(self.server_numbers as u16);
-        self.store.pair_server(session, client, peer, credits)?;
-        self.server_numbers += 1;
-        let event = Event::Accepted {
-            session,
-            peer,
-            client,
-            credits,
-        };
-        rec.note(Who::Node(self.me), event, &[], &[]);
-        Ok(session)
+        self.sound();
+        match row {
+            ControlRow::Ignores => row,
+            ControlRow::Confirms { .. } => row,
+            ControlRow::Declines => {
+                self.decline(peer, head, rec);
+                row
+            }
+            ControlRow::Starves => unreachable!(),
+            ControlRow::Accepts { .. } => self.accept_session(peer, head, rec),
+            ControlRow::Ends => {
+                self.end_named(peer, head, rec);
+                row
+            }
+            ControlRow::Misses => row,
+            ControlRow::Connects { server } => {
+                self.connect_session(head.client, server, rec);
+                row
+            }
+            ControlRow::Disowns => row,
+            ControlRow::Fails => {
+                self.fail_session(head.client, rec);
+                row
+            }
+            ControlRow::Closes => {
+                self.close_session(head.client, rec);
+                row
+            }
+        }
     }
 
-    // A connect request: the session is confirmed where it is there, and otherwise made where there
-    // is room.
-    pub(crate) fn on_connect_request<R: Recorder>(
+    // A control packet of a peer is handled. The result is the packet that answers it, where there
+    // is one.
+    pub(crate) fn on_control<R: Recorder>(
         &mut self,
         peer: Peer,
         head: &ControlHeader,
         rec: &mut R,
     ) -> Option<ControlHeader>
-        requires kind { head.now.kind ≡ ConnectRequest }
         requires in_range { ControlInRange head.now }
         ensures controls { Makes R.log (Controls peer head.now result) (timed_of self.old)
             (timed_of self.new) rec.old rec.new }
-        ensures inbox { self.new.lists.inbox ≡ self.old.lists.inbox }
-        ensures jobs { self.new.lists.jobs ≡ self.old.lists.jobs }
-        ensures handed { self.new.handed ≡ self.old.handed }
+        ensures rest { LeavesPackets self.old self.new }
     {
-        if let Some(i) = self.store.place_of_end(peer, head.client) {
-            let end = self.store.end_of_server(i);
-            return Some(connect_reply(head, Some(end.session), end.credits, ACCEPTED));
-        }
-        let (client, credits) = (head.client, head.credits);
-        if !self.takes_server(credits) {
-            let event = Event::Declined {
-                peer,
-                client,
-                credits,
-            };
-            rec.note(Who::Node(self.me), event, &[], &[]);
-            return Some(connect_reply(head, None, credits, NO_ROOM));
-        }
-        match self.accept_session(peer, client, credits, rec) {
-            Ok(session) => Some(connect_reply(head, Some(session), credits, ACCEPTED)),
-            Err(_) => {
-                let event = Event::Starved {
-                    peer,
-                    client,
-                    credits,
-                };
-                rec.note(Who::Node(self.me), event, &[], &[]);
-                None
-            }
-        }
+        let found = self.found(peer, head);
+        let row = control_row(peer, head, &found);
+        let done = self.act(row, peer, head, rec);
+        control_reply(head, &done)
     }
 }

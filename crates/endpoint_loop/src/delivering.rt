@@ -1,5 +1,6 @@
 //! A datagram comes in.
 ghost use Rattle.endpoint_loop.specs.Handing.{timed_of};
+ghost use Rattle.endpoint_loop.specs.Leaving.{LeavesServing};
 ghost use Rattle.std.specs.Prelude.{◌≡◌, ◌≤◌, true, false, length};
 ghost use Rattle.endpoint_loop.specs.Delivering.{delivered_as, place_for};
 ghost use Rattle.endpoint_loop.specs.Noting.{Makes};
@@ -32,9 +33,7 @@ impl Node {
         requires full { delivery self.old.lists peer bytes.now ≡ Overflowed peer }
         ensures makes { Makes R.log (Delivers peer bytes.now) (timed_of self.old)
             (timed_of self.new) rec.old rec.new }
-        ensures jobs { self.new.lists.jobs ≡ self.old.lists.jobs }
-        ensures servers { self.new.lists.servers ≡ self.old.lists.servers }
-        ensures handed { self.new.handed ≡ self.old.handed }
+        ensures rest { LeavesServing self.old self.new }
     {
         self.counts.overflowed = self.counts.overflowed.saturating_add(1);
         rec.note(Who::Node(self.me), Event::Overflowed { peer }, bytes, &[]);
@@ -46,9 +45,7 @@ impl Node {
         requires long { length bytes.now ≤ MOST_DATAGRAM_BYTES }
         ensures makes { Makes R.log (Delivers peer bytes.now) (timed_of self.old)
             (timed_of self.new) rec.old rec.new }
-        ensures jobs { self.new.lists.jobs ≡ self.old.lists.jobs }
-        ensures servers { self.new.lists.servers ≡ self.old.lists.servers }
-        ensures handed { self.new.handed ≡ self.old.handed }
+        ensures rest { LeavesServing self.old self.new }
         ensures answered { result
             ≡ place_for (length self.old.lists.ring) self.old.lists.room Ring }
     {
@@ -68,9 +65,7 @@ impl Node {
         requires long { length bytes.now ≤ MOST_DATAGRAM_BYTES }
         ensures makes { Makes R.log (Delivers peer bytes.now) (timed_of self.old)
             (timed_of self.new) rec.old rec.new }
-        ensures jobs { self.new.lists.jobs ≡ self.old.lists.jobs }
-        ensures servers { self.new.lists.servers ≡ self.old.lists.servers }
-        ensures handed { self.new.handed ≡ self.old.handed }
+        ensures rest { LeavesServing self.old self.new }
         ensures answered { result ≡ place_for (length self.old.lists.inbox) inbox_room Inbox }
     {
         if !self.inbox.has_room() {
@@ -87,9 +82,7 @@ impl Node {
     pub fn deliver<R: Recorder>(&mut self, peer: Peer, bytes: &[u8], rec: &mut R) -> Delivery
         ensures makes { Makes R.log (Delivers peer bytes.now) (timed_of self.old)
             (timed_of self.new) rec.old rec.new }
-        ensures jobs { self.new.lists.jobs ≡ self.old.lists.jobs }
-        ensures servers { self.new.lists.servers ≡ self.old.lists.servers }
-        ensures handed { self.new.handed ≡ self.old.handed }
+        ensures rest { LeavesServing self.old self.new }
         ensures answered { result ≡ delivered_as self.old.lists bytes.now }
     {
         match decode(bytes) {

@@ -3,7 +3,9 @@
 ghost use Rattle.std.specs.Prelude.{◌≡◌, ◌<◌, false, length, slice_get, true, IfSome};
 ghost use Rattle.std.specs.List.{list_any};
 ghost use Rattle.endpoint_loop.specs.Handing.{timed_of};
-ghost use Rattle.endpoint_loop.specs.Ending.{ending, flushing_slot, flushing_slots, leaving};
+ghost use Rattle.endpoint_loop.specs.Ending.{LeavesSessions, ending, flushing_slot};
+ghost use Rattle.endpoint_loop.specs.Ending.{flushing_slots, leaving};
+ghost use Rattle.endpoint_loop.specs.Leaving.{LeavesPackets};
 ghost use Rattle.endpoint_loop.specs.Noting.{Makes};
 ghost use Rattle.endpoint_loop.specs.Watching.{FlushesSome, Notes, flushing};
 ghost use Rattle.rpc_laws.specs.Queues.{is_reply};
@@ -27,12 +29,7 @@ impl Node {
             list_any (is_owned owner.now) self.old.lists.queued ≡ false }
         ensures unchanged { result ≡ false → self.new ≡ self.old }
         ensures silent { result ≡ false → rec.new ≡ rec.old }
-        ensures clients { self.new.lists.clients ≡ self.old.lists.clients }
-        ensures servers { self.new.lists.servers ≡ self.old.lists.servers }
-        ensures inbox { self.new.lists.inbox ≡ self.old.lists.inbox }
-        ensures me { self.new.lists.me ≡ self.old.lists.me }
-        ensures jobs { self.new.lists.jobs ≡ self.old.lists.jobs }
-        ensures handed { self.new.handed ≡ self.old.handed }
+        ensures rest { LeavesSessions self.old self.new }
     {
         let Owner::Reply { session, request } = owner else {
             unreachable!()
@@ -54,12 +51,7 @@ impl Node {
         ensures makes { Makes R.log (Notes (flushing owner.now)) (timed_of self.old)
             (timed_of self.new) rec.old rec.new }
         ensures idle { list_any (is_owned owner.now) self.new.lists.queued ≡ false }
-        ensures clients { self.new.lists.clients ≡ self.old.lists.clients }
-        ensures servers { self.new.lists.servers ≡ self.old.lists.servers }
-        ensures inbox { self.new.lists.inbox ≡ self.old.lists.inbox }
-        ensures me { self.new.lists.me ≡ self.old.lists.me }
-        ensures jobs { self.new.lists.jobs ≡ self.old.lists.jobs }
-        ensures handed { self.new.handed ≡ self.old.handed }
+        ensures rest { LeavesSessions self.old self.new }
     {
         'packets: while self.flush_reply(owner, rec) {}
     }
@@ -71,12 +63,7 @@ impl Node {
         requires slot { slot < 8 }
         ensures makes { Makes R.log (Notes (flushing_slot i slot)) (timed_of self.old)
             (timed_of self.new) rec.old rec.new }
-        ensures clients { self.new.lists.clients ≡ self.old.lists.clients }
-        ensures servers { self.new.lists.servers ≡ self.old.lists.servers }
-        ensures inbox { self.new.lists.inbox ≡ self.old.lists.inbox }
-        ensures me { self.new.lists.me ≡ self.old.lists.me }
-        ensures jobs { self.new.lists.jobs ≡ self.old.lists.jobs }
-        ensures handed { self.new.handed ≡ self.old.handed }
+        ensures rest { LeavesSessions self.old self.new }
     {
         let Some(owner) = self.store.owner_in_slot(i, slot) else {
             return;
@@ -91,12 +78,7 @@ impl Node {
             (timed_of self.new) rec.old rec.new }
         ensures drained { IfSome (slice_get self.new.lists.servers i)
             (IsDrained self.new.lists.queued) }
-        ensures clients { self.new.lists.clients ≡ self.old.lists.clients }
-        ensures servers { self.new.lists.servers ≡ self.old.lists.servers }
-        ensures inbox { self.new.lists.inbox ≡ self.old.lists.inbox }
-        ensures me { self.new.lists.me ≡ self.old.lists.me }
-        ensures jobs { self.new.lists.jobs ≡ self.old.lists.jobs }
-        ensures handed { self.new.handed ≡ self.old.handed }
+        ensures rest { LeavesSessions self.old self.new }
     {
         self.sound();
         let mut slot = 0;
@@ -113,11 +95,7 @@ impl Node {
             (IsDrained self.old.lists.queued) }
         ensures makes { Makes R.log (Notes (leaving i)) (timed_of self.old)
             (timed_of self.new) rec.old rec.new }
-        ensures clients { self.new.lists.clients ≡ self.old.lists.clients }
-        ensures inbox { self.new.lists.inbox ≡ self.old.lists.inbox }
-        ensures me { self.new.lists.me ≡ self.old.lists.me }
-        ensures jobs { self.new.lists.jobs ≡ self.old.lists.jobs }
-        ensures handed { self.new.handed ≡ self.old.handed }
+        ensures rest { LeavesPackets self.old self.new }
     {
         let end = self.store.end_of_server(i);
         self.store.end_server(i);
@@ -132,11 +110,7 @@ impl Node {
         requires known { i < length self.old.lists.servers }
         ensures makes { Makes R.log (Notes (ending i)) (timed_of self.old)
             (timed_of self.new) rec.old rec.new }
-        ensures clients { self.new.lists.clients ≡ self.old.lists.clients }
-        ensures inbox { self.new.lists.inbox ≡ self.old.lists.inbox }
-        ensures me { self.new.lists.me ≡ self.old.lists.me }
-        ensures jobs { self.new.lists.jobs ≡ self.old.lists.jobs }
-        ensures handed { self.new.handed ≡ self.old.handed }
+        ensures rest { LeavesPackets self.old self.new }
     {
         self.flush_slots(i, rec);
         self.remove_session(i, rec);

@@ -1,5 +1,6 @@
 //! Step 3 of a poll, for replies: a CR or Response in front of the receive ring is handled.
 ghost use Rattle.endpoint_loop.specs.Handing.{timed_of};
+ghost use Rattle.endpoint_loop.specs.Leaving.{LeavesServing};
 ghost use Rattle.session_store.specs.Handing.{HandsBackIf};
 ghost use Rattle.std.specs.Prelude.{◌≡◌, ◌≢◌, ◌+◌, [], None, Some, IfSome, drop, length};
 ghost use Rattle.client_core.specs.Shown.{done_event, end_bytes};
@@ -51,10 +52,8 @@ impl Node {
         ensures drops { Makes R.log (Drops reason) (timed_of self.old) (timed_of self.new)
             rec.old rec.new }
         ensures ring { self.new.lists.ring ≡ drop 1 self.old.lists.ring }
-        ensures jobs { self.new.lists.jobs ≡ self.old.lists.jobs }
         ensures clients { self.new.lists.clients ≡ self.old.lists.clients }
-        ensures servers { self.new.lists.servers ≡ self.old.lists.servers }
-        ensures handed { self.new.handed ≡ self.old.handed }
+        ensures rest { LeavesServing self.old self.new }
     {
         let event = Event::Dropped { reason };
         rec.note(Who::Node(self.me), event, &[], &[]);

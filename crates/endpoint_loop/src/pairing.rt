@@ -11,7 +11,7 @@ ghost use Rattle.rpc_base.specs.declared.event.Event.TheVariants.{PairedClient, 
 ghost use Rattle.rpc_laws.specs.Groups.{client_refusal, refusal_by, server_refusal};
 ghost use Rattle.rpc_laws.specs.Steps.{NotesNext};
 ghost use Rattle.rpc_outside.specs.declared.service.Mode.{Mode};
-ghost use Rattle.session_mgmt.specs.Table.{refused};
+ghost use Rattle.session_mgmt.specs.Refusals.{refused};
 
 use crate::node::Node;
 use rpc_base::{Event, MOST_CREDITS, NoMemory, Peer, SESSION_NUMBERS, SessionNo, Who};

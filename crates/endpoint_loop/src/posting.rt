@@ -1,5 +1,6 @@
 //! What the client sessions begin and post.
 ghost use Rattle.endpoint_loop.specs.Handing.{timed_of};
+ghost use Rattle.endpoint_loop.specs.Leaving.{LeavesServing};
 ghost use Rattle.std.specs.Prelude.{◌≡◌, ◌<◌, ◌≤◌, length, option_map, true};
 ghost use Rattle.std.specs.List.{find};
 ghost use Rattle.rpc_base.specs.Tables.{at_first};
@@ -69,9 +70,7 @@ impl Node {
             (timed_of self.new) rec.old rec.new }
         ensures fewer { result ≡ true →
             free_at i self.new.lists.clients < free_at i self.old.lists.clients }
-        ensures jobs { self.new.lists.jobs ≡ self.old.lists.jobs }
-        ensures servers { self.new.lists.servers ≡ self.old.lists.servers }
-        ensures handed { self.new.handed ≡ self.old.handed }
+        ensures rest { LeavesServing self.old self.new }
     {
         if i >= self.store.clients() {
             return false;
@@ -97,9 +96,7 @@ impl Node {
             (timed_of self.new) rec.old rec.new }
         ensures fewer { result ≡ true →
             waiting_at i self.new.lists.clients < waiting_at i self.old.lists.clients }
-        ensures jobs { self.new.lists.jobs ≡ self.old.lists.jobs }
-        ensures servers { self.new.lists.servers ≡ self.old.lists.servers }
-        ensures handed { self.new.handed ≡ self.old.handed }
+        ensures rest { LeavesServing self.old self.new }
     {
         if i >= self.store.clients() {
             return false;
@@ -119,9 +116,7 @@ impl Node {
     fn post_all<R: Recorder>(&mut self, i: usize, rec: &mut R)
         ensures makes { Makes R.log (NotesAll (next_posted i)) (timed_of self.old)
             (timed_of self.new) rec.old rec.new }
-        ensures jobs { self.new.lists.jobs ≡ self.old.lists.jobs }
-        ensures servers { self.new.lists.servers ≡ self.old.lists.servers }
-        ensures handed { self.new.handed ≡ self.old.handed }
+        ensures rest { LeavesServing self.old self.new }
     {
         'packets: while self.post_next(i, rec) {}
     }
@@ -130,9 +125,7 @@ impl Node {
     fn begin_all<R: Recorder>(&mut self, i: usize, rec: &mut R)
         ensures makes { Makes R.log (NotesAll (next_begun i)) (timed_of self.old)
             (timed_of self.new) rec.old rec.new }
-        ensures jobs { self.new.lists.jobs ≡ self.old.lists.jobs }
-        ensures servers { self.new.lists.servers ≡ self.old.lists.servers }
-        ensures handed { self.new.handed ≡ self.old.handed }
+        ensures rest { LeavesServing self.old self.new }
     {
         'calls: while self.begin_next(i, rec) {}
     }
@@ -141,9 +134,7 @@ impl Node {
     fn serve_session<R: Recorder>(&mut self, i: usize, rec: &mut R)
         ensures makes { Makes R.log (Serves i) (timed_of self.old) (timed_of self.new)
             rec.old rec.new }
-        ensures jobs { self.new.lists.jobs ≡ self.old.lists.jobs }
-        ensures servers { self.new.lists.servers ≡ self.old.lists.servers }
-        ensures handed { self.new.handed ≡ self.old.handed }
+        ensures rest { LeavesServing self.old self.new }
     {
         self.begin_all(i, rec);
         self.post_all(i, rec);
@@ -155,9 +146,7 @@ impl Node {
     pub fn serve_sessions<R: Recorder>(&mut self, rec: &mut R)
         ensures makes { Makes R.log PostsAll (timed_of self.old) (timed_of self.new)
             rec.old rec.new }
-        ensures jobs { self.new.lists.jobs ≡ self.old.lists.jobs }
-        ensures servers { self.new.lists.servers ≡ self.old.lists.servers }
-        ensures handed { self.new.handed ≡ self.old.handed }
+        ensures rest { LeavesServing self.old self.new }
     {
         let count = self.store.clients();
         let mut from = 0;

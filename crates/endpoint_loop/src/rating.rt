@@ -1,5 +1,6 @@
 //! Client sessions get their rates.
 ghost use Rattle.endpoint_loop.specs.Handing.{timed_of};
+ghost use Rattle.endpoint_loop.specs.Leaving.{LeavesServing};
 ghost use Rattle.std.specs.Prelude.{◌≡◌, ◌<◌, false, length, true, MatchResult, OnErr};
 ghost use Rattle.std.specs.List.{find};
 ghost use Rattle.endpoint_loop.specs.Fits.{pace_no};
@@ -53,9 +54,7 @@ impl Node {
         ensures makes { Makes R.log (SetsRate session rate) (timed_of self.old)
             (timed_of self.new) rec.old rec.new }
         ensures rated { RatedAs (state_of (find (is_client session) self.old.lists.clients)) result }
-        ensures jobs { self.new.lists.jobs ≡ self.old.lists.jobs }
-        ensures servers { self.new.lists.servers ≡ self.old.lists.servers }
-        ensures handed { self.new.handed ≡ self.old.handed }
+        ensures rest { LeavesServing self.old self.new }
         ensures unchanged { OnErr result (self.new ≡ self.old) }
     {
         let state = self.state(session);

@@ -4,7 +4,7 @@ ghost use Rattle.std.specs.List.{find};
 ghost use Rattle.endpoint_loop.specs.Reading.{IsQuiet, free_told, pending_told};
 ghost use Rattle.rpc_laws.specs.Groups.{pair_refusal};
 ghost use Rattle.rpc_laws.specs.Sessions.{is_client};
-ghost use Rattle.session_mgmt.specs.Table.{refused};
+ghost use Rattle.session_mgmt.specs.Refusals.{refused};
 
 use crate::endpoint::Endpoint;
 use crate::node::Node;

@@ -1,11 +1,12 @@
 //! Client sessions send their own requests: to connect, and to disconnect.
 ghost use Rattle.std.specs.Prelude.{◌≡◌, ◌<◌, ◌≤◌, false, length, slice_get, IfSome, Some};
 ghost use Rattle.endpoint_loop.specs.Handing.{timed_of};
+ghost use Rattle.endpoint_loop.specs.Leaving.{LeavesServing};
 ghost use Rattle.endpoint_loop.specs.Noting.{Makes};
 ghost use Rattle.endpoint_loop.specs.Speaking.{GivesUpAt, MakesSpoken, SendsRequest};
 ghost use Rattle.rpc_base.specs.declared.event.Event.TheVariants.{ClosedUnheard, FailedNoAnswer};
 ghost use Rattle.rpc_base.specs.declared.state.SessionState.TheVariants.{Closing, Connecting};
-ghost use Rattle.rpc_laws.specs.ControlSteps.{Retries, own_request};
+ghost use Rattle.rpc_laws.specs.ControlSteps.{Retries, own_request, retry_row};
 ghost use Rattle.rpc_laws.specs.Steps.{NotesNext};
 ghost use Rattle.rpc_outside.specs.Linking.{NoneComes};
 ghost use Rattle.session_store.specs.Changes.{IsInState};
@@ -16,6 +17,7 @@ use packet_header::ControlHeader;
 use rpc_base::{Event, SessionNo, SessionState, Who};
 use rpc_laws::RetryRow;
 use rpc_outside::{Link, Recorder};
+use session_mgmt::{own_request, retry_row};
 
 /// What came of the requests of sessions.
 #[derive(Clone, Copy, Debug, PartialEq, Eq)]
@@ -33,10 +35,7 @@ impl Node {
         requires connecting { IsInState Connecting (slice_get self.old.lists.clients i) }
         ensures makes { Makes R.log (NotesNext (λ s. Some (FailedNoAnswer i)))
             (timed_of self.old) (timed_of self.new) rec.old rec.new }
-        ensures servers { self.new.lists.servers ≡ self.old.lists.servers }
-        ensures me { self.new.lists.me ≡ self.old.lists.me }
-        ensures jobs { self.new.lists.jobs ≡ self.old.lists.jobs }
-        ensures handed { self.new.handed ≡ self.old.handed }
+        ensures rest { LeavesServing self.old self.new }
     {
         self.store.failed(i);
         let session = SessionNo(i as u16);
@@ -50,10 +49,7 @@ impl Node {
         requires closing { IsInState Closing (slice_get self.old.lists.clients i) }
         ensures makes { Makes R.log (NotesNext (λ s. Some (ClosedUnheard i)))
             (timed_of self.old) (timed_of self.new) rec.old rec.new }
-        ensures servers { self.new.lists.servers ≡ self.old.lists.servers }
-        ensures me { self.new.lists.me ≡ self.old.lists.me }
-        ensures jobs { self.new.lists.jobs ≡ self.old.lists.jobs }
-        ensures handed { self.new.handed ≡ self.old.handed }
+        ensures rest { LeavesServing self.old self.new }
     {
         self.store.closed(i);
         let session = SessionNo(i as u16);
@@ -66,10 +62,7 @@ impl Node {
         requires known { i < length self.old.lists.clients }
         ensures makes { Makes R.log (GivesUpAt i) (timed_of self.old) (timed_of self.new) rec.old
             rec.new }
-        ensures servers { self.new.lists.servers ≡ self.old.lists.servers }
-        ensures me { self.new.lists.me ≡ self.old.lists.me }
-        ensures jobs { self.new.lists.jobs ≡ self.old.lists.jobs }
-        ensures handed { self.new.handed ≡ self.old.handed }
+        ensures rest { LeavesServing self.old self.new }
     {
         match self.store.state(i) {
             SessionState::Connecting => self.fail_unanswered(i, rec),
@@ -92,12 +85,9 @@ impl Node {
         requires few { IfSome (slice_get self.old.lists.clients i) (λ x. x.sends < 9) }
         ensures spoken { MakesSpoken R.log L.Link (SendsRequest i head.now) result
             (timed_of self.old) (timed_of self.new) rec.old rec.new link.old link.new }
-        ensures servers { self.new.lists.servers ≡ self.old.lists.servers }
-        ensures me { self.new.lists.me ≡ self.old.lists.me }
-        ensures jobs { self.new.lists.jobs ≡ self.old.lists.jobs }
+        ensures rest { LeavesServing self.old self.new }
         ensures lists { NoneComes L.waiting L.received link.old link.new }
         ensures few { result.sent ≤ 1 }
-        ensures handed { self.new.handed ≡ self.old.handed }
     {
         let end = self.store.end_of_client(i);
         match speak(self.me, end.peer, head, link, rec) {
@@ -121,6 +111,26 @@ impl Node {
         }
     }
 
+    // The own request of session `i`, where it has one.
+    pub(crate) fn own_request(&self, i: usize) -> Option<ControlHeader>
+        requires known { i < length self.now.lists.clients }
+        ensures { IfSome (slice_get self.now.lists.clients i) (λ x. result ≡ own_request x) }
+    {
+        let end = self.store.end_of_client(i);
+        let session = SessionNo(i as u16);
+        own_request(self.store.state(i), session, end.server, end.credits)
+    }
+
+    // What session `i` does about it, with this timeout, in microseconds.
+    fn retry_row(&self, timeout: u64, i: usize) -> RetryRow
+        requires known { i < length self.now.lists.clients }
+        ensures { IfSome (slice_get self.now.lists.clients i)
+            (λ x. result ≡ retry_row self.now.clock timeout x.sends x.sent_at) }
+    {
+        let sent = self.store.own_requests(i);
+        retry_row(self.clock, timeout, sent.sends, sent.sent_at)
+    }
+
     // Looks at the own request of session `i`: it is sent in the first poll, and again each time
     // that a timeout, in microseconds, has passed; after the ninth time the session gives up.
     pub(crate) fn retry<L: Link, R: Recorder>(
@@ -133,20 +143,17 @@ impl Node {
         requires known { i < length self.old.lists.clients }
         ensures spoken { MakesSpoken R.log L.Link (Retries timeout i) result
             (timed_of self.old) (timed_of self.new) rec.old rec.new link.old link.new }
-        ensures servers { self.new.lists.servers ≡ self.old.lists.servers }
-        ensures me { self.new.lists.me ≡ self.old.lists.me }
-        ensures jobs { self.new.lists.jobs ≡ self.old.lists.jobs }
+        ensures rest { LeavesServing self.old self.new }
         ensures lists { NoneComes L.waiting L.received link.old link.new }
         ensures few { result.sent ≤ 1 }
-        ensures handed { self.new.handed ≡ self.old.handed }
     {
-        let Some(head) = self.store.own_request(i) else {
+        let Some(head) = self.own_request(i) else {
             return Asking {
                 sent: 0,
                 failed: false,
             };
         };
-        match self.store.retry_row(i, self.clock, timeout) {
+        match self.retry_row(timeout, i) {
             RetryRow::Rests => Asking {
                 sent: 0,
                 failed: false,

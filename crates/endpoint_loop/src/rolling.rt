@@ -1,6 +1,7 @@
 //! A call is rolled back, and a session breaks: queued packets are taken out, the session changes,
 //! and what happened is noted.
 ghost use Rattle.endpoint_loop.specs.Handing.{GivesBackTo, timed_of};
+ghost use Rattle.endpoint_loop.specs.Leaving.{LeavesServing, LeavesTimed};
 ghost use Rattle.std.specs.Prelude.{◌≡◌, ◌<◌, [], true, false, length, slice_get};
 ghost use Rattle.std.specs.List.{list_any};
 ghost use Rattle.endpoint_loop.specs.Noting.{Makes, MakesEnds};
@@ -94,10 +95,7 @@ impl Node {
         ensures unchanged { result ≡ false → self.new ≡ self.old }
         ensures silent { result ≡ false → rec.new ≡ rec.old }
         ensures clients { self.new.lists.clients ≡ self.old.lists.clients }
-        ensures servers { self.new.lists.servers ≡ self.old.lists.servers }
-        ensures me { self.new.lists.me ≡ self.old.lists.me }
-        ensures jobs { self.new.lists.jobs ≡ self.old.lists.jobs }
-        ensures handed { self.new.handed ≡ self.old.handed }
+        ensures rest { LeavesServing self.old self.new }
     {
         let Some(entry) = self.store.flush(i, request) else {
             return false;
@@ -117,10 +115,7 @@ impl Node {
             (timed_of self.new) rec.old rec.new }
         ensures idle { list_any (is_owned (Ask i request)) self.new.lists.queued ≡ false }
         ensures clients { self.new.lists.clients ≡ self.old.lists.clients }
-        ensures servers { self.new.lists.servers ≡ self.old.lists.servers }
-        ensures me { self.new.lists.me ≡ self.old.lists.me }
-        ensures jobs { self.new.lists.jobs ≡ self.old.lists.jobs }
-        ensures handed { self.new.handed ≡ self.old.handed }
+        ensures rest { LeavesServing self.old self.new }
     {
         'packets: while self.flush_next(i, request, rec) {}
     }
@@ -134,10 +129,7 @@ impl Node {
             ≡ false }
         ensures makes { Makes R.log (Notes (rolling active.now)) (timed_of self.old)
             (timed_of self.new) rec.old rec.new }
-        ensures servers { self.new.lists.servers ≡ self.old.lists.servers }
-        ensures me { self.new.lists.me ≡ self.old.lists.me }
-        ensures jobs { self.new.lists.jobs ≡ self.old.lists.jobs }
-        ensures handed { self.new.handed ≡ self.old.handed }
+        ensures rest { LeavesServing self.old self.new }
     {
         self.store.roll(i, active.call);
         let event = Event::Rolled {
@@ -156,10 +148,7 @@ impl Node {
         requires few { HasFewRolls i active.now.call self.old.lists.clients }
         ensures makes { Makes R.log (Notes (rolling_back i active.now))
             (timed_of self.old) (timed_of self.new) rec.old rec.new }
-        ensures servers { self.new.lists.servers ≡ self.old.lists.servers }
-        ensures me { self.new.lists.me ≡ self.old.lists.me }
-        ensures jobs { self.new.lists.jobs ≡ self.old.lists.jobs }
-        ensures handed { self.new.handed ≡ self.old.handed }
+        ensures rest { LeavesServing self.old self.new }
     {
         self.flush_call(i, active.request, rec);
         self.roll_idle(i, active, rec);
@@ -172,10 +161,7 @@ impl Node {
             (timed_of self.new) rec.old rec.new }
         ensures idle { IsIdle i self.new.lists.queued }
         ensures clients { self.new.lists.clients ≡ self.old.lists.clients }
-        ensures servers { self.new.lists.servers ≡ self.old.lists.servers }
-        ensures me { self.new.lists.me ≡ self.old.lists.me }
-        ensures jobs { self.new.lists.jobs ≡ self.old.lists.jobs }
-        ensures handed { self.new.handed ≡ self.old.handed }
+        ensures rest { LeavesServing self.old self.new }
     {
         let mut after = None;
         'calls: while let Some(active) = self.store.active(i, after) {
@@ -192,10 +178,7 @@ impl Node {
         requires idle { IsIdle i self.old.lists.queued }
         ensures ended { MakesEnds R.log K.given (Notes (breaking i)) (timed_of self.old)
             (timed_of self.new) rec.old rec.new k.old k.new }
-        ensures servers { self.new.lists.servers ≡ self.old.lists.servers }
-        ensures me { self.new.lists.me ≡ self.old.lists.me }
-        ensures jobs { self.new.lists.jobs ≡ self.old.lists.jobs }
-        ensures handed { GivesBackTo K.given self.old.handed self.new.handed k.old k.new }
+        ensures rest { LeavesTimed K.given self.old self.new k.old k.new }
     {
         lose_session(&mut self.store, self.me, i, k, rec);
     }
@@ -212,10 +195,7 @@ impl Node {
         requires connected { IsConnected (slice_get self.old.lists.clients i) }
         ensures ended { MakesEnds R.log K.given (Notes (breaking_off i))
             (timed_of self.old) (timed_of self.new) rec.old rec.new k.old k.new }
-        ensures servers { self.new.lists.servers ≡ self.old.lists.servers }
-        ensures me { self.new.lists.me ≡ self.old.lists.me }
-        ensures jobs { self.new.lists.jobs ≡ self.old.lists.jobs }
-        ensures handed { GivesBackTo K.given self.old.handed self.new.handed k.old k.new }
+        ensures rest { LeavesTimed K.given self.old self.new k.old k.new }
     {
         self.flush_session(i, rec);
         self.break_idle(i, k, rec);

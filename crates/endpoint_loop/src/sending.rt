@@ -1,7 +1,8 @@
 //! Step 6 of a poll: what is ready or due is sent.
 ghost use Rattle.endpoint_loop.specs.Handing.{timed_of};
-ghost use Rattle.std.specs.Prelude.{◌≡◌, ◌≢◌, ◌<◌, ◌+◌, ◌↔◌, [], true, false, length, IfOk};
-ghost use Rattle.std.specs.Prelude.{◌≤◌, ◌*◌, IsTrue, OnErr};
+ghost use Rattle.endpoint_loop.specs.Leaving.{LeavesServing};
+ghost use Rattle.std.specs.Prelude.{◌≡◌, ◌<◌, ◌≤◌, ◌+◌, ◌*◌, [], true, false, length, None, Some};
+ghost use Rattle.std.specs.Prelude.{IfOk, OnErr};
 ghost use Rattle.endpoint_loop.specs.Polling.{left_one};
 ghost use Rattle.endpoint_loop.specs.Speaking.{HeldBack, troubles_of};
 ghost use Rattle.endpoint_loop.specs.Noting.{MakesSent, SendsNone};
@@ -9,6 +10,7 @@ ghost use Rattle.rpc_laws.specs.Pacing.{line};
 ghost use Rattle.rpc_laws.specs.PollOrder.{Sends, SendsSome};
 ghost use Rattle.rpc_outside.specs.Faults.{HasCause, HasRisen};
 ghost use Rattle.rpc_outside.specs.Linking.{NoneComes};
+ghost use Rattle.rpc_outside.specs.declared.link.Taken.TheVariants.{Busy, Whole};
 
 use crate::node::Node;
 use rpc_base::{Event, HEAD_BYTES, MOST_RING, Who};
@@ -24,37 +26,39 @@ pub struct Sending {
 }
 
 impl Node {
-    // Sends the front of the queue, which may be sent by now, where it lies. The result tells
-    // whether the link took it; where it was busy, or failed, the packet stays in front.
+    // Sends the front of the queue, where it lies. What the link answered is told: where it was
+    // busy, or failed, the packet stays in front. None comes where nothing that is queued may be
+    // sent yet.
     fn send_front<L: Link, R: Recorder>(
         &mut self,
         link: &mut L,
         rec: &mut R,
-    ) -> Result<bool, Failed>
-        requires some { line self.old.clock self.old.lists.queued ≢ [] }
-        ensures sent { IfOk result (λ went. went ≡ true → MakesSent R.log L.sent Sends
+    ) -> Result<Option<Taken>, Failed>
+        ensures sent { IfOk result (λ took. took ≡ Some Whole → MakesSent R.log L.sent Sends
             (timed_of self.old) (timed_of self.new) rec.old rec.new link.old link.new ×
             (L.busies link.new ≡ L.busies link.old)) }
-        ensures busy { IfOk result (λ went. went ≡ false → SendsNone L.sent (timed_of self.old)
-            (timed_of self.new) rec.old rec.new link.old link.new × HasRisen (L.busies link.old)
-            (L.busies link.new)) }
+        ensures busy { IfOk result (λ took. took ≡ Some Busy → SendsNone L.sent
+            (timed_of self.old) (timed_of self.new) rec.old rec.new link.old link.new
+            × HasRisen (L.busies link.old) (L.busies link.new)) }
+        ensures over { IfOk result (λ took. took ≡ None
+            → (line self.new.clock self.new.lists.queued ≡ []) × SendsNone L.sent
+            (timed_of self.old) (timed_of self.new) rec.old rec.new link.old link.new
+            × (L.busies link.new ≡ L.busies link.old)) }
         ensures fault { OnErr result (SendsNone L.sent (timed_of self.old) (timed_of self.new)
             rec.old rec.new link.old link.new × (L.busies link.new ≡ L.busies link.old)) }
-        ensures fewer { IfOk result (λ went. went ≡ true →
+        ensures fewer { IfOk result (λ took. took ≡ Some Whole →
             length self.new.lists.queued < length self.old.lists.queued) }
-        ensures jobs { self.new.lists.jobs ≡ self.old.lists.jobs }
-        ensures servers { self.new.lists.servers ≡ self.old.lists.servers }
+        ensures rest { LeavesServing self.old self.new }
         ensures lists { NoneComes L.waiting L.received link.old link.new }
         ensures cause { HasCause (L.faults link.old) (L.faults link.new) result }
-        ensures handed { self.new.handed ≡ self.old.handed }
     {
         let Some(entry) = self.store.front(self.clock) else {
-            unreachable!()
+            return Ok(None);
         };
         let mut head = [0u8; HEAD_BYTES];
         let body = self.store.packet(&mut head);
         match link.send(entry.peer, &head, body)? {
-            Taken::Busy => Ok(false),
+            Taken::Busy => Ok(Some(Taken::Busy)),
             Taken::Whole => {
                 let event = Event::Sent {
                     peer: entry.peer,
@@ -63,18 +67,8 @@ impl Node {
                 };
                 rec.note(Who::Node(self.me), event, &head, body);
                 self.store.sent(self.clock);
-                Ok(true)
+                Ok(Some(Taken::Whole))
             }
-        }
-    }
-
-    // Whether nothing that is queued may be sent yet.
-    fn is_all_sent(&self) -> bool
-        ensures { IsTrue result ↔ (line self.now.clock self.now.lists.queued ≡ []) }
-    {
-        match self.store.front(self.clock) {
-            Some(_entry) => false,
-            None => true,
         }
     }
 
@@ -97,17 +91,18 @@ impl Node {
         ensures few { IfOk result (λ s. s.sent ≤ 2 * MOST_RING) }
         ensures held { HeldBack (left_one (line self.new.clock self.new.lists.queued))
             (troubles_of L.Link link.old) (troubles_of L.Link link.new) }
-        ensures jobs { self.new.lists.jobs ≡ self.old.lists.jobs }
-        ensures servers { self.new.lists.servers ≡ self.old.lists.servers }
+        ensures rest { LeavesServing self.old self.new }
         ensures lists { NoneComes L.waiting L.received link.old link.new }
         ensures cause { HasCause (L.faults link.old) (L.faults link.new) result }
-        ensures handed { self.new.handed ≡ self.old.handed }
     {
         let before = self.store.queued();
-        'packets: while !self.is_all_sent() {
-            if !self.send_front(link, rec)? {
-                let sent = before - self.store.queued();
-                return Ok(Sending { sent, busy: true });
+        'packets: while let Some(taken) = self.send_front(link, rec)? {
+            match taken {
+                Taken::Whole => {}
+                Taken::Busy => {
+                    let sent = before - self.store.queued();
+                    return Ok(Sending { sent, busy: true });
+                }
             }
         }
         let sent = before - self.store.queued();
@@ -134,11 +129,9 @@ impl Node {
         ensures few { IfOk result (λ s. s.sent ≤ 2 * MOST_RING) }
         ensures held { HeldBack (left_one (line self.new.clock self.new.lists.queued))
             (troubles_of L.Link link.old) (troubles_of L.Link link.new) }
-        ensures jobs { self.new.lists.jobs ≡ self.old.lists.jobs }
-        ensures servers { self.new.lists.servers ≡ self.old.lists.servers }
+        ensures rest { LeavesServing self.old self.new }
         ensures lists { NoneComes L.waiting L.received link.old link.new }
         ensures cause { HasCause (L.faults link.old) (L.faults link.new) result }
-        ensures handed { self.new.handed ≡ self.old.handed }
     {
         let sent = self.send_ready(link, rec);
         link.flush();

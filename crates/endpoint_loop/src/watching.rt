@@ -1,6 +1,7 @@
 //! Step 4 of a poll: the timers. Client sessions send their own requests. A call that timed out is
 //! rolled back, and one that timed out once too often breaks its session.
-ghost use Rattle.endpoint_loop.specs.Handing.{GivesBackTo, timed_of};
+ghost use Rattle.endpoint_loop.specs.Handing.{timed_of};
+ghost use Rattle.endpoint_loop.specs.Leaving.{LeavesTimed};
 ghost use Rattle.std.specs.Prelude.{◌≡◌, ◌<◌, ◌≤◌, length};
 ghost use Rattle.endpoint_loop.specs.Noting.{MakesEnds};
 ghost use Rattle.endpoint_loop.specs.Watching.{LooksAt, MakesTimes, calls_at};
@@ -32,10 +33,7 @@ impl Node {
         requires active { ActiveAt i active.now self.old.lists.clients }
         ensures ended { MakesEnds R.log K.given (Watches timeout i active.now.call)
             (timed_of self.old) (timed_of self.new) rec.old rec.new k.old k.new }
-        ensures servers { self.new.lists.servers ≡ self.old.lists.servers }
-        ensures me { self.new.lists.me ≡ self.old.lists.me }
-        ensures jobs { self.new.lists.jobs ≡ self.old.lists.jobs }
-        ensures handed { GivesBackTo K.given self.old.handed self.new.handed k.old k.new }
+        ensures rest { LeavesTimed K.given self.old self.new k.old k.new }
     {
         match self.store.timer(i, active, self.clock, timeout) {
             TimerRow::Waits => {}
@@ -56,10 +54,7 @@ impl Node {
         ensures looks { LooksAt R.log K.given timeout i after result (timed_of self.old)
             (timed_of self.new) rec.old rec.new k.old k.new }
         ensures order { Ascends (calls_at i (timed_of self.old)) }
-        ensures servers { self.new.lists.servers ≡ self.old.lists.servers }
-        ensures me { self.new.lists.me ≡ self.old.lists.me }
-        ensures jobs { self.new.lists.jobs ≡ self.old.lists.jobs }
-        ensures handed { GivesBackTo K.given self.old.handed self.new.handed k.old k.new }
+        ensures rest { LeavesTimed K.given self.old self.new k.old k.new }
     {
         if i >= self.store.clients() {
             return None;
@@ -82,10 +77,7 @@ impl Node {
     )
         ensures ended { MakesEnds R.log K.given (WatchesSession timeout i)
             (timed_of self.old) (timed_of self.new) rec.old rec.new k.old k.new }
-        ensures servers { self.new.lists.servers ≡ self.old.lists.servers }
-        ensures me { self.new.lists.me ≡ self.old.lists.me }
-        ensures jobs { self.new.lists.jobs ≡ self.old.lists.jobs }
-        ensures handed { GivesBackTo K.given self.old.handed self.new.handed k.old k.new }
+        ensures rest { LeavesTimed K.given self.old self.new k.old k.new }
     {
         // Their calls stand in the order of their numbers.
         let _sessions = self.store.clients();
@@ -108,12 +100,9 @@ impl Node {
         ensures timed { MakesTimes R.log K.given L.Link (TimesSession timeout
             i) result (timed_of self.old) (timed_of self.new) rec.old rec.new
             k.old k.new link.old link.new }
-        ensures servers { self.new.lists.servers ≡ self.old.lists.servers }
-        ensures me { self.new.lists.me ≡ self.old.lists.me }
-        ensures jobs { self.new.lists.jobs ≡ self.old.lists.jobs }
+        ensures rest { LeavesTimed K.given self.old self.new k.old k.new }
         ensures lists { NoneComes L.waiting L.received link.old link.new }
         ensures few { result.sent ≤ 1 }
-        ensures handed { GivesBackTo K.given self.old.handed self.new.handed k.old k.new }
     {
         if i >= self.store.clients() {
             return Asking {
@@ -142,11 +131,9 @@ impl Node {
         ensures timed { MakesTimes R.log K.given L.Link TimesAll result
             (timed_of self.old) (timed_of self.new) rec.old rec.new k.old k.new
             link.old link.new }
-        ensures servers { self.new.lists.servers ≡ self.old.lists.servers }
-        ensures jobs { self.new.lists.jobs ≡ self.old.lists.jobs }
+        ensures rest { LeavesTimed K.given self.old self.new k.old k.new }
         ensures lists { NoneComes L.waiting L.received link.old link.new }
         ensures few { result.sent ≤ SESSION_NUMBERS }
-        ensures handed { GivesBackTo K.given self.old.handed self.new.handed k.old k.new }
     {
         let timeout = self.limits.timeout;
         let count = self.store.clients();

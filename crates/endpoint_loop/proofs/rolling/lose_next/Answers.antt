@@ -8,21 +8,21 @@ pub returns-in_default-clause-none : goal.returns-in_default-clause-none
 returns-in_default-clause-none g c = λ _.
     (none-lost g.R.Recorder.log g.K.Continuation.given c.args.me c.args.i _
     c.args.store.now.clients c.lose.new.self.clients (ap (option_map (λ d. d.call)) c.in_default.is)
-    c.lose.ensures.clients).0
+    c.lose.ensures.loses.clients).0
 
 pub returns-clause-ends : goal.returns-clause-ends
 returns-clause-ends g c = λ _.
     let h = rw c.in-Some.is at c.lose.ensures in
     one-lost g.R.Recorder.log g.K.Continuation.given c.args.me c.args.i
     c.in-Some.done c.args.store.now.clients c.lose.new.self.clients c.args.rec.now
-    c.note.new.self c.args.k.now c.done.new.self h.clients h.ended_as c.note.ensures
+    c.note.new.self c.args.k.now c.done.new.self h.loses.clients h.ended_as c.note.ensures
     c.done.ensures
 
 pub returns-in_default-clause-handed : goal.returns-in_default-clause-handed
 returns-in_default-clause-handed g c =
-    gives-same g.K.Continuation.given _ _ _ _ (rw c.in_default.is at c.lose.ensures.handed) refl
+    gives-same g.K.Continuation.given _ _ _ _ (rw c.in_default.is at c.lose.ensures.loses.handed) refl
 
 pub returns-clause-handed : goal.returns-clause-handed
 returns-clause-handed g c =
     let h = rw c.in-Some.is at c.lose.ensures in
-    gives-one g.K.Continuation.given c.args.i c.in-Some.done _ _ _ _ h.handed c.done.ensures
+    gives-one g.K.Continuation.given c.args.i c.in-Some.done _ _ _ _ h.loses.handed c.done.ensures

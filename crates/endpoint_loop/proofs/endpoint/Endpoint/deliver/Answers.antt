@@ -9,4 +9,4 @@ returns-clause-goes_on g c = rw (← c.self.view_is) (goes-on g.R.Recorder.log
     g.V.Service g.W.Workers (Delivers c.args.peer c.args.bytes.now) _ _ _ _ c.deliver.ensures.makes
     (λ s x t h. delivers c.args.peer c.args.bytes.now h)
     (delivery-still c.args.peer c.args.bytes.now)
-    (record { service = refl; workers = refl; jobs = c.deliver.ensures.jobs }))
+    (record { service = refl; workers = refl; jobs = c.deliver.ensures.rest.jobs }))

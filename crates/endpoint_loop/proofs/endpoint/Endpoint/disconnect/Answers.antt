@@ -10,4 +10,4 @@ returns-clause-goes_on g c = rw (← c.self.view_is) (goes-on g.R.Recorder.log
     g.V.Service g.W.Workers (Disconnects c.args.session) _ _ _ _ c.disconnect.ensures.makes
     (λ s x t h. disconnects c.args.session h)
     (disconnect-still c.args.session)
-    (record { service = refl; workers = refl; jobs = c.disconnect.ensures.jobs }))
+    (record { service = refl; workers = refl; jobs = c.disconnect.ensures.rest.jobs }))

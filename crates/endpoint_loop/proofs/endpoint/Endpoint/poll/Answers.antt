@@ -21,13 +21,13 @@ invariant_of-self g c =
     still-serving _ _ _ (timed_of c.hear_all-heard.new.self)
     (timed_of c.handle_all-handled.new.self) (timed_of c.close.new.self) h.gave
     c.handle_all-handled.ensures.founded c.self.invariant.works c.handle_all-handled.ensures.served
-    (c.close.ensures.servers ∙ c.send_all-sent.ensures.servers ∙ c.serve_sessions.ensures.servers
-    ∙ c.watch-asked.ensures.servers)
+    (c.close.ensures.rest.servers ∙ c.send_all-sent.ensures.rest.servers
+    ∙ c.serve_sessions.ensures.rest.servers ∙ c.watch-asked.ensures.rest.servers)
     (rw heard (c.finish_all.ensures.background g.V.Service.mode_of (rw (c.raise_clock.ensures)
     c.self.invariant.background))) h.background
     h.jobs
-    (c.close.ensures.jobs ∙ c.send_all-sent.ensures.jobs ∙ c.serve_sessions.ensures.jobs
-    ∙ c.watch-asked.ensures.jobs)
+    (c.close.ensures.rest.jobs ∙ c.send_all-sent.ensures.rest.jobs
+    ∙ c.serve_sessions.ensures.rest.jobs ∙ c.watch-asked.ensures.rest.jobs)
 
 pub returns-clause-polls : goal.returns-clause-polls
 returns-clause-polls g c =
@@ -52,8 +52,8 @@ returns-clause-polls g c =
     c.handle_all-handled.ensures.me c.watch-asked.ensures.timed
     c.serve_sessions.ensures.makes c.send_all-sent.ensures.sent c.send_all-sent.ensures.held
     c.close.ensures.makes (turn_of c.turn_by.result) all
-    (c.close.ensures.jobs ∙ c.send_all-sent.ensures.jobs ∙ c.serve_sessions.ensures.jobs
-    ∙ c.watch-asked.ensures.jobs) c.sound.ensures.kept counted
+    (c.close.ensures.rest.jobs ∙ c.send_all-sent.ensures.rest.jobs
+    ∙ c.serve_sessions.ensures.rest.jobs ∙ c.watch-asked.ensures.rest.jobs) c.sound.ensures.kept counted
     c.self.inside.node.handed c.close.new.self.handed)
   where
     all : is_stopped (turn_of c.turn_by.result) ≡ false → line c.send_all-sent.new.self.clock
@@ -98,8 +98,9 @@ returns-clause-handed g c =
     (c.hear_all-heard.ensures.handed ∙ c.finish_all.ensures.handed ∙ raised) refl in
     let after = gives-same g.K.Continuation.given c.watch-asked.new.self.handed
     c.close.new.self.handed c.watch-asked.new.k c.watch-asked.new.k
-    (c.close.ensures.handed ∙ c.send_all-sent.ensures.handed ∙ c.serve_sessions.ensures.handed)
+    (c.close.ensures.rest.handed ∙ c.send_all-sent.ensures.rest.handed
+    ∙ c.serve_sessions.ensures.rest.handed)
     refl in
     rw (← c.self.view_is) (gives-more g.K.Continuation.given _ _ _ _ _ _ before
     (gives-more g.K.Continuation.given _ _ _ _ _ _ c.handle_all-handled.ensures.handed
-    (gives-more g.K.Continuation.given _ _ _ _ _ _ c.watch-asked.ensures.handed after)))
+    (gives-more g.K.Continuation.given _ _ _ _ _ _ c.watch-asked.ensures.rest.handed after)))

@@ -9,4 +9,4 @@ returns-clause-goes_on g c = rw (← c.self.view_is) (goes-on g.R.Recorder.log
     g.V.Service g.W.Workers (SetsRate c.args.session c.args.rate) _ _ _ _ c.set_rate.ensures.makes
     (λ s x t h. sets_rate c.args.session c.args.rate h)
     (rate-still c.args.session c.args.rate)
-    (record { service = refl; workers = refl; jobs = c.set_rate.ensures.jobs }))
+    (record { service = refl; workers = refl; jobs = c.set_rate.ensures.rest.jobs }))

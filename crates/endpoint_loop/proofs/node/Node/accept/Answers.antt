@@ -40,7 +40,7 @@ newest_ask-requires g c =
     let place = connected-at c.self.inside.store.clients c.from-i.result _
     c.self.invariant.0.kept.valid.numbered c.from-i.ensures
     (rw (← c.self.view_is, ← c.session.view_is) at c.requires.connected) in
-    let at = c.in_ok-ask.ensures.clients in
+    let at = c.in_ok-ask.ensures.asks.clients in
     let long = ap (λ (xs : List Client). length xs) at.changed
     ∙ length-set c.self.inside.store.clients c.from-i.result
     (asks (asking_in c.args.waiting) at.client) in
@@ -48,7 +48,7 @@ newest_ask-requires g c =
 
 pub invariant_of-self-2 : goal.invariant_of-self-2
 invariant_of-self-2 g c =
-    let asked = c.in_ok-ask.ensures in
+    let asked = c.in_ok-ask.ensures.asks in
     let place = connected-at c.self.inside.store.clients c.from-i.result _
     c.self.invariant.0.kept.valid.numbered c.from-i.ensures
     (rw (← c.self.view_is, ← c.session.view_is) at c.requires.connected) in
@@ -78,7 +78,7 @@ invariant_of-self-2 g c =
 
 pub returns-clause-makes : goal.returns-clause-makes
 returns-clause-makes g c =
-    let asked = c.in_ok-ask.ensures in
+    let asked = c.in_ok-ask.ensures.asks in
     let place = connected-at c.self.inside.store.clients c.from-i.result _
     c.self.invariant.0.kept.valid.numbered c.from-i.ensures
     (rw (← c.self.view_is, ← c.session.view_is) at c.requires.connected) in
@@ -117,4 +117,4 @@ pub returns-clause-handed : goal.returns-clause-handed
 returns-clause-handed g c =
     rw (← c.self.view_is) (subst (λ n. HandsInAt n (handed_waiting c.args.waiting)
     c.self.inside.store.handed c.ask.new.self.handed) (c.from-i.ensures ∙ c.session.view_is)
-    c.in_ok-ask.ensures.handed)
+    c.in_ok-ask.ensures.asks.handed)

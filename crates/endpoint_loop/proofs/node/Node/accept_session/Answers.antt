@@ -1,30 +1,27 @@
-use Rattle.std.proofs.Common.{◌+◌, refl}
-use Rattle.endpoint_loop.specs.Seen.{jobs_in}
-use Rattle.endpoint_loop.proofs.PairLemmas.{fits-paired-server, numbers-below}
+use Rattle.std.proofs.Common.{Some, false, true, refl}
+use Rattle.rpc_base.specs.declared.event.Event.TheVariants.{Accepted}
+use Rattle.rpc_laws.specs.declared.rows.ControlRow.TheVariants.{Accepts, Starves}
+use Rattle.endpoint_loop.specs.Handing.{timed_of}
+use Rattle.endpoint_loop.proofs.ControlLemmas.{acts-controls, acts-noted}
 use Rattle.endpoint_loop.proofs.node.Node.accept_session.Goals as goal
 
-pub pair_server-requires-clause-above : goal.pair_server-requires-clause-above
-pair_server-requires-clause-above g c =
-    numbers-below c.self.inside.server_numbers c.self.inside.store.servers
-    c.self.invariant.0.kept.valid.alone
+pub returns-in-Ok-clause-controls : goal.returns-in-Ok-clause-controls
+returns-in-Ok-clause-controls g c =
+    let s = timed_of c.args.self.now in
+    let t = timed_of c.add_accepted.new.self in
+    let h = c.args.head.now in
+    let n = s.lists.server_numbers in
+    rw c.in-Ok.ensures.number (acts-controls g.R.Recorder.log c.args.rec.now
+    c.add_accepted.new.rec c.args.peer h (Accepts n) s t false (c.requires.row false)
+    (acts-noted g.R.Recorder.log c.args.rec.now c.add_accepted.new.rec c.args.peer h (Accepts n)
+    s t (λ l. Some (Accepted l.server_numbers c.args.peer h.client h.credits))
+    (Accepted n c.args.peer h.client h.credits) (λ asks. refl) (λ asks. refl)
+    c.in-Ok.ensures.makes))
 
-pub invariant_of-self-2 : goal.invariant_of-self-2
-invariant_of-self-2 g c =
-    let made = c.in_ok-pair_server.ensures in
-    let taken = rw (← c.self.view_is) at c.requires.fits in (
-      fits-paired-server c.self.inside.me c.self.inside.limits
-          (record {
-            asked = c.self.inside.asked;
-            server_numbers = c.self.inside.server_numbers;
-            inbox = c.self.inside.inbox;
-            counts = c.self.inside.counts;
-          }) c.self.inside.paces.items
-          (jobs_in c.self.inside.limits.jobs c.self.inside.given c.self.inside.jobs.items)
-          c.self.inside.clock c.self.inside.rx c.self.inside.store
-          c.pair_server.new.self c.self.invariant.0 c.args.credits c.args.peer c.args.client
-          c.requires.some made.queued made.size made.places (c.self.inside.server_numbers + 1) refl
-          c.requires.most taken
-          made.clients made.servers,
-      c.self.invariant.1,
-      rw made.clients c.self.invariant.2,
-    )
+pub returns-in-Err-clause-controls : goal.returns-in-Err-clause-controls
+returns-in-Err-clause-controls g c =
+    let s = timed_of c.args.self.now in
+    let unchanged = c.in-Err.ensures.unchanged in
+    rw unchanged.0 (acts-controls g.R.Recorder.log c.args.rec.now c.starve.new.rec c.args.peer
+    c.args.head.now Starves s s true (c.requires.row true)
+    (rw (unchanged.0, unchanged.1) at c.starve.ensures))

@@ -1,6 +1,7 @@
 use Rattle.endpoint_loop.proofs.BreakLemmas.{fits-lost, node-lost}
 use Rattle.endpoint_loop.specs.Seen.{jobs_in}
 use Rattle.endpoint_loop.proofs.CallerLemmas.{covers-lost}
+use Rattle.std.proofs.Common.{refl}
 use Rattle.endpoint_loop.proofs.node.Node.break_idle.Goals as goal
 
 pub invariant_of-self : goal.invariant_of-self
@@ -39,5 +40,7 @@ returns-clause-ended g c =
     c.args.rec.now c.lose_session.new.rec c.args.k.now c.lose_session.new.k c.self.invariant.0
     c.args.i (rw (← c.self.view_is) at c.requires.idle) h.lost h.servers h.queued)
 
-pub returns-clause-handed : goal.returns-clause-handed
-returns-clause-handed g c = rw (← c.self.view_is) c.lose_session.ensures.handed
+pub returns-clause-rest : goal.returns-clause-rest
+returns-clause-rest g c =
+    let h = c.lose_session.ensures in
+    rw (← c.self.view_is) (record { me = refl; servers = h.servers; jobs = refl; handed = h.handed })

@@ -1,6 +1,6 @@
 use Rattle.std.proofs.Common.{◌≡◌, length, sym, ap, subst, ◌∙◌}
 use Rattle.node_laws.specs.Valid.{NumberedFrom, client_no}
-use Rattle.session_mgmt.specs.Table.{refused}
+use Rattle.session_mgmt.specs.Refusals.{refused}
 use Rattle.endpoint_loop.specs.Handing.{timed_of}
 use Rattle.endpoint_loop.proofs.ConnectLemmas.{connect-made, connect-refused, opened-live}
 use Rattle.endpoint_loop.proofs.node.Node.connect.Goals as goal

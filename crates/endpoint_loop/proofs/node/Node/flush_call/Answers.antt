@@ -3,6 +3,7 @@ use Rattle.rpc_base.specs.declared.owner.Owner.TheVariants.{Ask}
 use Rattle.endpoint_loop.proofs.FlushLemmas.{flushed-all, flushed-more}
 use Rattle.endpoint_loop.proofs.NotingLemmas.{as-same}
 use Rattle.endpoint_loop.specs.Handing.{timed_of}
+use Rattle.endpoint_loop.proofs.LeavingLemmas.{leaves-then}
 use Rattle.endpoint_loop.proofs.node.Node.flush_call.Goals as goal
 
 pub packets-preserved : goal.packets-preserved
@@ -12,10 +13,7 @@ packets-preserved g c =
       flushed-more g.R.Recorder.log (Ask c.args.i c.args.request) _ _ _ _ _ _
           i.0 (h.makes c.packets-test.true),
       h.clients ∙ i.1,
-      h.servers ∙ i.2,
-      h.me ∙ i.3,
-      h.jobs ∙ i.4,
-      h.handed ∙ i.5,
+      leaves-then _ _ _ i.2 h.rest,
     )
 
 pub returns-clause-makes : goal.returns-clause-makes

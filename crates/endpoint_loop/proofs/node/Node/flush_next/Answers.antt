@@ -11,10 +11,10 @@ invariant_of-self g c =
     let h = rw c.in_default.is at c.flush.ensures in
     let same =
     none-taken (Ask c.args.i c.args.request) c.self.inside.store.queued c.flush.new.self.queued
-    (least-none-by (Ask c.args.i c.args.request) c.self.inside.store.queued h.taken) h.queued in (
-      rw (same, h.clients, h.servers, h.size, h.places) c.self.invariant.0,
+    (least-none-by (Ask c.args.i c.args.request) c.self.inside.store.queued h.taken) h.left.queued in (
+      rw (same, h.left.clients, h.left.servers, h.left.size, h.left.places) c.self.invariant.0,
       c.self.invariant.1,
-      rw h.clients c.self.invariant.2,
+      rw h.left.clients c.self.invariant.2,
     )
 
 pub returns-in_default-clause-none : goal.returns-in_default-clause-none
@@ -28,14 +28,14 @@ returns-in_default-clause-unchanged g c = λ _.
     let h = rw c.in_default.is at c.flush.ensures in
     let same =
     none-taken (Ask c.args.i c.args.request) c.self.inside.store.queued c.flush.new.self.queued
-    (least-none-by (Ask c.args.i c.args.request) c.self.inside.store.queued h.taken) h.queued in
-    rw (same, h.clients, h.servers, h.handed) c.self.view_is
+    (least-none-by (Ask c.args.i c.args.request) c.self.inside.store.queued h.taken) h.left.queued in
+    rw (same, h.left.clients, h.left.servers, h.left.handed) c.self.view_is
 
 pub invariant_of-self-2 : goal.invariant_of-self-2
 invariant_of-self-2 g c =
     let h = rw c.in-Some.is at c.flush.ensures in
     let out = taken-least (Ask c.args.i c.args.request) c.self.inside.store.queued c.flush.new.self.queued
-    c.in-Some.entry h.taken h.queued in (
+    c.in-Some.entry h.taken h.left.queued in (
       fits-flushed c.self.inside.me c.self.inside.limits
           (record {
             asked = c.self.inside.asked;
@@ -45,16 +45,16 @@ invariant_of-self-2 g c =
           }) c.self.inside.paces.items (jobs_in c.self.inside.limits.jobs c.self.inside.given
           c.self.inside.jobs.items)
           c.self.inside.clock c.self.inside.rx c.self.inside.store c.flush.new.self
-          c.self.invariant.0 (Ask c.args.i c.args.request) out.entry out.taken h.clients h.servers h.size h.places,
+          c.self.invariant.0 (Ask c.args.i c.args.request) out.entry out.taken h.left.clients h.left.servers h.left.size h.left.places,
       c.self.invariant.1,
-      rw h.clients c.self.invariant.2,
+      rw h.left.clients c.self.invariant.2,
     )
 
 pub returns-clause-makes : goal.returns-clause-makes
 returns-clause-makes g c = λ _.
     let h = rw c.in-Some.is at c.flush.ensures in
     let out = taken-least (Ask c.args.i c.args.request) c.self.inside.store.queued c.flush.new.self.queued
-    c.in-Some.entry h.taken h.queued in
+    c.in-Some.entry h.taken h.left.queued in
     rw (← c.self.view_is) (node-flushed c.self.inside.me c.self.inside.limits
     (record {
       asked = c.self.inside.asked;
@@ -64,8 +64,8 @@ returns-clause-makes g c = λ _.
     }) c.self.inside.paces.items (jobs_in c.self.inside.limits.jobs c.self.inside.given
     c.self.inside.jobs.items)
     c.self.inside.clock c.self.inside.rx c.self.inside.store c.flush.new.self
-    c.self.invariant.0 (Ask c.args.i c.args.request) out.entry out.taken h.clients
-    h.servers g.R.Recorder.log c.args.rec.now c.note.new.self _ _
+    c.self.invariant.0 (Ask c.args.i c.args.request) out.entry out.taken h.left.clients
+    h.left.servers g.R.Recorder.log c.args.rec.now c.note.new.self _ _
     (ap (λ e. e.owner) c.entry.view_is ∙ owner-is _ _ _ out.own)
     (ap (λ e. e.number) c.entry.view_is ∙ sym out.number) c.note.ensures)
 
@@ -73,5 +73,5 @@ pub returns-clause-fewer : goal.returns-clause-fewer
 returns-clause-fewer g c = λ _.
     let h = rw c.in-Some.is at c.flush.ensures in
     let out = taken-least (Ask c.args.i c.args.request) c.self.inside.store.queued c.flush.new.self.queued
-    c.in-Some.entry h.taken h.queued in
+    c.in-Some.entry h.taken h.left.queued in
     rw (← c.self.view_is) out.taken.fewer

@@ -1,22 +1,24 @@
-use Rattle.std.proofs.Common.{ap, ◌∙◌}
+use Rattle.std.proofs.Common.{ap}
 use Rattle.endpoint_loop.specs.Handing.{timed_of}
 use Rattle.endpoint_loop.proofs.FlushLemmas.{flushed-all, flushed-more}
+use Rattle.endpoint_loop.proofs.EndingLemmas.{sessions-then}
 use Rattle.endpoint_loop.proofs.NotingLemmas.{as-same}
 use Rattle.endpoint_loop.proofs.node.Node.flush_replies.Goals as goal
 
 pub packets-preserved : goal.packets-preserved
 packets-preserved g c =
     let i = c.packets.invariant in
-    let h = c.flush_reply.ensures in (
-      flushed-more g.R.Recorder.log c.args.owner.now _ _ _ _ _ _
-          i.0 (h.makes c.packets-test.true),
-      h.clients ∙ i.1,
-      h.servers ∙ i.2,
-      h.inbox ∙ i.3,
-      h.me ∙ i.4,
-      h.jobs ∙ i.5,
-      h.handed ∙ i.6,
-    )
+    let h = c.flush_reply.ensures in
+    record {
+      flushed = flushed-more g.R.Recorder.log c.args.owner.now _ _ _ _ _ _
+          i.flushed (h.makes c.packets-test.true);
+      left = sessions-then _ _ _ i.left h.rest;
+    }
+
+pub returns-clause-rest : goal.returns-clause-rest
+returns-clause-rest g c =
+    let h = c.flush_reply.ensures in
+    sessions-then _ _ _ c.packets.invariant.left h.rest
 
 pub returns-clause-makes : goal.returns-clause-makes
 returns-clause-makes g c =
@@ -26,4 +28,4 @@ returns-clause-makes g c =
     let silent = h.silent c.packets-test.false in
     as-same g.R.Recorder.log _ _ _ _ _ _ _ same silent
     (flushed-all g.R.Recorder.log c.args.owner.now _ _ _ _ none
-    c.packets.invariant.0)
+    c.packets.invariant.flushed)

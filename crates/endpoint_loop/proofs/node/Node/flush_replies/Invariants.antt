@@ -1,19 +1,16 @@
-use Rattle.std.proofs.Common.{◌≡◌, length}
+use Rattle.std.proofs.Common.{length}
+use Rattle.endpoint_loop.specs.Ending.{LeavesSessions}
 use Rattle.endpoint_loop.specs.Handing.{timed_of}
 use Rattle.endpoint_loop.specs.Noting.{Makes}
 use Rattle.endpoint_loop.specs.Watching.{FlushesSome}
 use Rattle.endpoint_loop.proofs.node.Node.flush_replies.Given as goal
 
 abbrev pub invariant-packets : goal.invariant-packets
-invariant-packets g l =
-    Makes g.R.Recorder.log (FlushesSome l.owner)
-    (timed_of l.initial.self) (timed_of l.self) l.initial.rec l.rec
-    × (l.self.lists.clients ≡ l.initial.self.lists.clients)
-    × (l.self.lists.servers ≡ l.initial.self.lists.servers)
-    × (l.self.lists.inbox ≡ l.initial.self.lists.inbox)
-    × (l.self.lists.me ≡ l.initial.self.lists.me)
-    × (l.self.lists.jobs ≡ l.initial.self.lists.jobs)
-    × (l.self.handed ≡ l.initial.self.handed)
+invariant-packets g l = record {
+  flushed : Makes g.R.Recorder.log (FlushesSome l.owner) (timed_of l.initial.self)
+      (timed_of l.self) l.initial.rec l.rec;
+  left : LeavesSessions l.initial.self l.self;
+}
 
 abbrev pub decreases-packets : goal.decreases-packets
 decreases-packets g l = length l.self.lists.queued

@@ -10,10 +10,10 @@ invariant_of-self g c =
     let h = rw (c.in_default-flush_reply.is, ← c.in-Reply.is) at c.flush_reply.ensures in
     let same =
     none-taken c.args.owner.now c.self.inside.store.queued c.flush_reply.new.self.queued
-    (least-none-by c.args.owner.now c.self.inside.store.queued h.taken) h.queued in (
-      rw (same, h.clients, h.servers, h.size, h.places) c.self.invariant.0,
+    (least-none-by c.args.owner.now c.self.inside.store.queued h.taken) h.left.queued in (
+      rw (same, h.left.clients, h.left.servers, h.left.size, h.left.places) c.self.invariant.0,
       c.self.invariant.1,
-      rw h.clients c.self.invariant.2,
+      rw h.left.clients c.self.invariant.2,
     )
 
 pub returns-in_default-flush_reply-clause-none : goal.returns-in_default-flush_reply-clause-none
@@ -27,14 +27,14 @@ returns-in_default-flush_reply-clause-unchanged g c = λ _.
     let h = rw (c.in_default-flush_reply.is, ← c.in-Reply.is) at c.flush_reply.ensures in
     let same =
     none-taken c.args.owner.now c.self.inside.store.queued c.flush_reply.new.self.queued
-    (least-none-by c.args.owner.now c.self.inside.store.queued h.taken) h.queued in
-    rw (same, h.clients, h.servers, h.handed) c.self.view_is
+    (least-none-by c.args.owner.now c.self.inside.store.queued h.taken) h.left.queued in
+    rw (same, h.left.clients, h.left.servers, h.left.handed) c.self.view_is
 
 pub invariant_of-self-2 : goal.invariant_of-self-2
 invariant_of-self-2 g c =
     let h = rw (c.in-Some.is, ← c.in-Reply.is) at c.flush_reply.ensures in
     let out = taken-least c.args.owner.now c.self.inside.store.queued c.flush_reply.new.self.queued
-    c.in-Some.entry h.taken h.queued in (
+    c.in-Some.entry h.taken h.left.queued in (
       fits-flushed c.self.inside.me c.self.inside.limits
           (record {
             asked = c.self.inside.asked;
@@ -44,16 +44,16 @@ invariant_of-self-2 g c =
           }) c.self.inside.paces.items (jobs_in c.self.inside.limits.jobs c.self.inside.given
           c.self.inside.jobs.items)
           c.self.inside.clock c.self.inside.rx c.self.inside.store c.flush_reply.new.self
-          c.self.invariant.0 c.args.owner.now out.entry out.taken h.clients h.servers h.size h.places,
+          c.self.invariant.0 c.args.owner.now out.entry out.taken h.left.clients h.left.servers h.left.size h.left.places,
       c.self.invariant.1,
-      rw h.clients c.self.invariant.2,
+      rw h.left.clients c.self.invariant.2,
     )
 
 pub returns-clause-makes : goal.returns-clause-makes
 returns-clause-makes g c = λ _.
     let h = rw (c.in-Some.is, ← c.in-Reply.is) at c.flush_reply.ensures in
     let out = taken-least c.args.owner.now c.self.inside.store.queued c.flush_reply.new.self.queued
-    c.in-Some.entry h.taken h.queued in
+    c.in-Some.entry h.taken h.left.queued in
     rw (← c.self.view_is) (node-flushed c.self.inside.me c.self.inside.limits
     (record {
       asked = c.self.inside.asked;
@@ -63,8 +63,8 @@ returns-clause-makes g c = λ _.
     }) c.self.inside.paces.items (jobs_in c.self.inside.limits.jobs c.self.inside.given
     c.self.inside.jobs.items)
     c.self.inside.clock c.self.inside.rx c.self.inside.store c.flush_reply.new.self
-    c.self.invariant.0 c.args.owner.now out.entry out.taken h.clients
-    h.servers g.R.Recorder.log c.args.rec.now c.note.new.self _ _
+    c.self.invariant.0 c.args.owner.now out.entry out.taken h.left.clients
+    h.left.servers g.R.Recorder.log c.args.rec.now c.note.new.self _ _
     (ap (λ e. e.owner) c.entry.view_is ∙ owner-is _ _ out.own)
     (ap (λ e. e.number) c.entry.view_is ∙ sym out.number) c.note.ensures)
 
@@ -72,5 +72,5 @@ pub returns-clause-fewer : goal.returns-clause-fewer
 returns-clause-fewer g c = λ _.
     let h = rw (c.in-Some.is, ← c.in-Reply.is) at c.flush_reply.ensures in
     let out = taken-least c.args.owner.now c.self.inside.store.queued c.flush_reply.new.self.queued
-    c.in-Some.entry h.taken h.queued in
+    c.in-Some.entry h.taken h.left.queued in
     rw (← c.self.view_is) out.taken.fewer

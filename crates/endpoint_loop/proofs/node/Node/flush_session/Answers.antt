@@ -5,11 +5,12 @@ use Rattle.endpoint_loop.proofs.BreakLemmas.{flushed-idle}
 use Rattle.endpoint_loop.proofs.GatherLemmas.{gather-more, gather-over, gather-start}
 use Rattle.endpoint_loop.proofs.NextLemmas.{next-calls, next-fewer, next-none, slots-few}
 use Rattle.endpoint_loop.proofs.NextLemmas.{ascends-calls}
+use Rattle.endpoint_loop.proofs.LeavingLemmas.{leaves-none, leaves-then}
 use Rattle.endpoint_loop.proofs.node.Node.flush_session.Goals as goal
 
 pub calls-init : goal.calls-init
 calls-init g c =
-    (gather-start g.R.Recorder.log c.args.i _ _, refl, refl, refl, refl, refl)
+    (gather-start g.R.Recorder.log c.args.i _ _, refl, leaves-none _)
 
 pub calls-smaller : goal.calls-smaller
 calls-smaller g c =
@@ -34,10 +35,7 @@ calls-preserved g c =
           c.args.self.now.lists.clients same c.in-Some.active c.requires.known
           (rw c.in-Some.is at c.active.ensures)) i.0 h.makes,
       h.clients ∙ i.1,
-      h.servers ∙ i.2,
-      h.me ∙ i.3,
-      h.jobs ∙ i.4,
-      h.handed ∙ i.5,
+      leaves-then _ _ _ i.2 h.rest,
     )
 
 pub returns-clause-makes : goal.returns-clause-makes

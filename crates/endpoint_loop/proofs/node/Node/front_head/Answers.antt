@@ -1,9 +1,8 @@
-use Rattle.std.proofs.Common.{◌≡◌, ◌+◌, None, Some, length, drop, refl, sym, subst, ap, ◌∙◌, ℕ, List, arith}
+use Rattle.std.proofs.Common.{◌≡◌, ◌+◌, None, length, refl, sym, subst, ap, ◌∙◌, arith}
 use Rattle.endpoint_loop.proofs.HandleLemmas.{packet-there}
 use Rattle.std.specs.Option.{option_copied}
-use Rattle.std.specs.Prelude.{IfSome}
 use Rattle.packet_header.specs.Header.{MessageLength}
-use Rattle.packet_header.specs.Reading.{body_of, message_of}
+use Rattle.packet_header.specs.Reading.{message_of}
 use Rattle.rpc_laws.specs.Front.{front_body}
 use Rattle.std.proofs.lemmas.List.{length-drop}
 use Rattle.endpoint_loop.proofs.HearLemmas.{body-there, front-reads, head-there, none-front}

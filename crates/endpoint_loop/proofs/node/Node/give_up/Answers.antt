@@ -2,7 +2,7 @@ use Rattle.std.proofs.Common.{sym, ◌∙◌}
 use Rattle.rpc_base.specs.declared.event.Event.TheVariants.{ClosedUnheard, FailedNoAnswer}
 use Rattle.endpoint_loop.specs.Handing.{timed_of}
 use Rattle.endpoint_loop.specs.contracts.node.Node.{the_view}
-use Rattle.endpoint_loop.proofs.JoinRows.{told-apart, told-closing, told-connecting, told-open}
+use Rattle.endpoint_loop.proofs.StateLemmas.{told-apart, told-closing, told-connecting, told-open}
 use Rattle.endpoint_loop.proofs.RetryLemmas.{gives-up-by, gives-up-none, given-closing}
 use Rattle.endpoint_loop.proofs.RetryLemmas.{given-connecting, known-at}
 use Rattle.endpoint_loop.proofs.node.Node.give_up.Goals as goal

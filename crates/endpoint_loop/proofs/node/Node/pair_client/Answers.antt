@@ -1,5 +1,5 @@
 use Rattle.std.proofs.Common.{◌≡◌, length, sym, ap, ◌∙◌}
-use Rattle.session_mgmt.specs.Table.{refused}
+use Rattle.session_mgmt.specs.Refusals.{refused}
 use Rattle.endpoint_loop.specs.Handing.{timed_of}
 use Rattle.endpoint_loop.proofs.EndsLemmas.{client-made, client-refused}
 use Rattle.endpoint_loop.proofs.node.Node.pair_client.Goals as goal

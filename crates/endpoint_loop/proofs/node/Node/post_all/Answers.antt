@@ -1,9 +1,9 @@
-use Rattle.std.proofs.Common.{refl, ◌∙◌}
 use Rattle.endpoint_loop.proofs.NotingLemmas.{makes-more, makes-none, notes-one}
+use Rattle.endpoint_loop.proofs.LeavingLemmas.{leaves-none, leaves-then}
 use Rattle.endpoint_loop.proofs.node.Node.post_all.Goals as goal
 
 pub packets-init : goal.packets-init
-packets-init g c = (makes-none g.R.Recorder.log _ _ _, refl, refl, refl)
+packets-init g c = (makes-none g.R.Recorder.log _ _ _, leaves-none _)
 
 pub packets-preserved : goal.packets-preserved
 packets-preserved g c =
@@ -11,7 +11,5 @@ packets-preserved g c =
     let h = c.post_next.ensures in (
       makes-more g.R.Recorder.log _ _ _ _ _ _ _ i.0
           (notes-one g.R.Recorder.log _ _ _ _ _ _ c.packets-test.true h.notes),
-      h.jobs ∙ i.1,
-      h.servers ∙ i.2,
-      h.handed ∙ i.3,
+      leaves-then _ _ _ i.1 h.rest,
     )

@@ -34,9 +34,9 @@ packet_size-size-requires g c =
     record {
       known = omega (
         arith,
-        ap (λ xs. length xs) h.clients.changed,
+        ap (λ xs. length xs) h.posts.clients.changed,
         length-set c.self.inside.store.clients c.args.i (posts (request_in c.in-Some.entry.owner)
-            c.in-Some.entry.number h.clients.client),
+            c.in-Some.entry.number h.posts.clients.client),
         c.clients.ensures.count,
         c.if-i-clients.false,
       );
@@ -56,7 +56,7 @@ invariant_of-self-2 g c =
     ∙ ap (λ e. request_in e.owner) c.entry.view_is in
     let told = rw (request, ap (λ e. e.number) c.entry.view_is) at c.packet_size-size.ensures.size in
     let size = size-told c.args.i _ _ c.packet_size-size.result c.self.inside.store.clients
-    c.post.new.self.clients h.clients c.self.invariant.0.kept.valid.numbered told in
+    c.post.new.self.clients h.posts.clients c.self.invariant.0.kept.valid.numbered told in
     let later = c.delay.ensures
     ∙ ap (λ n. at_first (is_paced c.args.i) (delayed c.self.inside.clock n)
     c.self.inside.paces.items) size in (
@@ -69,10 +69,10 @@ invariant_of-self-2 g c =
           }) c.self.inside.paces.items (jobs_in c.self.inside.limits.jobs c.self.inside.given
           c.self.inside.jobs.items)
           c.self.inside.clock c.self.inside.rx c.self.inside.store c.post.new.self c.args.rec.now
-          c.note.new.self c.self.invariant.0 h.servers h.size h.places c.in-Some.entry c.due_of-due.result
-          c.delay.new.paces.items h.clients h.queued h.owner c.due_of-due.ensures later,
+          c.note.new.self c.self.invariant.0 h.posts.servers h.posts.size h.posts.places c.in-Some.entry c.due_of-due.result
+          c.delay.new.paces.items h.posts.clients h.posts.queued h.owner c.due_of-due.ensures later,
       c.self.invariant.1,
-      covers-posted c.self.inside.callers c.args.i _ _ _ h.clients c.self.invariant.2,
+      covers-posted c.self.inside.callers c.args.i _ _ _ h.posts.clients c.self.invariant.2,
     )
 
 pub returns-clause-notes : goal.returns-clause-notes
@@ -82,7 +82,7 @@ returns-clause-notes g c =
     ∙ ap (λ e. request_in e.owner) c.entry.view_is in
     let told = rw (request, ap (λ e. e.number) c.entry.view_is) at c.packet_size-size.ensures.size in
     let size = size-told c.args.i _ _ c.packet_size-size.result c.self.inside.store.clients
-    c.post.new.self.clients h.clients c.self.invariant.0.kept.valid.numbered told in
+    c.post.new.self.clients h.posts.clients c.self.invariant.0.kept.valid.numbered told in
     let later = c.delay.ensures
     ∙ ap (λ n. at_first (is_paced c.args.i) (delayed c.self.inside.clock n)
     c.self.inside.paces.items) size in
@@ -95,11 +95,11 @@ returns-clause-notes g c =
     }) c.self.inside.paces.items (jobs_in c.self.inside.limits.jobs c.self.inside.given
     c.self.inside.jobs.items)
     c.self.inside.clock c.self.inside.rx c.self.inside.store c.post.new.self c.args.rec.now
-    c.note.new.self c.self.invariant.0 h.servers h.size h.places c.in-Some.entry c.due_of-due.result
-    c.delay.new.paces.items h.clients h.queued h.owner c.due_of-due.ensures later
+    c.note.new.self c.self.invariant.0 h.posts.servers h.posts.size h.posts.places c.in-Some.entry c.due_of-due.result
+    c.delay.new.paces.items h.posts.clients h.posts.queued h.owner c.due_of-due.ensures later
     _ _ (ap (λ e. e.owner) c.entry.view_is) (ap (λ e. e.number) c.entry.view_is) c.note.ensures)
 
 pub returns-clause-fewer : goal.returns-clause-fewer
 returns-clause-fewer g c = λ went.
     let h = rw c.in-Some.is at c.post.ensures in
-    rw (← c.self.view_is) (posted-fewer c.args.i _ _ _ h.clients)
+    rw (← c.self.view_is) (posted-fewer c.args.i _ _ _ h.posts.clients)

@@ -1,56 +1,49 @@
 use Rattle.std.proofs.Common.{◌≡◌, Some, None, sym}
-use Rattle.rpc_laws.specs.ControlSteps.{own_request, retry_row}
-use Rattle.rpc_laws.specs.declared.tables.Client.{Client}
 use Rattle.rpc_laws.specs.declared.rows.RetryRow.TheVariants.{Asks, GivesUp, Rests}
+use Rattle.rpc_laws.specs.declared.tables.Client.{Client}
+use Rattle.rpc_laws.specs.ControlSteps.{own_request, retry_row}
 use Rattle.endpoint_loop.specs.Handing.{timed_of}
-use Rattle.endpoint_loop.specs.contracts.node.Node.{the_view}
 use Rattle.endpoint_loop.proofs.RetryLemmas.{known-at, of-known, retries-asks, retries-none}
 use Rattle.endpoint_loop.proofs.RetryLemmas.{retries-over, retries-rest}
 use Rattle.endpoint_loop.proofs.node.Node.retry.Goals as goal
 
 pub returns-in_default-clause-spoken : goal.returns-in_default-clause-spoken
 returns-in_default-clause-spoken g c =
-    let xs = c.self.inside.store.clients in
-    let x = known-at xs c.args.i (rw (← c.self.view_is) at c.requires.known) in
-    let own = of-known (λ y. None ≡ own_request y) xs c.args.i x.0 x.1
+    let s = timed_of c.args.self.now in
+    let x = known-at s.lists.clients c.args.i c.requires.known in
+    let own = of-known (λ y. None ≡ own_request y) s.lists.clients c.args.i x.0 x.1
     (rw c.in_default.is at c.own_request.ensures) in
-    rw (← c.self.view_is) (retries-none g.R.Recorder.log g.L.Link c.args.timeout c.args.i (timed_of (the_view c.self.inside))
-    x.0 x.1 (sym own) _ _)
+    retries-none g.R.Recorder.log g.L.Link c.args.timeout c.args.i s x.0 x.1 (sym own) _ _
 
 pub returns-in-Rests-clause-spoken : goal.returns-in-Rests-clause-spoken
 returns-in-Rests-clause-spoken g c =
-    let xs = c.self.inside.store.clients in
-    let x = known-at xs c.args.i (rw (← c.self.view_is) at c.requires.known) in
-    let own = of-known (λ y. Some c.in-Some.head ≡ own_request y) xs c.args.i x.0 x.1
+    let s = timed_of c.args.self.now in
+    let x = known-at s.lists.clients c.args.i c.requires.known in
+    let own = of-known (λ y. Some c.in-Some.head ≡ own_request y) s.lists.clients c.args.i x.0 x.1
     (rw c.in-Some.is at c.own_request.ensures) in
-    let row = of-known (λ (y : Client). Rests
-    ≡ retry_row c.self.inside.clock c.args.timeout y.sends y.sent_at) xs c.args.i x.0 x.1
-    (rw c.in-Rests.is at c.retry_row.ensures) in
-    rw (← c.self.view_is) (retries-rest g.R.Recorder.log g.L.Link c.args.timeout c.args.i (timed_of (the_view c.self.inside))
-    x.0 x.1 c.in-Some.head (sym own) (sym row) _ _)
+    let row = of-known (λ (y : Client). Rests ≡ retry_row s.clock c.args.timeout y.sends y.sent_at)
+    s.lists.clients c.args.i x.0 x.1 (rw c.in-Rests.is at c.retry_row.ensures) in
+    retries-rest g.R.Recorder.log g.L.Link c.args.timeout c.args.i s x.0 x.1 c.in-Some.head
+    (sym own) (sym row) _ _
 
 pub returns-in-Asks-clause-spoken : goal.returns-in-Asks-clause-spoken
 returns-in-Asks-clause-spoken g c =
-    let xs = c.self.inside.store.clients in
-    let x = known-at xs c.args.i (rw (← c.self.view_is) at c.requires.known) in
-    let own = of-known (λ y. Some c.in-Some.head ≡ own_request y) xs c.args.i x.0 x.1
+    let s = timed_of c.args.self.now in
+    let x = known-at s.lists.clients c.args.i c.requires.known in
+    let own = of-known (λ y. Some c.in-Some.head ≡ own_request y) s.lists.clients c.args.i x.0 x.1
     (rw c.in-Some.is at c.own_request.ensures) in
-    let row = of-known (λ (y : Client). Asks
-    ≡ retry_row c.self.inside.clock c.args.timeout y.sends y.sent_at) xs c.args.i x.0 x.1
-    (rw c.in-Asks.is at c.retry_row.ensures) in
-    rw (← c.self.view_is) (retries-asks g.R.Recorder.log g.L.Link c.args.timeout c.args.i (timed_of (the_view c.self.inside))
-    x.0 x.1 c.in-Some.head (sym own) (sym row) _ _ _ _ _
-    (rw (← c.self.view_is) at c.send_request.ensures.spoken))
+    let row = of-known (λ (y : Client). Asks ≡ retry_row s.clock c.args.timeout y.sends y.sent_at)
+    s.lists.clients c.args.i x.0 x.1 (rw c.in-Asks.is at c.retry_row.ensures) in
+    retries-asks g.R.Recorder.log g.L.Link c.args.timeout c.args.i s x.0 x.1 c.in-Some.head
+    (sym own) (sym row) _ _ _ _ _ c.send_request.ensures.spoken
 
 pub returns-in-GivesUp-clause-spoken : goal.returns-in-GivesUp-clause-spoken
 returns-in-GivesUp-clause-spoken g c =
-    let xs = c.self.inside.store.clients in
-    let x = known-at xs c.args.i (rw (← c.self.view_is) at c.requires.known) in
-    let own = of-known (λ y. Some c.in-Some.head ≡ own_request y) xs c.args.i x.0 x.1
+    let s = timed_of c.args.self.now in
+    let x = known-at s.lists.clients c.args.i c.requires.known in
+    let own = of-known (λ y. Some c.in-Some.head ≡ own_request y) s.lists.clients c.args.i x.0 x.1
     (rw c.in-Some.is at c.own_request.ensures) in
     let row = of-known (λ (y : Client). GivesUp
-    ≡ retry_row c.self.inside.clock c.args.timeout y.sends y.sent_at) xs c.args.i x.0 x.1
-    (rw c.in-GivesUp.is at c.retry_row.ensures) in
-    rw (← c.self.view_is) (retries-over g.R.Recorder.log g.L.Link c.args.timeout c.args.i (timed_of (the_view c.self.inside))
-    x.0 x.1 c.in-Some.head (sym own) (sym row) _ _ _ _
-    (rw (← c.self.view_is) at c.give_up.ensures.makes))
+    ≡ retry_row s.clock c.args.timeout y.sends y.sent_at) s.lists.clients c.args.i x.0 x.1 (rw c.in-GivesUp.is at c.retry_row.ensures) in
+    retries-over g.R.Recorder.log g.L.Link c.args.timeout c.args.i s x.0 x.1 c.in-Some.head
+    (sym own) (sym row) _ _ _ _ c.give_up.ensures.makes

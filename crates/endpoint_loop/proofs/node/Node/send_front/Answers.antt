@@ -1,8 +1,20 @@
 use Rattle.std.proofs.Common.{ap}
-use Rattle.endpoint_loop.proofs.SentLemmas.{fits-sent, front-fewer, node-sent}
+use Rattle.endpoint_loop.proofs.SentLemmas.{fits-sent, front-fewer, front-there, node-sent}
 use Rattle.endpoint_loop.specs.Seen.{jobs_in}
 use Rattle.endpoint_loop.proofs.CallerLemmas.{covers-sent}
 use Rattle.endpoint_loop.proofs.node.Node.send_front.Goals as goal
+
+pub packet-body-requires : goal.packet-body-requires
+packet-body-requires g c = record {
+  some = front-there c.self.inside.clock c.in-Some.entry c.self.inside.store
+      (rw c.in-Some.is at c.front.ensures.front);
+}
+
+pub sent-requires : goal.sent-requires
+sent-requires g c = record {
+  some = front-there c.self.inside.clock c.in-Some.entry c.self.inside.store
+      (rw c.in-Some.is at c.front.ensures.front);
+}
 
 pub invariant_of-self : goal.invariant_of-self
 invariant_of-self g c =

@@ -3,6 +3,7 @@ use Rattle.endpoint_loop.specs.Noting.{MakesSent}
 use Rattle.rpc_laws.specs.PollOrder.{SendsSome}
 use Rattle.rpc_outside.specs.Linking.{NoneComes}
 use Rattle.endpoint_loop.specs.Handing.{timed_of}
+use Rattle.endpoint_loop.specs.Leaving.{LeavesServing}
 use Rattle.endpoint_loop.proofs.node.Node.send_ready.Given as goal
 
 abbrev pub invariant-packets : goal.invariant-packets
@@ -12,10 +13,8 @@ invariant-packets g l =
     × (g.L.Link.busies l.link ≡ g.L.Link.busies l.initial.link)
     × (g.L.Link.faults l.link ≡ g.L.Link.faults l.initial.link)
     × NoneComes g.L.Link.waiting g.L.Link.received l.initial.link l.link
-    × (l.self.lists.jobs ≡ l.initial.self.lists.jobs)
-    × (l.self.lists.servers ≡ l.initial.self.lists.servers)
+    × LeavesServing l.initial.self l.self
     × (length l.self.lists.queued ≤ length l.initial.self.lists.queued)
-    × (l.self.handed ≡ l.initial.self.handed)
 
 abbrev pub decreases-packets : goal.decreases-packets
 decreases-packets g l = length l.self.lists.queued

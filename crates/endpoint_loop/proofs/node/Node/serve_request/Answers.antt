@@ -19,7 +19,7 @@ returns-in_default-place_of_server-clause-serves g c =
     let front = rw (← c.self.view_is) at c.requires.front in
     let here = sym c.front.ensures ∙ ap option_copied c.in-Some.is in
     let made = rw (← c.self.view_is) at c.drop_front.ensures.drops in
-    let same = rw (← c.self.view_is) at c.drop_front.ensures.jobs in
+    let same = rw (← c.self.view_is) at c.drop_front.ensures.rest.jobs in
     rw (← c.self.view_is) (node-unknown c.self.inside.me c.self.inside.limits (record {
       asked = c.self.inside.asked;
       server_numbers = c.self.inside.server_numbers;
@@ -38,7 +38,7 @@ returns-then-ne-clause-serves g c =
     let front = rw (← c.self.view_is) at c.requires.front in
     let here = sym c.front.ensures ∙ ap option_copied c.in-Some.is in
     let made = rw (← c.self.view_is) at c.drop_front-then-ne.ensures.drops in
-    let same = rw (← c.self.view_is) at c.drop_front-then-ne.ensures.jobs in
+    let same = rw (← c.self.view_is) at c.drop_front-then-ne.ensures.rest.jobs in
     let place = sym c.place_of_server.ensures ∙ c.in-Some-place_of_server.is in
     let there = number-there c.args.head.now.session c.in-Some-place_of_server.i
     c.self.inside.store.servers place in

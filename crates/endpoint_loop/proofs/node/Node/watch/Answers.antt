@@ -1,7 +1,7 @@
 use Rattle.std.proofs.Common.{refl, arith, ◌∙◌, ◌+◌, ◌||◌, ap, ◌≡◌, length}
 use Rattle.rpc_laws.specs.ControlSteps.{TimesSession}
 use Rattle.rpc_laws.specs.Steps.{Visits}
-use Rattle.endpoint_loop.proofs.HandingLemmas.{gives-more, gives-none}
+use Rattle.endpoint_loop.proofs.LeavingLemmas.{timed-none, timed-then}
 use Rattle.endpoint_loop.proofs.NotingLemmas.{none-comes}
 use Rattle.endpoint_loop.proofs.TimesLemmas.{all-timed, times-none, times-up, times-visit}
 use Rattle.endpoint_loop.proofs.node.Node.watch.Goals as goal
@@ -10,11 +10,8 @@ pub sessions-init : goal.sessions-init
 sessions-init g c = (
   times-none g.R.Recorder.log g.K.Continuation.given g.L.Link (Visits (TimesSession c.self.inside.limits.timeout) 0) _ _ _
       _ (λ asks. (refl, refl)),
-  refl,
-  refl,
-  refl,
+  timed-none g.K.Continuation.given _ _,
   omega arith,
-  gives-none g.K.Continuation.given _ _,
   record { waits = refl; stays = refl },
   omega arith,
 )
@@ -28,16 +25,13 @@ sessions-preserved g c =
         sent = c.sessions.told.sent + c.watch_session-one.result.sent;
         failed = c.sessions.told.failed || c.watch_session-one.result.failed;
       }) (TimesSession c.self.inside.limits.timeout) c.in-Some.i
-          _ _ _ _ _ _ _ _ _ _ _ _ _ (omega arith) i.2 refl refl
+          _ _ _ _ _ _ _ _ _ _ _ _ _ (omega arith) i.1.me refl refl
           (times-up g.R.Recorder.log g.K.Continuation.given g.L.Link c.self.inside.limits.timeout c.sessions.from c.in-Some.i
           _ _ _ _ _ _ _ _ next.0 next.2 i.0) h.timed,
-      h.servers ∙ i.1,
-      h.me ∙ i.2,
-      h.jobs ∙ i.3,
+      timed-then g.K.Continuation.given _ _ _ _ _ _ i.1 h.rest,
       omega (arith, next.1),
-      gives-more g.K.Continuation.given _ _ _ _ _ _ i.5 h.handed,
-      none-comes g.L.Link.waiting g.L.Link.received _ _ _ i.6 h.lists,
-      omega (arith, i.7, h.few, next.0),
+      none-comes g.L.Link.waiting g.L.Link.received _ _ _ i.3 h.lists,
+      omega (arith, i.4, h.few, next.0),
     )
 
 pub returns-clause-timed : goal.returns-clause-timed
@@ -49,4 +43,4 @@ returns-clause-timed g c =
     all-timed g.R.Recorder.log g.K.Continuation.given g.L.Link c.self.inside.limits.timeout c.clients-count.result _ _ _ _ _ _
     _ _ (ap (λ t. t.lists.timeout) c.self.view_is) many
     (times-up g.R.Recorder.log g.K.Continuation.given g.L.Link c.self.inside.limits.timeout c.sessions.from
-    c.clients-count.result _ _ _ _ _ _ _ _ i.4 none i.0)
+    c.clients-count.result _ _ _ _ _ _ _ _ i.2 none i.0)

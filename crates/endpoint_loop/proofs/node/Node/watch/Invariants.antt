@@ -1,10 +1,10 @@
-use Rattle.std.proofs.Common.{◌≡◌, ◌≤◌, ◌-◌}
+use Rattle.std.proofs.Common.{◌≤◌, ◌-◌}
 use Rattle.rpc_laws.specs.ControlSteps.{TimesSession}
 use Rattle.rpc_laws.specs.Steps.{Visits}
 use Rattle.rpc_outside.specs.Linking.{NoneComes}
 use Rattle.endpoint_loop.specs.Watching.{MakesTimes}
 use Rattle.endpoint_loop.specs.Handing.{timed_of}
-use Rattle.endpoint_loop.specs.Handing.{GivesBackTo}
+use Rattle.endpoint_loop.specs.Leaving.{LeavesTimed}
 use Rattle.endpoint_loop.proofs.node.Node.watch.Given as goal
 
 abbrev pub invariant-sessions : goal.invariant-sessions
@@ -12,11 +12,8 @@ invariant-sessions g l =
     MakesTimes g.R.Recorder.log g.K.Continuation.given g.L.Link (Visits (TimesSession l.timeout) l.from)
     l.told (timed_of l.initial.self) (timed_of l.self) l.initial.rec l.rec l.initial.k l.k
     l.initial.link l.link
-    × (l.self.lists.servers ≡ l.initial.self.lists.servers)
-    × (l.self.lists.me ≡ l.initial.self.lists.me)
-    × (l.self.lists.jobs ≡ l.initial.self.lists.jobs)
+    × LeavesTimed g.K.Continuation.given l.initial.self l.self l.initial.k l.k
     × (l.from ≤ l.count)
-    × GivesBackTo g.K.Continuation.given l.initial.self.handed l.self.handed l.initial.k l.k
     × NoneComes g.L.Link.waiting g.L.Link.received l.initial.link l.link
     × (l.told.sent ≤ l.from)
 

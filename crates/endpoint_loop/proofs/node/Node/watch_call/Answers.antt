@@ -2,7 +2,7 @@ use Rattle.std.proofs.Common.{ap, subst}
 use Rattle.node_laws.specs.Valid.{NumberedFrom, client_no}
 use Rattle.endpoint_loop.proofs.WatchLemmas.{watch-breaks, watch-rolls, watch-waits}
 use Rattle.endpoint_loop.specs.Handing.{timed_of}
-use Rattle.endpoint_loop.proofs.HandingLemmas.{gives-none, gives-same}
+use Rattle.endpoint_loop.proofs.LeavingLemmas.{serving-timed, timed-none}
 use Rattle.std.proofs.Common.{refl}
 use Rattle.endpoint_loop.proofs.node.Node.watch_call.Goals as goal
 
@@ -38,9 +38,9 @@ returns-in-Breaks-clause-ended g c =
     g.K.Continuation.given _ _ _ _ _ (rw c.in-Breaks.is at c.timer.ensures)
     c.break_session.ensures.ended
 
-pub returns-in-Waits-clause-handed : goal.returns-in-Waits-clause-handed
-returns-in-Waits-clause-handed g c = gives-none g.K.Continuation.given _ _
+pub returns-in-Waits-clause-rest : goal.returns-in-Waits-clause-rest
+returns-in-Waits-clause-rest g c = timed-none g.K.Continuation.given _ _
 
-pub returns-in-RollsBack-clause-handed : goal.returns-in-RollsBack-clause-handed
-returns-in-RollsBack-clause-handed g c =
-    gives-same g.K.Continuation.given _ _ _ _ c.roll.ensures.handed refl
+pub returns-in-RollsBack-clause-rest : goal.returns-in-RollsBack-clause-rest
+returns-in-RollsBack-clause-rest g c =
+    serving-timed g.K.Continuation.given _ _ _ _ c.roll.ensures.rest refl

@@ -1,11 +1,11 @@
-use Rattle.std.proofs.Common.{ap, refl, ◌∙◌}
+use Rattle.std.proofs.Common.{ap}
 use Rattle.endpoint_loop.proofs.NextLemmas.{ascends-calls}
 use Rattle.endpoint_loop.proofs.WalkLemmas.{fewer-still, known-more, known-start, walk-more}
 use Rattle.endpoint_loop.proofs.WalkLemmas.{walk-over}
 use Rattle.endpoint_loop.proofs.WalkLemmas.{walk-start}
 use Rattle.endpoint_loop.proofs.WatchLemmas.{ends-same}
 use Rattle.endpoint_loop.specs.Handing.{timed_of}
-use Rattle.endpoint_loop.proofs.HandingLemmas.{gives-more, gives-none}
+use Rattle.endpoint_loop.proofs.LeavingLemmas.{timed-none, timed-then}
 use Rattle.endpoint_loop.proofs.node.Node.watch_calls.Goals as goal
 
 pub calls-init : goal.calls-init
@@ -13,10 +13,7 @@ calls-init g c = (
   walk-start g.R.Recorder.log g.K.Continuation.given c.args.timeout c.args.i _
       _ _,
   known-start c.args.i (timed_of c.args.self.now),
-  refl,
-  refl,
-  refl,
-  gives-none g.K.Continuation.given _ _,
+  timed-none g.K.Continuation.given _ _,
 )
 
 pub calls-smaller : goal.calls-smaller
@@ -28,7 +25,7 @@ calls-smaller g c =
     fewer-still g.R.Recorder.log g.K.Continuation.given c.args.timeout
     c.args.i c.calls.after (timed_of c.args.self.now) (timed_of c.calls.self)
     c.args.rec.now c.calls.rec c.args.k.now c.calls.k i.0 i.1 order
-    c.watch_next.ensures.order i.3 c.in-Some.call
+    c.watch_next.ensures.order i.2.me c.in-Some.call
     (timed_of c.watch_next.new.self) c.watch_next.new.rec c.watch_next.new.k looks.0 looks.1
 
 pub calls-preserved : goal.calls-preserved
@@ -40,19 +37,16 @@ calls-preserved g c =
       walk-more g.R.Recorder.log g.K.Continuation.given c.args.timeout
           c.args.i c.calls.after (timed_of c.args.self.now) (timed_of c.calls.self)
           c.args.rec.now c.calls.rec c.args.k.now c.calls.k i.0 i.1 order
-          c.watch_next.ensures.order i.3 c.in-Some.call
+          c.watch_next.ensures.order i.2.me c.in-Some.call
           (timed_of c.watch_next.new.self)
           c.watch_next.new.rec c.watch_next.new.k looks.0 looks.1,
       known-more g.R.Recorder.log g.K.Continuation.given c.args.timeout
           c.args.i c.calls.after (timed_of c.args.self.now) (timed_of c.calls.self)
           c.args.rec.now c.calls.rec c.args.k.now c.calls.k i.0 i.1 order
-          c.watch_next.ensures.order i.3 c.in-Some.call
+          c.watch_next.ensures.order i.2.me c.in-Some.call
           (timed_of c.watch_next.new.self)
           c.watch_next.new.rec c.watch_next.new.k looks.0 looks.1,
-      c.watch_next.ensures.servers ∙ i.2,
-      c.watch_next.ensures.me ∙ i.3,
-      c.watch_next.ensures.jobs ∙ i.4,
-      gives-more g.K.Continuation.given _ _ _ _ _ _ i.5 c.watch_next.ensures.handed,
+      timed-then g.K.Continuation.given _ _ _ _ _ _ i.2 c.watch_next.ensures.rest,
     )
 
 pub returns-clause-ended : goal.returns-clause-ended
@@ -64,6 +58,6 @@ returns-clause-ended g c =
     (walk-over g.R.Recorder.log g.K.Continuation.given c.args.timeout c.args.i
     c.calls.after _ _ _ _ _ _ i.0 looks.0)
 
-pub returns-clause-handed : goal.returns-clause-handed
-returns-clause-handed g c =
-    gives-more g.K.Continuation.given _ _ _ _ _ _ c.calls.invariant.5 c.watch_next.ensures.handed
+pub returns-clause-rest : goal.returns-clause-rest
+returns-clause-rest g c =
+    timed-then g.K.Continuation.given _ _ _ _ _ _ c.calls.invariant.2 c.watch_next.ensures.rest

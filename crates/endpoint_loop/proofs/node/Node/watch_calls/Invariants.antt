@@ -1,9 +1,9 @@
-use Rattle.std.proofs.Common.{◌≡◌, length}
+use Rattle.std.proofs.Common.{length}
 use Rattle.endpoint_loop.specs.Noting.{MakesEnds}
 use Rattle.endpoint_loop.specs.Watching.{calls_at}
 use Rattle.endpoint_loop.proofs.WalkLemmas.{Known, Walked, still}
 use Rattle.endpoint_loop.specs.Handing.{timed_of}
-use Rattle.endpoint_loop.specs.Handing.{GivesBackTo}
+use Rattle.endpoint_loop.specs.Leaving.{LeavesTimed}
 use Rattle.endpoint_loop.proofs.node.Node.watch_calls.Given as goal
 
 abbrev pub invariant-calls : goal.invariant-calls
@@ -11,10 +11,7 @@ invariant-calls g l =
     MakesEnds g.R.Recorder.log g.K.Continuation.given
     (Walked l.timeout l.i l.after) (timed_of l.initial.self) (timed_of l.self) l.initial.rec l.rec l.initial.k l.k
     × Known l.i (timed_of l.initial.self) (timed_of l.self)
-    × (l.self.lists.servers ≡ l.initial.self.lists.servers)
-    × (l.self.lists.me ≡ l.initial.self.lists.me)
-    × (l.self.lists.jobs ≡ l.initial.self.lists.jobs)
-    × GivesBackTo g.K.Continuation.given l.initial.self.handed l.self.handed l.initial.k l.k
+    × LeavesTimed g.K.Continuation.given l.initial.self l.self l.initial.k l.k
 
 abbrev pub decreases-calls : goal.decreases-calls
 decreases-calls g l = length (still l.after (calls_at l.i (timed_of l.initial.self)))

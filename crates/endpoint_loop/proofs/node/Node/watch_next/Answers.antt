@@ -3,7 +3,7 @@ use Rattle.std.specs.Prelude.{slice_get}
 use Rattle.rpc_laws.specs.declared.tables.Client.{Client}
 use Rattle.endpoint_loop.proofs.NextLemmas.{active-of, ascends-calls, next-calls, next-none}
 use Rattle.endpoint_loop.proofs.NextLemmas.{number-none, number-some}
-use Rattle.endpoint_loop.proofs.HandingLemmas.{gives-none}
+use Rattle.endpoint_loop.proofs.LeavingLemmas.{timed-none}
 use Rattle.endpoint_loop.proofs.node.Node.watch_next.Goals as goal
 
 pub returns-in_default-clause-looks : goal.returns-in_default-clause-looks
@@ -69,8 +69,8 @@ returns-clause-order g c =
     ascends-calls c.args.i c.self.inside.store.clients c.args.self.now.lists.clients
     (ap (λ t. t.lists.clients) c.self.view_is) c.self.invariant.0.ascends
 
-pub returns-then-i-clients-clause-handed : goal.returns-then-i-clients-clause-handed
-returns-then-i-clients-clause-handed g c = gives-none g.K.Continuation.given _ _
+pub returns-then-i-clients-clause-rest : goal.returns-then-i-clients-clause-rest
+returns-then-i-clients-clause-rest g c = timed-none g.K.Continuation.given _ _
 
-pub returns-in_default-clause-handed : goal.returns-in_default-clause-handed
-returns-in_default-clause-handed g c = gives-none g.K.Continuation.given _ _
+pub returns-in_default-clause-rest : goal.returns-in_default-clause-rest
+returns-in_default-clause-rest g c = timed-none g.K.Continuation.given _ _

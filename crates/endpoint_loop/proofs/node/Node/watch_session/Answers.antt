@@ -1,6 +1,7 @@
-use Rattle.std.proofs.Common.{ap, arith, length, ◌≤◌}
+use Rattle.std.proofs.Common.{ap, arith, length, refl, rules, ◌≤◌}
 use Rattle.rpc_laws.specs.ControlSteps.{TimesSession}
-use Rattle.endpoint_loop.proofs.HandingLemmas.{gives-none}
+use Rattle.endpoint_loop.specs.Leaving.{LeavesServing}
+use Rattle.endpoint_loop.proofs.LeavingLemmas.{serving-timed, timed-none, timed-then}
 use Rattle.endpoint_loop.proofs.TimesLemmas.{session-times, times-none}
 use Rattle.endpoint_loop.proofs.WatchLemmas.{session-none}
 use Rattle.endpoint_loop.proofs.node.Node.watch_session.Goals as goal
@@ -17,13 +18,17 @@ returns-then-i-clients-clause-timed g c =
     times-none g.R.Recorder.log g.K.Continuation.given g.L.Link (TimesSession c.args.timeout c.args.i) _ _ _ _
     (λ asks. session-none c.args.timeout c.args.i _ past)
 
-pub returns-then-i-clients-clause-handed : goal.returns-then-i-clients-clause-handed
-returns-then-i-clients-clause-handed g c = gives-none g.K.Continuation.given _ _
+pub returns-then-i-clients-clause-rest : goal.returns-then-i-clients-clause-rest
+returns-then-i-clients-clause-rest g c = timed-none g.K.Continuation.given _ _
 
 pub returns-clause-timed : goal.returns-clause-timed
 returns-clause-timed g c =
+    let left : LeavesServing c.args.self.now c.retry-went.new.self = search rules in
     session-times g.R.Recorder.log g.K.Continuation.given g.L.Link c.args.timeout c.args.i _ _ _ _ _ _ _ _ _ _
-    c.retry-went.ensures.me c.retry-went.ensures.spoken c.watch_calls.ensures.ended
+    left.me c.retry-went.ensures.spoken c.watch_calls.ensures.ended
 
-pub returns-clause-handed : goal.returns-clause-handed
-returns-clause-handed g c = rw (← c.retry-went.ensures.handed) c.watch_calls.ensures.handed
+pub returns-clause-rest : goal.returns-clause-rest
+returns-clause-rest g c =
+    let left : LeavesServing c.args.self.now c.retry-went.new.self = search rules in
+    timed-then g.K.Continuation.given _ _ _ _ _ _ (serving-timed g.K.Continuation.given _ _ _ _
+    left refl) c.watch_calls.ensures.rest

@@ -4,7 +4,7 @@ use Rattle.rpc_base.proofs.TablesLemmas.{find-missing}
 use Rattle.rpc_laws.specs.Requests.{is_server}
 use Rattle.session_store.specs.declared.server.ServerEnd.{ServerEnd}
 use Rattle.endpoint_loop.proofs.NamedLemmas.{ends-here, named-missing, other-client, other-peer}
-use Rattle.endpoint_loop.proofs.node.Node.place_of_named.Goals as goal
+use Rattle.endpoint_loop.proofs.node.Node.place_of.Goals as goal
 
 pub returns-in_err-i-clause-missing : goal.returns-in_err-i-clause-missing
 returns-in_err-i-clause-missing g c =
