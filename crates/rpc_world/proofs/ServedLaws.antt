@@ -23,7 +23,7 @@ use Rattle.stall_laws.specs.NoStall.{NoStall}
 use Rattle.stall_laws.proofs.StallLaw.{no-stall}
 use Rattle.world_laws.proofs.FewLemmas.{script-few}
 use Rattle.world_laws.proofs.NodeLaws.{script-each}
-use Rattle.world_laws.proofs.RequestLaws.{requests-tell}
+use Rattle.world_laws.proofs.TableLaws.{tables-tell}
 use Rattle.world_laws.specs.Laws.{EndTells}
 
 -- the history of a script is lawful
@@ -56,6 +56,6 @@ follows-no-stall script h is follows =
 pub follows-one : (script : List Line) (h : List Fact) → Follows script h → (g : List Fact) → Follows script g → g ≡ h
 follows-one script h follows = λ g other. one-history script g h other follows
 
--- at the end the tables of requests say what the facts tell
+-- at the end the tables say what the facts tell
 pub follows-requests : (script : List Line) (h : List Fact) → IsScript script → EndTells script h
-follows-requests script h is = requests-tell script h (script-two script is) (script-few script is)
+follows-requests script h is = tables-tell script h (script-two script is) (script-few script is)

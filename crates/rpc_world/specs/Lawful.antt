@@ -4,7 +4,6 @@ use Rattle.node_laws.specs.CreditBalance.{Credit}
 use Rattle.node_laws.specs.EndedCalls.{EndsClean}
 use Rattle.node_laws.specs.EndedSessions.{SessionsEndClean}
 use Rattle.node_laws.specs.OlderRequests.{BeginsClean}
-use Rattle.node_laws.specs.SendsOwn.{SendsOwn}
 use Rattle.node_laws.specs.UsedOnce.{UsedOnce}
 use Rattle.one_history.specs.NetFacts.{AllOfNet}
 use Rattle.report_text.specs.Told.{AllTold}
@@ -12,7 +11,7 @@ use Rattle.ring_laws.specs.CalmRing.{MessagesFit}
 use Rattle.rpc_base.specs.declared.fact.Fact.{Fact}
 use Rattle.rpc_laws.specs.AtMostOnce.{Once}
 use Rattle.rpc_laws.specs.OwnAnswer.{Own}
-use Rattle.world_laws.specs.Laws.{EachNode, KeepsRing}
+use Rattle.world_laws.specs.Laws.{EachNode, KeepsRing, SendsOwnPackets}
 use Rattle.world_laws.specs.NodeFacts.{facts_of, Runs}
 use Rattle.world_laws.specs.OneCall.{OneCall}
 
@@ -44,6 +43,6 @@ pub record Lawful (h : List Fact) : Type 0 where
   -- where a server session ends no reply of it is queued, and none is posted later
   pub sessions_clean : EachNode (SessionsEndClean []) h
   -- each packet goes to its session's peer, and is the one that its owner has by its node's tables
-  pub sends_own : EachNode SendsOwn h
+  pub sends_own : EachNode SendsOwnPackets h
   -- each fact has just the bytes that its line shows
   pub told : AllTold h

@@ -3,7 +3,7 @@ ghost use Rattle.std.specs.Prelude.{◌≡◌, ◌≢◌, ◌<◌, ◌≤◌, �
 ghost use Rattle.std.specs.Prelude.{OnOk};
 ghost use Rattle.rpc_laws.specs.Facts.{plain};
 ghost use Rattle.rpc_laws.specs.Groups.{pair_refusal};
-ghost use Rattle.session_mgmt.specs.Table.{refused};
+ghost use Rattle.session_mgmt.specs.Refusals.{refused};
 ghost use Rattle.sim_script.specs.FollowsScript.{Pairs};
 ghost use Rattle.rpc_world.specs.Performed.{Performed, AsksServer, NotesRefusal};
 ghost use Rattle.rpc_world.specs.Performed.{TakesEnd, TakesEnds};

@@ -3,7 +3,7 @@ use Rattle.rpc_base.specs.declared.event.Event.TheVariants.{PairedClient, Paired
 use Rattle.rpc_world.specs.Answered.{End}
 use Rattle.rpc_world.proofs.PairLemmas.{client-made, ends-by, fits-other, fits-own, fits-unspent}
 use Rattle.rpc_world.proofs.PairLemmas.{notes-end, same-end, server-made, still-end}
-use Rattle.session_mgmt.specs.Table.{refused}
+use Rattle.session_mgmt.specs.Refusals.{refused}
 use Rattle.rpc_world.proofs.StepLemmas.{grew-facts}
 use Rattle.rpc_world.proofs.pairing.make_ends.Goals as goal
 
