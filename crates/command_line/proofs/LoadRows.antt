@@ -5,6 +5,7 @@ use Rattle.clap.specs.Words.{Text}
 use Rattle.script_grammar.specs.Numbers.{is_numeral, value_of}
 use Rattle.command_line.specs.Numbers.{number_in, type_at}
 use Rattle.command_line.specs.Tasks.{load_in, taken, task_of}
+use Rattle.command_line.specs.declared.task.Idle.TheVariants.{Sleep, Spin}
 use Rattle.command_line.specs.declared.task.Task.TheVariants.{Load}
 
 abbrev words : (type : Text) → List Text → List Text
@@ -21,6 +22,9 @@ load_is_taken : task_of (words (codes "130") [])
       seed = 0;
       turns = 3;
       bind = codes "127.0.0.1:0";
+      frame = None;
+      timeout = 5000;
+      idle = Sleep;
     }))
 unfolding clap_on_literals task_of load_in taken number_in type_at is_numeral value_of
 load_is_taken = refl
@@ -34,6 +38,9 @@ bind_is_taken : task_of (words (codes "1") (codes "--bind" ∷ codes "b:0" ∷ [
       seed = 0;
       turns = 3;
       bind = codes "b:0";
+      frame = None;
+      timeout = 5000;
+      idle = Sleep;
     }))
 unfolding clap_on_literals task_of load_in taken number_in type_at is_numeral value_of
 bind_is_taken = refl
@@ -45,3 +52,24 @@ no_such_type = refl
 all_are_needed : task_of (codes "load" ∷ codes "a:7" ∷ []) ≡ None
 unfolding clap_on_literals task_of load_in taken number_in type_at is_numeral value_of
 all_are_needed = refl
+
+waiting_is_taken : task_of (words (codes "1") (codes "--frame" ∷ codes "1452" ∷ codes "--spin"
+    ∷ codes "--timeout" ∷ codes "100" ∷ []))
+    ≡ Some (Load (record {
+      addr = codes "a:7";
+      calls = 2;
+      req_type = 1;
+      size = 64;
+      seed = 0;
+      turns = 3;
+      bind = codes "127.0.0.1:0";
+      frame = Some 1452;
+      timeout = 100;
+      idle = Spin;
+    }))
+unfolding clap_on_literals task_of load_in taken number_in type_at is_numeral value_of
+waiting_is_taken = refl
+
+short_frame : task_of (words (codes "1") (codes "--frame" ∷ codes "1087" ∷ [])) ≡ None
+unfolding clap_on_literals task_of load_in taken number_in type_at is_numeral value_of
+short_frame = refl

@@ -4,10 +4,11 @@ use Rattle.clap.proofs.OnLiterals.{clap_on_literals}
 use Rattle.script_grammar.specs.Numbers.{is_numeral, value_of}
 use Rattle.command_line.specs.Numbers.{number_in}
 use Rattle.command_line.specs.Tasks.{serve_in, taken, task_of}
+use Rattle.command_line.specs.declared.task.Idle.TheVariants.{Sleep, Spin}
 use Rattle.command_line.specs.declared.task.Task.TheVariants.{Serve}
 
 serve_is_taken : task_of (codes "serve" ∷ codes "a:7" ∷ codes "--turns" ∷ codes "3" ∷ [])
-    ≡ Some (Serve (record { addr = codes "a:7"; turns = 3; workers = 0 }))
+    ≡ Some (Serve (record { addr = codes "a:7"; turns = 3; workers = 0; timeout = 5000; idle = Sleep }))
 unfolding clap_on_literals task_of serve_in taken number_in is_numeral value_of
 serve_is_taken = refl
 
@@ -22,7 +23,7 @@ turns_stand_once = refl
 
 workers_are_taken : task_of (codes "serve" ∷ codes "--workers" ∷ codes "16" ∷ codes "a:7"
     ∷ codes "--turns" ∷ codes "3" ∷ [])
-    ≡ Some (Serve (record { addr = codes "a:7"; turns = 3; workers = 16 }))
+    ≡ Some (Serve (record { addr = codes "a:7"; turns = 3; workers = 16; timeout = 5000; idle = Sleep }))
 unfolding clap_on_literals task_of serve_in taken number_in is_numeral value_of
 workers_are_taken = refl
 
@@ -30,3 +31,20 @@ few_workers : task_of (codes "serve" ∷ codes "a:7" ∷ codes "--turns" ∷ cod
     ∷ codes "--workers" ∷ codes "17" ∷ []) ≡ None
 unfolding clap_on_literals task_of serve_in taken number_in is_numeral value_of
 few_workers = refl
+
+waiting_is_taken : task_of (codes "serve" ∷ codes "a:7" ∷ codes "--spin" ∷ codes "--turns"
+    ∷ codes "3" ∷ codes "--timeout" ∷ codes "1000000" ∷ [])
+    ≡ Some (Serve (record {
+      addr = codes "a:7";
+      turns = 3;
+      workers = 0;
+      timeout = 1000000;
+      idle = Spin;
+    }))
+unfolding clap_on_literals task_of serve_in taken number_in is_numeral value_of
+waiting_is_taken = refl
+
+short_timeout : task_of (codes "serve" ∷ codes "a:7" ∷ codes "--turns" ∷ codes "3"
+    ∷ codes "--timeout" ∷ codes "99" ∷ []) ≡ None
+unfolding clap_on_literals task_of serve_in taken number_in is_numeral value_of
+short_timeout = refl

@@ -31,6 +31,7 @@ ReadsText (Err error) said = IsNone error said
 abbrev pub IsServeInRange : ServeWords → Type 0
 IsServeInRange words =
     (1 ≤ words.turns) × (words.turns ≤ 4294967295) × (words.workers ≤ 16)
+    × (100 ≤ words.timeout) × (words.timeout ≤ 1000000)
 
 -- the numbers of `load` are in their ranges, and the type in its list
 pub record IsLoadInRange (words : LoadWords) : Type 0 where
@@ -41,6 +42,8 @@ pub record IsLoadInRange (words : LoadWords) : Type 0 where
   pub most_seed : words.seed ≤ 4294967295
   pub some_turns : 1 ≤ words.turns
   pub most_turns : words.turns ≤ 4294967295
+  pub least_timeout : 100 ≤ words.timeout
+  pub most_timeout : words.timeout ≤ 1000000
 
 -- the numbers of a task are in their ranges
 abbrev pub IsInRange : Task → Type 0

@@ -1,8 +1,11 @@
 -- Numbers and texts among the words.
 use Rattle.std.specs.Prelude.{ℕ, ◌==◌, ◌&&◌, Bool, nat_le, List, [], ◌∷◌, Option, Some, None}
-use Rattle.std.specs.Prelude.{codes, option_and_then, if◌then◌else◌}
+use Rattle.std.specs.Prelude.{codes, option_and_then, option_map, if◌then◌else◌}
 use Rattle.std.specs.List.{list_any}
+use Rattle.std.specs.Str.{bytes_eq}
 use Rattle.clap.specs.Words.{Row, Text, first_of}
+use Rattle.command_line.specs.declared.task.Idle.{Idle}
+use Rattle.command_line.specs.declared.task.Idle.TheVariants.{Sleep, Spin}
 use Rattle.script_grammar.specs.Numbers.{is_numeral, value_of}
 
 -- the number that a text spells in decimal, without sign and without leading zeros, in its range
@@ -14,6 +17,22 @@ number_in low high text =
 -- the number that is the value of an argument
 abbrev pub number_at : (low high : ℕ) → Text → List Row → Option ℕ
 number_at low high id rows = option_and_then (λ text. number_in low high text) (first_of id rows)
+
+-- the same of an argument that may be left out: none where it is
+abbrev pub number_if : (low high : ℕ) → Option Text → Option (Option ℕ)
+number_if low high None = Some None
+number_if low high (Some text) = option_map (λ number. Some number) (number_in low high text)
+
+abbrev pub some_number_at : (low high : ℕ) → Text → List Row → Option (Option ℕ)
+some_number_at low high id rows = number_if low high (first_of id rows)
+
+-- an idle run turns on where `--spin` is given, and sleeps where it isn't
+abbrev pub idle_by : Option Text → Idle
+idle_by None = Sleep
+idle_by (Some text) = if bytes_eq text (codes "true") then Spin else Sleep
+
+abbrev pub idle_at : List Row → Idle
+idle_at rows = idle_by (first_of (codes "spin") rows)
 
 -- the request types that `load` may ask
 abbrev pub is_type : ℕ → Bool

@@ -5,7 +5,7 @@ use Rattle.std.specs.Str.{bytes_eq}
 use Rattle.clap.specs.Words.{App, Row, Text, fault_of, first_of, matches_of}
 use Rattle.command_line.specs.declared.task.Task.{Task}
 use Rattle.command_line.specs.declared.task.Task.TheVariants.{Sim, Drill, Serve, Load}
-use Rattle.command_line.specs.Numbers.{number_at, type_at}
+use Rattle.command_line.specs.Numbers.{idle_at, number_at, some_number_at, type_at}
 use Rattle.command_line.specs.Rows.{drill_row, load_row, serve_row, sim_row}
 
 -- the matches of a simple command, where it takes the words: no step of reading them fails
@@ -29,19 +29,28 @@ drill_of_rows rows =
 unfoldable pub drill_in : List Text → Option Task
 drill_in words = given (taken drill_row words) drill_of_rows
 
--- ADDR, --turns from 1 to 2^32 - 1, and --workers up to 16
+-- ADDR, --turns from 1 to 2^32 - 1, --workers up to 16, --timeout from 100 to 1,000,000
+-- microseconds, and --spin
 abbrev pub serve_of_rows : List Row → Option Task
 serve_of_rows rows =
     given (first_of (codes "ADDR") rows) (λ addr.
     given (number_at 1 4294967295 (codes "turns") rows) (λ turns.
     given (number_at 0 16 (codes "workers") rows) (λ workers.
-    Some (Serve (record { addr = addr; turns = turns; workers = workers })))))
+    given (number_at 100 1000000 (codes "timeout") rows) (λ timeout.
+    Some (Serve (record {
+      addr = addr;
+      turns = turns;
+      workers = workers;
+      timeout = timeout;
+      idle = idle_at rows;
+    }))))))
 
 unfoldable pub serve_in : List Text → Option Task
 serve_in words = given (taken serve_row words) serve_of_rows
 
 -- ADDR, --calls from 1 to 1,000,000, --type in its list, --size up to 1,048,576, --seed from 0 and
--- --turns from 1 up to 2^32 - 1, and --bind
+-- --turns from 1 up to 2^32 - 1, --bind, --frame from 1,088 to 65,507 bytes or none, --timeout from
+-- 100 to 1,000,000 microseconds, and --spin
 abbrev pub load_of_rows : List Row → Option Task
 load_of_rows rows =
     given (first_of (codes "ADDR") rows) (λ addr.
@@ -51,6 +60,8 @@ load_of_rows rows =
     given (number_at 0 4294967295 (codes "seed") rows) (λ seed.
     given (number_at 1 4294967295 (codes "turns") rows) (λ turns.
     given (first_of (codes "bind") rows) (λ bind.
+    given (some_number_at 1088 65507 (codes "frame") rows) (λ frame.
+    given (number_at 100 1000000 (codes "timeout") rows) (λ timeout.
     Some (Load (record {
       addr = addr;
       calls = calls;
@@ -59,7 +70,10 @@ load_of_rows rows =
       seed = seed;
       turns = turns;
       bind = bind;
-    })))))))))
+      frame = frame;
+      timeout = timeout;
+      idle = idle_at rows;
+    })))))))))))
 
 unfoldable pub load_in : List Text → Option Task
 load_in words = given (taken load_row words) load_of_rows

@@ -1,11 +1,14 @@
 -- What the words of `serve` and `load` say, each text as its bytes.
-use Rattle.std.specs.Prelude.{ℕ}
+use Rattle.std.specs.Prelude.{ℕ, Option}
 use Rattle.clap.specs.Words.{Text}
+use Rattle.command_line.specs.declared.task.Idle.{Idle}
 
 pub record ServeWords : Type 0 where
   pub addr : Text
   pub turns : ℕ
   pub workers : ℕ
+  pub timeout : ℕ
+  pub idle : Idle
 
 pub record LoadWords : Type 0 where
   pub addr : Text
@@ -15,3 +18,6 @@ pub record LoadWords : Type 0 where
   pub seed : ℕ
   pub turns : ℕ
   pub bind : Text
+  pub frame : Option ℕ
+  pub timeout : ℕ
+  pub idle : Idle

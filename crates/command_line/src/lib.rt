@@ -2,6 +2,7 @@
 //! for. It knows nothing of what a subcommand does.
 #![tactic(auto)]
 
+mod idle;
 mod number;
 mod row;
 mod task;
@@ -9,6 +10,6 @@ mod telling;
 mod text;
 mod words;
 
-pub use task::{LoadSpec, ServeSpec, Task, WordsError};
+pub use task::{Idle, LoadSpec, ServeSpec, Task, WordsError};
 pub use telling::{complaint, usage};
 pub use words::read_words;

@@ -1,11 +1,12 @@
 //! The simple commands of the subcommands, by the kit's `clap`.
 ghost use Rattle.std.specs.Prelude.{◌≡◌, ◌≢◌, IfOk, codes, map, true, false};
 ghost use Rattle.std.specs.String.{string_bytes};
-ghost use Rattle.clap.specs.Words.{app_of, is_simple_and_free, rule_of};
+ghost use Rattle.clap.specs.Words.{app_of, is_simple_and_free, rule_of, with_rule};
 ghost use Rattle.clap.specs.declared.error.kind.ErrorKind.TheVariants.{OutOfMemory};
 ghost use Rattle.command_line.specs.Answers.{Takes};
-ghost use Rattle.command_line.specs.Rows.{drill_row, load_row, named, needed, optional, positional};
-ghost use Rattle.command_line.specs.Rows.{row, serve_row, sim_row, with_call};
+ghost use Rattle.command_line.specs.Rows.{drill_row, flag, load_row, named, needed, optional};
+ghost use Rattle.command_line.specs.Rows.{positional, row, serve_row, sim_row, with_call};
+ghost use Rattle.command_line.specs.Rows.{with_waiting, with_way};
 
 use crate::task::WordsError;
 use clap::error::ErrorKind;
@@ -20,28 +21,39 @@ fn positional<'a>(alloc: Global, id: &'a str) -> Arg<'a>
     Arg::new(alloc, id).action(ArgAction::Set).required(true)
 }
 
-/// An argument `--NAME VALUE`, which is not given twice.
-fn named<'a>(alloc: Global, name: &'a str) -> Arg<'a>
+/// An argument `--NAME VALUE`, which is not given twice; a user reads `value` for its value.
+fn named<'a>(alloc: Global, name: &'a str, value: &'a str) -> Arg<'a>
     ensures rule { rule_of result ≡ named name.entry.now }
     ensures local { result.global ≡ false }
 {
-    Arg::new(alloc, name).long(name).action(ArgAction::Set)
+    Arg::new(alloc, name)
+        .long(name)
+        .action(ArgAction::Set)
+        .value_name(value)
 }
 
 /// The same, which has to be given.
-fn needed<'a>(alloc: Global, name: &'a str) -> Arg<'a>
+fn needed<'a>(alloc: Global, name: &'a str, value: &'a str) -> Arg<'a>
     ensures rule { rule_of result ≡ needed name.entry.now }
     ensures local { result.global ≡ false }
 {
-    named(alloc, name).required(true)
+    named(alloc, name, value).required(true)
 }
 
 /// The same, with its value where it is not given.
-fn optional<'a>(alloc: Global, name: &'a str, default: &'a str) -> Arg<'a>
+fn optional<'a>(alloc: Global, name: &'a str, value: &'a str, default: &'a str) -> Arg<'a>
     ensures rule { rule_of result ≡ optional name.entry.now default.entry.now }
     ensures local { result.global ≡ false }
 {
-    named(alloc, name).default_value(default)
+    named(alloc, name, value).default_value(default)
+}
+
+/// An argument `--NAME`, which is not given twice and has no value.
+fn flag<'a>(alloc: Global, name: &'a str) -> Arg<'a>
+    ensures rule { rule_of result ≡ flag name.entry.now }
+    ensures local { result.global ≡ false }
+{
+    Arg::new(alloc, name).long(name).action(ArgAction::SetTrue)
 }
 
 /// A command that reads all of its words, with how it is called and what it does.
@@ -81,21 +93,31 @@ pub fn drill<'a>(alloc: Global) -> Result<Command<'a>, AllocError>
     Ok(command)
 }
 
-/// `serve ADDR --turns T [--workers W]`.
+/// The command with the options that say how a run waits.
+fn with_waiting<'a>(alloc: Global, command: Command<'a>) -> Result<Command<'a>, AllocError>
+    ensures { IfOk result (λ new. app_of new ≡ with_waiting (app_of command.entry)) }
+{
+    let command = command
+        .arg(optional(alloc, "timeout", "MICROSECONDS", "5000"))?
+        .arg(flag(alloc, "spin"))?;
+    Ok(command)
+}
+
+/// `serve ADDR --turns T [--workers W] [--timeout MICROSECONDS] [--spin]`.
 pub fn serve<'a>(alloc: Global) -> Result<Command<'a>, AllocError>
     ensures { IfOk result (λ command. app_of command ≡ serve_row) }
 {
     let command = row(
         alloc,
         "serve",
-        "erpc serve ADDR --turns T [--workers W]",
+        "erpc serve ADDR --turns T [--workers W] [--timeout MICROSECONDS] [--spin]",
         "answers calls that come to the UDP address ADDR, for T turns, with W threads for \
          background calls, and counts what happened",
     )
     .arg(positional(alloc, "ADDR"))?
-    .arg(needed(alloc, "turns"))?
-    .arg(optional(alloc, "workers", "0"))?;
-    Ok(command)
+    .arg(needed(alloc, "turns", "T"))?
+    .arg(optional(alloc, "workers", "W", "0"))?;
+    with_waiting(alloc, command)
 }
 
 /// The command with the arguments that say what a call of `load` is.
@@ -103,28 +125,48 @@ fn with_call<'a>(alloc: Global, command: Command<'a>) -> Result<Command<'a>, All
     ensures { IfOk result (λ new. app_of new ≡ with_call (app_of command.entry)) }
 {
     let command = command
-        .arg(needed(alloc, "calls"))?
-        .arg(needed(alloc, "type"))?
-        .arg(needed(alloc, "size"))?
-        .arg(needed(alloc, "seed"))?;
+        .arg(needed(alloc, "calls", "N"))?
+        .arg(needed(alloc, "type", "Y"))?
+        .arg(needed(alloc, "size", "Z"))?
+        .arg(needed(alloc, "seed", "G"))?;
     Ok(command)
 }
 
-/// `load ADDR --calls N --type Y --size Z --seed G --turns T [--bind ADDR]`.
+/// The command with the options that say how the packets of `load` go.
+fn with_way<'a>(alloc: Global, command: Command<'a>) -> Result<Command<'a>, AllocError>
+    ensures { IfOk result (λ new. app_of new ≡ with_way (app_of command.entry)) }
+{
+    let command = command
+        .arg(optional(alloc, "bind", "ADDR", "127.0.0.1:0"))?
+        .arg(named(alloc, "frame", "BYTES"))?;
+    Ok(command)
+}
+
+/// The command with what says for how long `load` turns, how its packets go, and how it waits.
+fn with_turns<'a>(alloc: Global, command: Command<'a>) -> Result<Command<'a>, AllocError>
+    ensures { IfOk result (λ new. app_of new
+        ≡ with_waiting (with_way (with_rule (app_of command.entry) (needed (codes "turns"))))) }
+{
+    let command = command.arg(needed(alloc, "turns", "T"))?;
+    let command = with_way(alloc, command)?;
+    with_waiting(alloc, command)
+}
+
+/// `load ADDR --calls N --type Y --size Z --seed G --turns T [--bind ADDR] [--frame BYTES]
+/// [--timeout MICROSECONDS] [--spin]`.
 pub fn load<'a>(alloc: Global) -> Result<Command<'a>, AllocError>
     ensures { IfOk result (λ command. app_of command ≡ load_row) }
 {
     let command = row(
         alloc,
         "load",
-        "erpc load ADDR --calls N --type Y --size Z --seed G --turns T [--bind ADDR]",
+        "erpc load ADDR --calls N --type Y --size Z --seed G --turns T [--bind ADDR] \
+         [--frame BYTES] [--timeout MICROSECONDS] [--spin]",
         "asks N calls of the server at ADDR, and counts how they ended",
     )
     .arg(positional(alloc, "ADDR"))?;
-    let command = with_call(alloc, command)?
-        .arg(needed(alloc, "turns"))?
-        .arg(optional(alloc, "bind", "127.0.0.1:0"))?;
-    Ok(command)
+    let command = with_call(alloc, command)?;
+    with_turns(alloc, command)
 }
 
 /// What words that a command doesn't take are, by the kind of its error.

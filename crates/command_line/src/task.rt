@@ -4,6 +4,15 @@ use std::error::Error;
 use std::fmt;
 use std::marker::Model;
 
+/// What a run does where nothing comes for a while.
+#[derive(Clone, Copy, Debug, PartialEq, Eq)]
+pub enum Idle {
+    /// It waits for the next datagram, for a short time.
+    Sleep,
+    /// It goes on turning.
+    Spin,
+}
+
 /// The words of `serve`, read.
 #[derive(Debug, Drop)]
 pub struct ServeSpec {
@@ -13,6 +22,11 @@ pub struct ServeSpec {
     pub turns: u32,
     /// So many hands work its jobs, at most 16; where there are none, it works them by itself.
     pub workers: u8,
+    /// An unanswered packet is taken for lost after so many microseconds, 100 to 1,000,000; 5,000
+    /// where none were written.
+    pub timeout: u32,
+    /// What it does where nothing comes.
+    pub idle: Idle,
 }
 
 impl Model for ServeSpec {
@@ -25,6 +39,8 @@ impl Model for ServeSpec {
       addr = string_bytes spec.addr;
       turns = spec.turns;
       workers = spec.workers;
+      timeout = spec.timeout;
+      idle = spec.idle;
     } };
 }
 
@@ -46,6 +62,14 @@ pub struct LoadSpec {
     pub turns: u32,
     /// The client's own address, as it was written; `127.0.0.1:0` where none was.
     pub bind: String,
+    /// Packets to the server may go several in a datagram of at most so many bytes, 1,088 to
+    /// 65,507; each goes alone where none were written.
+    pub frame: Option<u32>,
+    /// An unanswered packet is taken for lost after so many microseconds, 100 to 1,000,000; 5,000
+    /// where none were written.
+    pub timeout: u32,
+    /// What it does where nothing comes.
+    pub idle: Idle,
 }
 
 impl Model for LoadSpec {
@@ -62,6 +86,9 @@ impl Model for LoadSpec {
       seed = spec.seed;
       turns = spec.turns;
       bind = string_bytes spec.bind;
+      frame = spec.frame;
+      timeout = spec.timeout;
+      idle = spec.idle;
     } };
 }
 

@@ -2,15 +2,17 @@
 use crate::number::{Number, TYPES, request_type};
 use crate::row::{drill, load, serve, sim};
 use crate::text::text_at;
-use crate::words::{CALLS, CALLS_OF_DRILL, SEED, SEED_OF_DRILL, SIZE, TURNS, WORKERS};
+use crate::words::{
+    CALLS, CALLS_OF_DRILL, FRAME, SEED, SEED_OF_DRILL, SIZE, TIMEOUT, TURNS, WORKERS,
+};
 use clap::{ArgMatches, Command, Error};
 use std::alloc::{AllocError, Global};
 
 const NUMBERS_OF_DRILL: [Number; 2] = [SEED_OF_DRILL, CALLS_OF_DRILL];
 
-const NUMBERS_OF_SERVE: [Number; 2] = [TURNS, WORKERS];
+const NUMBERS_OF_SERVE: [Number; 3] = [TURNS, WORKERS, TIMEOUT];
 
-const NUMBERS_OF_LOAD: [Number; 4] = [CALLS, SIZE, SEED, TURNS];
+const NUMBERS_OF_LOAD: [Number; 6] = [CALLS, SIZE, SEED, TURNS, TIMEOUT, FRAME];
 
 /// What `clap` says of words, in one line: its lines up to an empty one.
 fn first_paragraph(alloc: Global, error: &Error) -> Result<String, AllocError> {
@@ -39,6 +41,14 @@ fn known_types(alloc: Global) -> Result<String, AllocError> {
     Ok(text)
 }
 
+/// Whether the words give a value for a number that is none of its range, or leave one out that has
+/// to be given.
+fn is_wrong(number: &Number, matches: &ArgMatches<'_>) -> bool {
+    let may_be_left_out = number.id == "frame";
+    let is_left_out = may_be_left_out && text_at(matches, number.id).is_none();
+    !is_left_out && number.read(matches).is_none()
+}
+
 /// Which number is none of its range, or that the request type is none of its list.
 fn wrong_value(
     alloc: Global,
@@ -46,7 +56,7 @@ fn wrong_value(
     numbers: &[Number],
 ) -> Result<String, AllocError> {
     for number in numbers {
-        if number.read(matches).is_none() {
+        if is_wrong(number, matches) {
             let text = text_at(matches, number.id).unwrap_or("");
             let shown = number.shown;
             let low = number.low;

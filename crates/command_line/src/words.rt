@@ -1,13 +1,17 @@
 //! Words, and what they ask for.
-ghost use Rattle.std.specs.Prelude.{map, IfOk};
+ghost use Rattle.std.specs.Prelude.{◌≡◌, codes, map, IfOk};
 ghost use Rattle.std.specs.String.{string_bytes};
+ghost use Rattle.clap.specs.Words.{found_of, rows_of};
 ghost use Rattle.command_line.specs.Answers.{IsInRange, Reads};
+ghost use Rattle.command_line.specs.Numbers.{some_number_at};
 ghost use Rattle.command_line.specs.Tasks.{drill_in, load_in, serve_in, sim_in, task_of};
 
+use crate::idle::idle_of;
 use crate::number::{Number, request_type};
 use crate::row::{drill, load, serve, sim, take};
 use crate::task::{LoadSpec, ServeSpec, Task, WordsError};
-use crate::text::copy_at;
+use crate::text::{copy_at, text_at};
+use clap::ArgMatches;
 use drill_maker::MOST_CALLS;
 use std::alloc::Global;
 
@@ -61,6 +65,21 @@ pub const SEED: Number = Number {
     high: u32::MAX as u64,
 };
 
+/// `--timeout` of `serve` and `load`, in microseconds.
+pub const TIMEOUT: Number = Number {
+    id: "timeout",
+    shown: "--timeout",
+    low: 100,
+    high: 1_000_000,
+};
+/// `--frame` of `load`, in bytes.
+pub const FRAME: Number = Number {
+    id: "frame",
+    shown: "--frame",
+    low: 1_088,
+    high: 65_507,
+};
+
 #[tactic(auto, unfolding(crate::specs::Tasks::sim_in))]
 fn read_sim(alloc: Global, words: &[String]) -> Result<Task, WordsError>
     ensures value { Reads result (sim_in (map string_bytes words.now)) }
@@ -90,11 +109,27 @@ fn read_serve(alloc: Global, words: &[String]) -> Result<Task, WordsError>
     let addr = copy_at(alloc, &matches, "ADDR")?;
     let turns = TURNS.read(&matches).ok_or(WordsError::Usage)? as u32;
     let workers = WORKERS.read(&matches).ok_or(WordsError::Usage)? as u8;
+    let timeout = TIMEOUT.read(&matches).ok_or(WordsError::Usage)? as u32;
     Ok(Task::Serve(ServeSpec {
         addr,
         turns,
         workers,
+        timeout,
+        idle: idle_of(&matches),
     }))
+}
+
+// The frame that the words of `load` give, none where they leave it out; None where they give one
+// that is none of its range.
+fn frame_of(matches: &ArgMatches<'_>) -> Option<Option<u32>>
+    ensures { result ≡ some_number_at 1088 65507 (codes "frame")
+        (rows_of (found_of matches.now)) }
+{
+    if text_at(matches, "frame").is_none() {
+        return Some(None);
+    }
+    let bytes = FRAME.read(matches)? as u32;
+    Some(Some(bytes))
 }
 
 #[tactic(auto, unfolding(crate::specs::Tasks::load_in))]
@@ -110,6 +145,8 @@ fn read_load(alloc: Global, words: &[String]) -> Result<Task, WordsError>
     let seed = SEED.read(&matches).ok_or(WordsError::Usage)? as u32;
     let turns = TURNS.read(&matches).ok_or(WordsError::Usage)? as u32;
     let bind = copy_at(alloc, &matches, "bind")?;
+    let frame = frame_of(&matches).ok_or(WordsError::Usage)?;
+    let timeout = TIMEOUT.read(&matches).ok_or(WordsError::Usage)? as u32;
     Ok(Task::Load(LoadSpec {
         addr,
         calls,
@@ -118,6 +155,9 @@ fn read_load(alloc: Global, words: &[String]) -> Result<Task, WordsError>
         seed,
         turns,
         bind,
+        frame,
+        timeout,
+        idle: idle_of(&matches),
     }))
 }
 
