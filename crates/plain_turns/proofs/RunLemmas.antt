@@ -13,7 +13,7 @@ use Rattle.rpc_outside.specs.Ticking.{Gives}
 use Rattle.server_core.proofs.FlushLemmas.{grew-none, grew-then}
 use Rattle.endpoint_loop.specs.Standing.{GoesOn}
 use Rattle.plain_turns.specs.PlainTurns.{End, GoesOnBy, RunsOn, Stands, TellsTurn}
-use Rattle.plain_turns.specs.PlainTurns.{usual_limits, crew_members}
+use Rattle.plain_turns.specs.PlainTurns.{crew_members}
 
 module _ {R : Type 0} (log : R → Log) where
   -- nothing was noted
@@ -21,7 +21,7 @@ module _ {R : Type 0} (log : R → Log) where
   goes-none a f = record {
     noted = [];
     grew = grew-none log f;
-    goes_on = λ past s. subst (λ z. Stands z a) (sym (append-nil past)) s;
+    goes_on = λ limits past s. subst (λ z. Stands limits z a) (sym (append-nil past)) s;
   }
 
   -- facts of a call that keeps the node's number
@@ -31,8 +31,8 @@ module _ {R : Type 0} (log : R → Log) where
   goes-by a b f g me h = record {
     noted = h.noted;
     grew = h.grew;
-    goes_on = λ past s.
-        record { node = me ∙ s.node; runs = h.goes_on usual_limits past s.runs };
+    goes_on = λ limits past s.
+        record { node = me ∙ s.node; runs = h.goes_on limits past s.runs };
   }
 
   -- facts, and then further ones
@@ -41,9 +41,9 @@ module _ {R : Type 0} (log : R → Log) where
   goes-then a b c f g h p q = record {
     noted = p.noted ++ q.noted;
     grew = grew-then log f g h p.noted q.noted p.grew q.grew;
-    goes_on = λ past s.
-        subst (λ z. Stands z c) (append_assoc past p.noted q.noted)
-        (q.goes_on (past ++ p.noted) (p.goes_on past s));
+    goes_on = λ limits past s.
+        subst (λ z. Stands limits z c) (append_assoc past p.noted q.noted)
+        (q.goes_on limits (past ++ p.noted) (p.goes_on limits past s));
   }
 
 module _ {R C : Type 0} (log : R → Log) (gave : C → List ℕ → Type 0) where
@@ -53,7 +53,7 @@ module _ {R C : Type 0} (log : R → Log) (gave : C → List ℕ → Type 0) whe
   unfolding goes-none
   none-made sent clock e f = record {
     goes = goes-none log e f;
-    sends = λ past s. took-none sent;
+    sends = λ limits past s. took-none sent;
     times = [];
     count = refl;
     ticks = λ before h. subst (gave clock) (sym (append-nil before)) h;
@@ -68,9 +68,9 @@ module _ {R C : Type 0} (log : R → Log) (gave : C → List ℕ → Type 0) whe
   unfolding goes-then
   runs-then sent mid then_sent clock via then_clock a b c f g h n m p q = record {
     goes = goes-then log a b c f g h p.goes q.goes;
-    sends = λ past s.
-        q.sends (past ++ p.goes.noted) (p.goes.goes_on past s)
-        ∙ ap (option_map (λ ds. ds ++ sent_of q.goes.noted)) (p.sends past s)
+    sends = λ limits past s.
+        q.sends limits (past ++ p.goes.noted) (p.goes.goes_on limits past s)
+        ∙ ap (option_map (λ ds. ds ++ sent_of q.goes.noted)) (p.sends limits past s)
         ∙ took-then sent (sent_of p.goes.noted) (sent_of q.goes.noted)
         ∙ ap (λ x. option_map (λ ds. ds ++ x) sent) (sym (sent-append p.goes.noted q.goes.noted));
     times = p.times ++ q.times;
@@ -87,7 +87,7 @@ module _ {R C : Type 0} (log : R → Log) (gave : C → List ℕ → Type 0) whe
       → RunsOn log gave sent then_sent clock then_clock a b f g 1
   one-made given sent then_sent clock then_clock a b f g from to now turn tick = record {
     goes = turn.goes;
-    sends = λ past s. (turn.told past s).sends;
+    sends = λ limits past s. (turn.told limits past s).sends;
     times = now ∷ [];
     count = refl;
     ticks = tick;

@@ -1,7 +1,7 @@
 -- What a turn of a run tells: its facts, and what they say of the link and of the calls that ended.
 use Rattle.std.proofs.Common.{◌≡◌, ℕ, Bool, true, false, cond, ltb, Option, List, [], ◌∷◌, ◌++◌}
 use Rattle.std.proofs.Common.{length, refl, sym, ap, ap₂, ◌∙◌, subst, arith, append_assoc, append-nil}
-use Rattle.std.specs.Prelude.{map, option_map}
+use Rattle.std.specs.Prelude.{IsTrue, ◌↔◌, map, option_map}
 use Rattle.std.specs.List.{filter}
 use Rattle.endpoint_loop.specs.PlainMembers.{plain_members}
 use Rattle.endpoint_loop.specs.Finishing.{staff_of}
@@ -43,7 +43,11 @@ use Rattle.server_core.proofs.FlushLemmas.{grew-then}
 use Rattle.worker_crew.specs.Crews.{CrewState}
 use Rattle.worker_crew.specs.Dispatching.{jobs_in}
 use Rattle.plain_turns.specs.PlainTurns.{End, Stands, TakesTurn, TellsMore, TellsTurn}
-use Rattle.plain_turns.specs.PlainTurns.{usual_limits, crew_members}
+use Rattle.plain_turns.specs.PlainTurns.{crew_members}
+use Rattle.plain_turns.specs.Resting.{CountsIf, CountsTurn, Rests, is_asleep}
+use Rattle.plain_turns.specs.declared.rest.Rest.{Rest}
+use Rattle.endpoint_loop.specs.Reading.{IsQuiet}
+use Rattle.rpc_laws.specs.declared.tables.Lists.{Lists}
 
 module _ (v : Serving) (me : ℕ) (limits : Limits) where
   -- a run, and then a group that runs and works nothing
@@ -139,9 +143,10 @@ module _ {R : Type 0} (log : R → Log) (came : List Carried) (a b : End)
   takes-me = me-delivers came (told (jobs_in a.workers.dispatching) a.timed) h.delivers.noted
       (told (jobs_in a.workers.dispatching) b.timed) takes-step
 
-  takes-stands : (past : List Fact) → Stands past a → Stands (past ++ h.delivers.noted) b
-  takes-stands past s =
-      let run = run-delivers plain_serving a.timed.lists.me usual_limits came past h.delivers.noted
+  takes-stands : (limits : Limits) → (past : List Fact) → Stands limits past a
+      → Stands limits (past ++ h.delivers.noted) b
+  takes-stands limits past s =
+      let run = run-delivers plain_serving a.timed.lists.me limits came past h.delivers.noted
       (told (jobs_in a.workers.dispatching) a.timed)
       (told (jobs_in a.workers.dispatching) b.timed) s.runs.run takes-step in
       let me = takes-me in
@@ -149,12 +154,12 @@ module _ {R : Type 0} (log : R → Log) (came : List Carried) (a b : End)
       (told (jobs_in a.workers.dispatching) b.timed) takes-step in
       let none = still-answers plain_serving (served_after_all plain_mode [] past) h.delivers.noted
       (none-ran h.delivers.noted still) in
-      let runs : StandsFor plain_members crew_members usual_limits
+      let runs : StandsFor plain_members crew_members limits
       (past ++ h.delivers.noted) b = record {
-        run = subst (λ (w : CrewState). NodeRun plain_serving b.timed.lists.me usual_limits
+        run = subst (λ (w : CrewState). NodeRun plain_serving b.timed.lists.me limits
             (past ++ h.delivers.noted) (told (jobs_in w.dispatching) b.timed))
             (sym h.leaves.workers)
-            (subst (λ m. NodeRun plain_serving m usual_limits (past ++ h.delivers.noted)
+            (subst (λ m. NodeRun plain_serving m limits (past ++ h.delivers.noted)
             (told (jobs_in a.workers.dispatching) b.timed)) (sym me) run);
         serves = subst (PlainStands b.service) (sym (served-append plain_mode [] past h.delivers.noted ∙ none.1))
             (rw h.leaves.service s.runs.serves);
@@ -164,12 +169,31 @@ module _ {R : Type 0} (log : R → Log) (came : List Carried) (a b : End)
       } in
       record { node = me ∙ s.node; runs = runs }
 
+-- a link that waited sent nothing
+rests-sent : {L : Type 0} (net : Link.Ghosts L) (asleep : Bool) (old new : L)
+    → Rests net asleep old new → net.sent new ≡ net.sent old
+rests-sent net true old new h = h.sent
+rests-sent net false old new h = ap net.sent h
+
+-- a turn that did nothing, by what its endpoint tells
+pub counts-turn : (told : Option Turn) (s : Lists) (quiet : Bool) (rest then_rest : Rest)
+    → IsTrue quiet ↔ IsQuiet s → CountsIf told quiet rest then_rest
+    → CountsTurn told s rest then_rest
+counts-turn told s quiet rest then_rest is h = record {
+  nothing = h.nothing;
+  so = (
+    λ t. let both = h.so.0 t in (both.0, is.0 both.1),
+    λ d. h.so.1 (d.0, is.1 d.1),
+  );
+  count = h.count;
+}
+
 -- what a turn tells, of which it is known what it is
 module _ {R L C K : Type 0} (log : R → Log)
     (net : Link.Ghosts L) (given : K → List Done → Type 0)
-    (gave : C → List ℕ → Type 0) (turn : Option Turn) (link then_link : L)
-    (clock then_clock : C) (old new : End) (before later : R) (from to : K)
-    (h : TakesTurn log net given gave turn link then_link clock then_clock
+    (gave : C → List ℕ → Type 0) (rest then_rest : Rest) (turn : Option Turn)
+    (link then_link : L) (clock then_clock : C) (old new : End) (before later : R) (from to : K)
+    (h : TakesTurn log net given gave rest then_rest turn link then_link clock then_clock
     old new before later from to) where
   abbrev first : List Fact
   first = h.turns.takes.delivers.noted
@@ -177,27 +201,28 @@ module _ {R L C K : Type 0} (log : R → Log)
   abbrev second : List Fact
   second = h.turns.polls.noted
 
-  between-stands : (past : List Fact) → Stands past old → Stands (past ++ first) h.turns.between
-  between-stands past s =
+  between-stands : (limits : Limits) → (past : List Fact) → Stands limits past old
+      → Stands limits (past ++ first) h.turns.between
+  between-stands limits past s =
       takes-stands log h.turns.came old h.turns.between before h.turns.mid h.turns.takes
-      past s
+      limits past s
 
-  polled : (past : List Fact) → Stands (past ++ first) h.turns.between
-      → Stands ((past ++ first) ++ second) new
+  polled : (limits : Limits) → (past : List Fact) → Stands limits (past ++ first) h.turns.between
+      → Stands limits ((past ++ first) ++ second) new
   unfolding goes-polled
-  polled past s =
+  polled limits past s =
       let runs = (goes-polled log given plain_members crew_members
       h.turns.polled h.now h.turns.mid_link (wire_of net then_link) h.turns.between new h.turns.mid later
-      from to h.turns.polls).goes_on usual_limits (past ++ first) s.runs in
+      from to h.turns.polls).goes_on limits (past ++ first) s.runs in
       let me = me-polled log given plain_members crew_members
       h.turns.polled h.now h.turns.mid_link (wire_of net then_link) h.turns.between new h.turns.mid later
-      from to h.turns.polls usual_limits (past ++ first) s.runs in
+      from to h.turns.polls limits (past ++ first) s.runs in
       record { node = me ∙ s.node; runs = runs }
 
-  more-told : (past : List Fact) → Stands past old
+  more-told : (limits : Limits) → (past : List Fact) → Stands limits past old
       → TellsMore given (net.sent link) (net.sent then_link) (first ++ second) from to
-  more-told past s =
-      let mid = between-stands past s in
+  more-told limits past s =
+      let mid = between-stands limits past s in
       let does = h.turns.polls.does mid.runs.staffed in
       let told_of = does.1 in
       let still = unasked-polled log given plain_members crew_members h.turns.polled h.now h.turns.mid_link (wire_of net then_link) h.turns.between new
@@ -212,8 +237,10 @@ module _ {R L C K : Type 0} (log : R → Log)
         asks = let none = quiet.asks in
             omega (arith, many-append is_asked first second, many-none is_asked second still, none);
         sends = told_of.took ∙ ap (option_map (λ ds. ds ++ sent_of second)) h.turns.receives.sent
-            ∙ ap (λ sent. option_map (λ ds. ds ++ sent) (net.sent link))
-            (sym (sent-append first second ∙ ap (λ sent. sent ++ sent_of second) quiet.sends));
+            ∙ ap (λ sent. option_map (λ ds. ds ++ sent) (net.sent h.ready))
+            (sym (sent-append first second ∙ ap (λ sent. sent ++ sent_of second) quiet.sends))
+            ∙ ap (option_map (λ ds. ds ++ sent_of (first ++ second)))
+            (rests-sent net (is_asleep rest) link h.ready h.rests);
       }
 
   pub turn-tells : TellsTurn log given (net.sent link) (net.sent then_link) old new before later from to
@@ -222,9 +249,9 @@ module _ {R L C K : Type 0} (log : R → Log)
       noted = first ++ second;
       grew = grew-then log before h.turns.mid later first second h.turns.takes.delivers.grew
           h.turns.polls.grew;
-      goes_on = λ past s.
-          subst (λ z. Stands z new) (append_assoc past first second)
-          (polled past (between-stands past s));
+      goes_on = λ limits past s.
+          subst (λ z. Stands limits z new) (append_assoc past first second)
+          (polled limits past (between-stands limits past s));
     };
     told = more-told;
   }

@@ -1,24 +1,27 @@
 //! A run of a server.
-ghost use Rattle.std.specs.Prelude.{◌≡◌, ◌+◌, ◌≤◌, ◌<◌, [], IfOk, IfErr, OnErr, OnOk};
-ghost use Rattle.plain_turns.specs.PlainTurns.{IsCrewed, RunsOn, WhyNot};
+ghost use Rattle.std.specs.Prelude.{◌≡◌, ◌<◌, [], IfOk, IfErr, IfSome, OnErr, OnOk};
+ghost use Rattle.command_line.specs.Answers.{IsServeInRange};
+ghost use Rattle.plain_turns.specs.Chains.{where_at};
+ghost use Rattle.plain_turns.specs.PlainTurns.{IsCrewed, RunsOn, WhyNot, limits_at};
+ghost use Rattle.rpc_outside.specs.Faults.{HasCause};
 ghost use Rattle.rpc_outside.specs.Linking.{NoneComes};
 ghost use Rattle.run_status.specs.declared.going.Going.TheVariants.{On};
-ghost use Rattle.serve_run.specs.Serving.{Answers, HasServed, Prints, Writes, one_more};
-ghost use Rattle.serve_run.specs.Serving.{turns_line};
+ghost use Rattle.serve_run.specs.Serving.{Answers, HasServed, Prints, StartsServing, Writes};
+ghost use Rattle.serve_run.specs.Serving.{one_more, turns_line};
 ghost use Rattle.worker_crew.specs.Crews.{AreStarted, team_of};
 
 use client_core::Done;
 use command_line::ServeSpec;
 use count_line::{Count, Word, write_counts};
 use endpoint_loop::Continuation;
-use plain_turns::{PlainEndpoint, plain_endpoint, stop, take_turn};
+use plain_turns::{PlainEndpoint, Rest, plain_endpoint, stop, take_turn};
 use rpc_laws::Counted;
-use rpc_outside::{Clock, Link, PlainDuty, Recorder, Sink};
+use rpc_outside::{Clock, Failed, Link, PlainDuty, Recorder, Sink};
 use run_status::{Going, Status};
 use std::alloc::Global;
 use std::marker::Model;
 use std::sync::Wait;
-use worker_crew::{Hand, MOST_HANDS, Spawner};
+use worker_crew::{Hand, Spawner};
 
 /// A server asks no calls.
 #[derive(Clone, Copy)]
@@ -32,6 +35,7 @@ impl Continuation for NoCalls {
 #[derive(Drop)]
 pub struct ServeRun<H: Wait> {
     endpoint: PlainEndpoint<H>,
+    rest: Rest,
     turns: u32,
     made: u32,
 }
@@ -42,7 +46,12 @@ impl<H: Wait> Model for ServeRun<H> {
 
     ghost Value = { ServesSoFar };
 
-    ghost view = { λ r. record { endpoint = r.endpoint; turns = r.turns; made = r.made } };
+    ghost view = { λ r. record {
+      endpoint = r.endpoint;
+      rest = r.rest;
+      turns = r.turns;
+      made = r.made;
+    } };
 
     ghost invariant = { λ r. r.made ≤ r.turns };
 }
@@ -79,9 +88,21 @@ fn write_turns<K: Sink>(sink: &mut K, turns: u32, counts: &Counted) -> Status
     }
 }
 
+// The link takes the server's address for its own.
+fn listen<L: Link>(spec: &ServeSpec, link: &mut L) -> Result<(), Failed>
+    ensures bound { OnOk result (IfSome (L.bound link.new) (λ bytes. bytes ≡ spec.now.addr)) }
+    ensures sent { L.sent link.new ≡ L.sent link.old }
+    ensures lists { NoneComes L.waiting L.received link.old link.new }
+    ensures busies { L.busies link.new ≡ L.busies link.old }
+    ensures cause { HasCause (L.faults link.old) (L.faults link.new) result }
+{
+    link.bind(spec.addr.as_str())
+}
+
 impl<H: Wait + Drop> ServeRun<H> {
-    /// Binds the link to the address, for an endpoint of node 0 with usual limits, and starts its
-    /// crew: each of its hands, at most 16, is offered to the spawner, which has no hand out.
+    /// Binds the link to the address, for an endpoint of node 0 with usual limits but for its
+    /// timeout, and starts its crew: each of its hands, at most 16, is offered to the spawner, which
+    /// has no hand out.
     /// `LinkFault` comes exactly where a fault of the link came, and `NoMemory` only where there
     /// was no memory; no hand is out then.
     pub fn start<L: Link, P: Spawner<Hand<PlainDuty>>>(
@@ -91,12 +112,11 @@ impl<H: Wait + Drop> ServeRun<H> {
         link: &mut L,
         spawner: &mut P,
     ) -> Result<ServeRun<H>, Status>
-        requires some { 1 ≤ spec.now.turns }
-        requires hands { spec.now.workers ≤ MOST_HANDS }
+        requires range { IsServeInRange spec.now }
         requires none { P.hands_out spawner.old ≡ [] }
-        ensures turns { IfOk result (λ r. (r.turns ≡ spec.now.turns) × (r.made ≡ 0)) }
-        ensures starts { IfOk result (λ r. IsCrewed spec.now.workers (P.hands_out spawner.new)
-            r.endpoint) }
+        ensures starts { IfOk result (StartsServing L.Link spec.now link.old link.new) }
+        ensures crew { IfOk result (λ r. IsCrewed (limits_at spec.now.timeout) spec.now.workers
+            (P.hands_out spawner.new) r.endpoint) }
         ensures none { OnErr result (P.hands_out spawner.new ≡ []) }
         ensures refused { IfErr result (WhyNot (L.faults link.old) (L.faults link.new)) }
         ensures quiet { OnOk result (L.faults link.new ≡ L.faults link.old) }
@@ -104,23 +124,24 @@ impl<H: Wait + Drop> ServeRun<H> {
         ensures lists { NoneComes L.waiting L.received link.old link.new }
         ensures busies { L.busies link.new ≡ L.busies link.old }
     {
-        if link.bind(spec.addr.as_str()).is_err() {
+        let Ok(()) = listen(spec, link) else {
             return Err(Status::LinkFault);
-        }
-        let Ok(endpoint) = plain_endpoint(rt, alloc, spec.workers, spawner) else {
+        };
+        let Ok(endpoint) = plain_endpoint(rt, alloc, spec.timeout, spec.workers, spawner) else {
             return Err(Status::NoMemory);
         };
         Ok(ServeRun {
             endpoint,
+            rest: Rest::new(spec.idle, spec.timeout),
             turns: spec.turns,
             made: 0,
         })
     }
 
-    /// Makes a turn: takes one number of the clock, and makes one turn of the endpoint then. It is
-    /// over with `LinkFault` exactly where a fault of the link came, and otherwise with `Done`
-    /// exactly where this was the last turn. A turn is made only while some are left. The crew has
-    /// the hands that it had.
+    /// Makes a turn: waits by the link where the run is asleep, takes one number of the clock, and
+    /// makes one turn of the endpoint then. It is over with `LinkFault` exactly where a fault of the
+    /// link came, and otherwise with `Done` exactly where this was the last turn. A turn is made
+    /// only while some are left. The crew has the hands that it had.
     pub fn turn<L: Link, C: Clock, R: Recorder>(
         &mut self,
         link: &mut L,
@@ -128,16 +149,24 @@ impl<H: Wait + Drop> ServeRun<H> {
         rec: &mut R,
     ) -> Going
         requires left { self.old.made < self.old.turns }
-        ensures serves { HasServed R.log L.Link C.gave link.old link.new clock.old clock.new
-            self.old.endpoint self.new.endpoint rec.old rec.new }
+        ensures serves { HasServed R.log L.Link C.gave
+            (where_at self.old link.old clock.old rec.old)
+            (where_at self.new link.new clock.new rec.new) }
         ensures tells { RunsOn R.log C.gave (L.sent link.old) (L.sent link.new) clock.old
             clock.new self.old.endpoint self.new.endpoint rec.old rec.new 1 }
-        ensures counted { self.new ≡ one_more self.new.endpoint self.old }
+        ensures counted { self.new ≡ one_more self.new.endpoint self.new.rest self.old }
         ensures answers { Answers (L.faults link.old) (L.faults link.new) self.new result }
         ensures left { result ≡ On → self.new.made < self.new.turns }
         ensures team { team_of self.new.endpoint.workers ≡ team_of self.old.endpoint.workers }
     {
-        let turned = take_turn(&mut self.endpoint, link, clock, &mut NoCalls, rec);
+        let turned = take_turn(
+            &mut self.endpoint,
+            &mut self.rest,
+            link,
+            clock,
+            &mut NoCalls,
+            rec,
+        );
         self.made += 1;
         match turned {
             Err(_) => Going::Over(Status::LinkFault),

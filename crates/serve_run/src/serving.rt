@@ -1,5 +1,7 @@
 //! `serve`, from its start to its end.
-ghost use Rattle.std.specs.Prelude.{◌≡◌, ◌≤◌, ◌<◌, []};
+ghost use Rattle.std.specs.Prelude.{◌≡◌, ◌<◌, []};
+ghost use Rattle.command_line.specs.Answers.{IsServeInRange};
+ghost use Rattle.plain_turns.specs.Chains.{where_at};
 ghost use Rattle.serve_run.specs.Serving.{Serves, TurnsEnd};
 ghost use Rattle.worker_crew.specs.Crews.{team_of};
 
@@ -9,7 +11,7 @@ use rpc_outside::{Clock, Link, PlainDuty, Recorder, Sink};
 use run_status::{Going, Status};
 use std::alloc::Global;
 use std::sync::Wait;
-use worker_crew::{Hand, MOST_HANDS, Spawner};
+use worker_crew::{Hand, Spawner};
 
 // Makes turns until the run is over, and tells with which status.
 fn turn_all<H: Wait + Drop, L: Link, C: Clock, R: Recorder>(
@@ -20,8 +22,9 @@ fn turn_all<H: Wait + Drop, L: Link, C: Clock, R: Recorder>(
 ) -> Status
     requires left { run.old.made < run.old.turns }
     ensures team { team_of run.new.endpoint.workers ≡ team_of run.old.endpoint.workers }
-    ensures ends { TurnsEnd result R.log C.gave L.Link link.old link.new clock.old
-        clock.new run.old run.new rec.old rec.new }
+    ensures ends { TurnsEnd result R.log C.gave L.Link
+        (where_at run.old link.old clock.old rec.old)
+        (where_at run.new link.new clock.new rec.new) }
 {
     'turns: loop {
         if let Going::Over(status) = run.turn(link, clock, rec) {
@@ -51,11 +54,10 @@ where
     C: Clock,
     P: Spawner<Hand<PlainDuty>>,
     R: Recorder,
-    requires some { 1 ≤ spec.now.turns }
-    requires hands { spec.now.workers ≤ MOST_HANDS }
+    requires range { IsServeInRange spec.now }
     requires none { P.hands_out spawner.old ≡ [] }
     ensures none { P.hands_out spawner.new ≡ [] }
-    ensures serves { Serves result R.log C.gave L.Link spec.now.turns link.old link.new clock.old
+    ensures serves { Serves result R.log C.gave L.Link spec.now link.old link.new clock.old
         clock.new rec.old rec.new (K.page sink.old) (K.page sink.new) }
 {
     let mut run = match ServeRun::start(rt, alloc, spec, link, spawner) {

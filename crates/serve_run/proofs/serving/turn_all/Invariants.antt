@@ -1,12 +1,15 @@
 -- turns were made, and some are left
 use Rattle.std.proofs.Common.{◌≡◌, ◌<◌, ◌-◌}
+use Rattle.plain_turns.specs.Chains.{where_at}
 use Rattle.serve_run.specs.Serving.{ServesOn}
 use Rattle.worker_crew.specs.Crews.{team_of}
 use Rattle.serve_run.proofs.serving.turn_all.Given as goal
 
 abbrev pub invariant-turns : goal.invariant-turns
 invariant-turns g l =
-    ServesOn g.R.Recorder.log g.C.Clock.gave g.L.Link l.initial.link l.link l.initial.clock l.clock l.initial.run l.run l.initial.rec l.rec
+    ServesOn g.R.Recorder.log g.C.Clock.gave g.L.Link
+    (where_at l.initial.run l.initial.link l.initial.clock l.initial.rec)
+    (where_at l.run l.link l.clock l.rec)
     × (g.L.Link.faults l.link ≡ g.L.Link.faults l.initial.link)
     × (l.run.made < l.run.turns)
     × (team_of l.run.endpoint.workers ≡ team_of l.initial.run.endpoint.workers)

@@ -1,4 +1,5 @@
 -- one turn of the endpoint
+use Rattle.std.proofs.Common.{refl}
 use Rattle.endpoint_loop.specs.Polling.{turn_of}
 use Rattle.plain_turns.proofs.RunLemmas.{one-made}
 use Rattle.serve_run.proofs.run.ServeRun.turn.Goals as goal
@@ -9,6 +10,7 @@ returns-clause-serves g c = rw (← c.self.view_is) (record {
   from = record {};
   to = c.take_turn-turned.new.k;
   takes = c.take_turn-turned.ensures.takes;
+  counted = refl;
 })
 
 pub returns-clause-tells : goal.returns-clause-tells

@@ -1,0 +1,25 @@
+-- the link is bound, and the endpoint is new
+use Rattle.std.proofs.Common.{[], ◌∙◌, ap, refl, subst}
+use Rattle.command_line.specs.Words.{ServeWords}
+use Rattle.plain_turns.specs.PlainTurns.{Stands, limits_at}
+use Rattle.plain_turns.specs.Resting.{resting}
+use Rattle.rpc_laws.specs.NodeLists.{new_node}
+use Rattle.serve_run.proofs.run.ServeRun.start.Goals as goal
+
+pub returns-clause-starts : goal.returns-clause-starts
+returns-clause-starts g c =
+    let made = c.in-Ok-plain_endpoint.ensures.made in
+    let same = c.spec.view_is in
+    record {
+      bound = c.in-Ok.ensures.bound;
+      sent = c.listen.ensures.sent;
+      lists = c.listen.ensures.lists;
+      faults = c.in-Ok.ensures.cause;
+      busies = c.listen.ensures.busies;
+      timed = made.timed ∙ ap (λ (w : ServeWords). new_node 0 (limits_at w.timeout)) same;
+      stands = subst (λ (w : ServeWords). Stands (limits_at w.timeout) []
+          c.in-Ok-plain_endpoint.endpoint) same made.stands;
+      rest = c.new.ensures ∙ ap (λ (w : ServeWords). resting w.idle w.timeout) same;
+      turns = ap (λ (w : ServeWords). w.turns) same;
+      made = refl;
+    }
