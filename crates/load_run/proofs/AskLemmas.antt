@@ -43,7 +43,7 @@ module _ {R : Type 0} (log : R → Log) where
       grew = grew-none log f;
       step = λ asks. (refl, refl);
     };
-    keeps = record { session = refl; ledger = refl; turns = refl; made = refl };
+    keeps = record { rest = refl; session = refl; ledger = refl; turns = refl; made = refl };
     passes = passes-none log a.endpoint a.endpoint f f a.ledger.plan a.session a.asked refl
         refl;
   }
@@ -90,6 +90,7 @@ module _ {R : Type 0} (log : R → Log) where
             (asking asks a.endpoint.timed) (asking asks b.endpoint.timed)
             (asking asks c.endpoint.timed) x y p q) some.asks same;
         keeps = record {
+          rest = keeps.rest ∙ some.keeps.rest;
           session = keeps.session ∙ some.keeps.session;
           ledger = keeps.ledger ∙ some.keeps.ledger;
           turns = keeps.turns ∙ some.keeps.turns;

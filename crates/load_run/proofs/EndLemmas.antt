@@ -1,21 +1,24 @@
 -- How the turns of a run end.
-use Rattle.std.proofs.Common.{◌≡◌, ◌≢◌, ◌⊎◌, ℕ, ◌+◌, ◌-◌, ◌<◌, Bool, true, false, cond}
+use Rattle.std.proofs.Common.{◌≡◌, ◌≢◌, ◌⊎◌, ℕ, suc, ◌+◌, ◌<◌, ◌≤◌, Bool, true, false, cond}
 use Rattle.std.proofs.Common.{List, refl, sym, subst, ◌∙◌, inl, inr, arith}
-use Rattle.std.specs.Prelude.{◌==◌}
-use Rattle.std.proofs.lemmas.Bool.{eq-eqb}
+use Rattle.std.specs.Prelude.{◌==◌, ◌&&◌}
+use Rattle.std.proofs.lemmas.Bool.{eq-eqb, eqb-true}
 use Rattle.rpc_outside.specs.Recording.{Log}
-use Rattle.load_run.specs.Loading.{Answers, LoadsOn, LoadsSoFar, TurnsEnd, UnlessFailed}
-use Rattle.load_run.specs.Loading.{going_at, is_clean, is_over, state_in}
+use Rattle.load_run.specs.Loading.{Answers, HasLoaded, LoadsOn, LoadsSoFar, LoadsTurns, TurnsEnd}
+use Rattle.load_run.specs.Loading.{Prints, UnlessFailed, UnlessNoMemory, calls_line, going_at}
+use Rattle.load_run.specs.Loading.{is_clean, is_over, state_in, unasked}
 use Rattle.load_run.proofs.TurnLemmas.{loads-none, loads-then}
 use Rattle.plain_turns.proofs.RunLemmas.{goes-none, goes-then}
+use Rattle.plain_turns.specs.Chains.{Moment}
 use Rattle.plain_turns.specs.PlainTurns.{GoesOnBy}
 use Rattle.rpc_outside.specs.Faults.{HasRisen}
+use Rattle.rpc_outside.specs.Writing.{Wrote, Written}
 use Rattle.rpc_outside.specs.declared.link.Link as Link
 use Rattle.run_status.specs.declared.going.Going.{Going}
 use Rattle.run_status.specs.declared.going.Going.TheVariants.{On, Over}
 use Rattle.run_status.specs.declared.status.Status.{Status}
 use Rattle.run_status.specs.declared.status.Status.TheVariants.{CallsFailed, Done, LinkFault}
-use Rattle.run_status.specs.declared.status.Status.TheVariants.{NoMemory}
+use Rattle.run_status.specs.declared.status.Status.TheVariants.{NoMemory, WriteFault}
 use Rattle.run_status.specs.declared.status.Status.TheVariants.{TurnsSpent}
 
 -- the ends of a run of which nothing failed
@@ -38,6 +41,36 @@ end-of false clean false told e = cc
 
 pub end-known : (s : LoadsSoFar) (told : Status) → going_at s ≡ Over told → IsEnd told
 end-known s told e = end-of (is_over (state_in s)) (is_clean s) (s.made == s.turns) told e
+
+-- and how a run that is Done ended
+clean-of : (over clean spent : Bool)
+    → cond over (Over (cond clean Done CallsFailed)) (cond spent (Over TurnsSpent) On) ≡ Over Done
+    → clean ≡ true
+clean-of true true spent e = refl
+clean-of true false spent e = let same = same-status CallsFailed Done e in cc
+clean-of false clean true e = let same = same-status TurnsSpent Done e in cc
+clean-of false clean false e = cc
+
+both-true : (a b : Bool) → a && b ≡ true → (a ≡ true) × (b ≡ true)
+both-true true true e = (refl, refl)
+both-true true false e = cc
+both-true false b e = cc
+
+-- where its line was written, its status is told
+pub prints-told : (s : LoadsSoFar) (told : Status) (old new : Written)
+    → s.asked ≤ s.ledger.plan.calls → going_at s ≡ Over told → Wrote old new (calls_line s)
+    → Prints s told old new
+prints-told s Done old new within e wrote =
+    let clean = clean-of (is_over (state_in s)) (is_clean s) (s.made == s.turns) e in
+    let parts = both-true (unasked s == 0) (s.ledger.tally.ok == s.ledger.plan.calls) clean in
+    let none = eqb-true (unasked s) 0 parts.0 in (
+      e,
+      wrote,
+      omega (arith, none, within),
+      eqb-true s.ledger.tally.ok s.ledger.plan.calls parts.1,
+    )
+prints-told s WriteFault old new within e wrote = absurd (end-known s WriteFault e)
+prints-told s told old new within e wrote = (e, wrote)
 
 -- it goes on only while turns are left
 unspent : (over clean spent : Bool)
@@ -63,117 +96,120 @@ answers-on before now s (inr h) = (h.0, by h.1)
     by (inl never) = cc
     by (inr e) = sym e
 
-module _ {R L C : Type 0} (log : R → Log)
-    (gave : C → List ℕ → Type 0) (net : Link.Ghosts L) (link via then_link : L)
-    (clock mid then_clock : C) (a b c : LoadsSoFar) (f g h : R) (many : ℕ)
-    (on : LoadsOn log gave (net.sent link) (net.sent via) clock mid a b f g many)
-    (quiet : net.faults via ≡ net.faults link) where
-  abbrev Ends : Status → Type 0
-  Ends told = TurnsEnd told log gave net link then_link clock then_clock a c f h
+module _ {R L C : Type 0} (log : R → Log) (gave : C → List ℕ → Type 0) (net : Link.Ghosts L) where
+  abbrev At : Type 0
+  At = Moment LoadsSoFar R L C
 
-  abbrev Turn : Type 0
-  Turn = LoadsOn log gave (net.sent via) (net.sent then_link) mid then_clock b c g h 1
+  -- what one turn does, and what follows from it
+  abbrev Does : ℕ → (a b : At) → Type 0
+  Does n a b = LoadsOn log gave (net.sent a.link) (net.sent b.link) a.clock b.clock a.run b.run
+      a.rec b.rec n
 
-  further : Turn
-      → LoadsOn log gave (net.sent link) (net.sent then_link) clock then_clock a c f h
-      (many + 1)
-  further turn = loads-then log gave (net.sent link) (net.sent via)
-      (net.sent then_link)
-      clock mid then_clock a b c f g h many 1 on turn
+  module _ (a b c : At) (many : ℕ) (turns : LoadsTurns log gave net many a b)
+      (quiet : net.faults b.link ≡ net.faults a.link) where
+    further : HasLoaded log net gave b c → Does 1 b c
+        → LoadsTurns log gave net (suc many) a c
+    further one turn =
+        let next : many + 1 ≡ suc many = omega arith in
+        record {
+          each = (b, turns.each, one);
+          on = subst (λ n. Does n a c) next
+              (loads-then log gave (net.sent a.link) (net.sent b.link) (net.sent c.link) a.clock
+              b.clock c.clock a.run b.run c.run a.rec b.rec c.rec many 1 turns.on turn);
+        }
 
-  rises : HasRisen (net.faults via) (net.faults then_link)
-      → HasRisen (net.faults link) (net.faults then_link)
-  rises h = subst (λ n. HasRisen n (net.faults then_link)) quiet h
+    rises : HasRisen (net.faults b.link) (net.faults c.link)
+        → HasRisen (net.faults a.link) (net.faults c.link)
+    rises h = subst (λ n. HasRisen n (net.faults c.link)) quiet h
 
-  -- a turn with which the run is over
-  pub ends-with : (told : Status)
-      → Answers (net.faults via) (net.faults then_link) c (Over told)
-      → UnlessFailed (Over told) Turn → Ends told
-  ends-with LinkFault (inl h) turn = rises h.1
-  ends-with LinkFault (inr (same, inl e)) turn = cc
-  ends-with LinkFault (inr (same, inr e)) turn = absurd (end-known c LinkFault (sym e))
-  ends-with NoMemory (inl h) turn = let never = same-status NoMemory LinkFault h.0 in cc
-  ends-with NoMemory (inr (same, which)) turn = same ∙ quiet
-  ends-with Done (inl h) turn = let never = same-status Done LinkFault h.0 in cc
-  ends-with Done (inr (same, inl e)) turn = cc
-  ends-with Done (inr (same, inr e)) turn = (sym e, same ∙ quiet, many + 1, further turn)
-  ends-with CallsFailed (inl h) turn = let never = same-status CallsFailed LinkFault h.0 in cc
-  ends-with CallsFailed (inr (same, inl e)) turn = cc
-  ends-with CallsFailed (inr (same, inr e)) turn = (sym e, same ∙ quiet, many + 1, further turn)
-  ends-with TurnsSpent (inl h) turn = let never = same-status TurnsSpent LinkFault h.0 in cc
-  ends-with TurnsSpent (inr (same, inl e)) turn = cc
-  ends-with TurnsSpent (inr (same, inr e)) turn = (sym e, same ∙ quiet, many + 1, further turn)
-  ends-with told (inl h) turn = let never = same-status told LinkFault h.0 in cc
-  ends-with told (inr (same, inl e)) turn = let never = same-status told NoMemory e in cc
-  ends-with told (inr (same, inr e)) turn = absurd (end-known c told (sym e))
+    -- a turn with which the run is over
+    pub ends-with : (told : Status)
+        → Answers (net.faults b.link) (net.faults c.link) c.run (Over told)
+        → UnlessNoMemory (Over told) (HasLoaded log net gave b c)
+        → UnlessFailed (Over told) (Does 1 b c) → TurnsEnd told log gave net a c
+    ends-with LinkFault (inl h) one turn = rises h.1
+    ends-with LinkFault (inr (same, inl e)) one turn = cc
+    ends-with LinkFault (inr (same, inr e)) one turn =
+        absurd (end-known c.run LinkFault (sym e))
+    ends-with NoMemory (inl h) one turn = let never = same-status NoMemory LinkFault h.0 in cc
+    ends-with NoMemory (inr (same, which)) one turn = same ∙ quiet
+    ends-with Done (inl h) one turn = let never = same-status Done LinkFault h.0 in cc
+    ends-with Done (inr (same, inl e)) one turn = cc
+    ends-with Done (inr (same, inr e)) one turn =
+        (sym e, same ∙ quiet, suc many, further one turn)
+    ends-with CallsFailed (inl h) one turn =
+        let never = same-status CallsFailed LinkFault h.0 in cc
+    ends-with CallsFailed (inr (same, inl e)) one turn = cc
+    ends-with CallsFailed (inr (same, inr e)) one turn =
+        (sym e, same ∙ quiet, suc many, further one turn)
+    ends-with TurnsSpent (inl h) one turn =
+        let never = same-status TurnsSpent LinkFault h.0 in cc
+    ends-with TurnsSpent (inr (same, inl e)) one turn = cc
+    ends-with TurnsSpent (inr (same, inr e)) one turn =
+        (sym e, same ∙ quiet, suc many, further one turn)
+    ends-with told (inl h) one turn = let never = same-status told LinkFault h.0 in cc
+    ends-with told (inr (same, inl e)) one turn = let never = same-status told NoMemory e in cc
+    ends-with told (inr (same, inr e)) one turn = absurd (end-known c.run told (sym e))
 
 -- turns were made, and more are left
-pub record GoesSome {R L C : Type 0} (log : R → Log)
-    (gave : C → List ℕ → Type 0) (net : Link.Ghosts L) (link via : L) (clock mid : C)
-    (a b : LoadsSoFar) (f g : R) : Type 0 where
-  pub left : b.made < b.turns
+pub record GoesSome {R L C : Type 0} (log : R → Log) (gave : C → List ℕ → Type 0)
+    (net : Link.Ghosts L) (a b : Moment LoadsSoFar R L C) : Type 0 where
+  pub left : b.run.made < b.run.turns
   pub many : ℕ
-  pub on : LoadsOn log gave (net.sent link) (net.sent via) clock mid a b f g many
-  pub quiet : net.faults via ≡ net.faults link
-  pub goes : GoesOnBy log a.endpoint b.endpoint f g
+  pub turns : LoadsTurns log gave net many a b
+  pub quiet : net.faults b.link ≡ net.faults a.link
+  pub goes : GoesOnBy log a.run.endpoint b.run.endpoint a.rec b.rec
 
-module _ {R L C : Type 0} (log : R → Log)
-    (gave : C → List ℕ → Type 0) (net : Link.Ghosts L) where
-  pub some-none : (link : L) (clock : C) (a : LoadsSoFar) (f : R) → a.made < a.turns
-      → GoesSome log gave net link link clock clock a a f f
-  some-none link clock a f left = record {
+module _ {R L C : Type 0} (log : R → Log) (gave : C → List ℕ → Type 0) (net : Link.Ghosts L) where
+  abbrev Here : Type 0
+  Here = Moment LoadsSoFar R L C
+
+  abbrev One : (b c : Here) → Type 0
+  One b c = LoadsOn log gave (net.sent b.link) (net.sent c.link) b.clock c.clock b.run c.run b.rec
+      c.rec 1
+
+  pub some-none : (a : Here) → a.run.made < a.run.turns → GoesSome log gave net a a
+  some-none a left = record {
     left = left;
     many = 0;
-    on = loads-none log gave (net.sent link) clock a f;
+    turns = record {
+      each = refl;
+      on = loads-none log gave (net.sent a.link) a.clock a.run a.rec;
+    };
     quiet = refl;
-    goes = goes-none log a.endpoint f;
+    goes = goes-none log a.run.endpoint a.rec;
   }
 
-  module _ (link via then_link : L) (clock mid then_clock : C) (a b c : LoadsSoFar) (f g h : R)
-      (some : GoesSome log gave net link via clock mid a b f g)
-      (goes : GoesOnBy log b.endpoint c.endpoint g h) where
+  module _ (a b c : Here) (some : GoesSome log gave net a b)
+      (goes : GoesOnBy log b.run.endpoint c.run.endpoint b.rec c.rec) where
     pub some-more : (going : Going) → going ≡ On
-        → Answers (net.faults via) (net.faults then_link) c going
-        → UnlessFailed going
-        (LoadsOn log gave (net.sent via) (net.sent then_link) mid then_clock b c g h 1)
-        → GoesSome log gave net link then_link clock then_clock a c f h
-    some-more (Over told) e answers turn = cc
-    some-more On e answers turn =
-        let so =
-        answers-on (net.faults via) (net.faults then_link) c answers in
-        let free = on-left c so.1 in
+        → Answers (net.faults b.link) (net.faults c.link) c.run going
+        → UnlessNoMemory going (HasLoaded log net gave b c) → UnlessFailed going (One b c)
+        → GoesSome log gave net a c
+    some-more (Over told) e answers one turn = cc
+    some-more On e answers one turn =
+        let so = answers-on (net.faults b.link) (net.faults c.link) c.run answers in
+        let free = on-left c.run so.1 in
         let left = some.left in
         let made = turn.made in
         let turns = turn.turns in
         record {
           left = omega (arith, free, left, made, turns);
-          many = some.many + 1;
-          on = loads-then log gave (net.sent link) (net.sent via) (net.sent then_link)
-              clock mid then_clock a b c f g h some.many 1 some.on turn;
+          many = suc some.many;
+          turns = further log gave net a b c some.many some.turns some.quiet one turn;
           quiet = so.0 ∙ some.quiet;
-          goes = goes-then log a.endpoint b.endpoint c.endpoint f g h some.goes goes;
+          goes = goes-then log a.run.endpoint b.run.endpoint c.run.endpoint a.rec b.rec c.rec
+              some.goes goes;
         }
 
-    pub some-fewer : (going : Going) → going ≡ On
-        → UnlessFailed going
-        (LoadsOn log gave (net.sent via) (net.sent then_link) mid then_clock b c g h 1)
-        → c.turns - c.made < b.turns - b.made
-    some-fewer (Over told) e turn = cc
-    some-fewer On e turn =
-        let left = some.left in
-        let made = turn.made in
-        let turns = turn.turns in
-        omega (arith, left, made, turns)
-
     pub some-ends : (told : Status)
-        → Answers (net.faults via) (net.faults then_link) c (Over told)
-        → UnlessFailed (Over told)
-        (LoadsOn log gave (net.sent via) (net.sent then_link) mid then_clock b c g h 1)
-        → TurnsEnd told log gave net link then_link clock then_clock a c f h
-    some-ends told answers turn =
-        ends-with log gave net link via then_link clock mid then_clock a b c f g h
-        some.many some.on some.quiet told answers turn
+        → Answers (net.faults b.link) (net.faults c.link) c.run (Over told)
+        → UnlessNoMemory (Over told) (HasLoaded log net gave b c)
+        → UnlessFailed (Over told) (One b c)
+        → TurnsEnd told log gave net a c
+    some-ends told answers one turn =
+        ends-with log gave net a b c some.many some.turns some.quiet told answers one turn
 
-    pub some-goes : GoesOnBy log a.endpoint c.endpoint f h
+    pub some-goes : GoesOnBy log a.run.endpoint c.run.endpoint a.rec c.rec
     some-goes =
-        goes-then log a.endpoint b.endpoint c.endpoint f g h some.goes goes
+        goes-then log a.run.endpoint b.run.endpoint c.run.endpoint a.rec b.rec c.rec some.goes goes

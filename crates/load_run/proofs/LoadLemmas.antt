@@ -11,7 +11,10 @@ use Rattle.endpoint_loop.proofs.NotingLemmas.{sent-append}
 use Rattle.endpoint_loop.proofs.TurnLemmas.{many-append}
 use Rattle.load_plan.specs.Calls.{Calls}
 use Rattle.load_run.specs.declared.tally.Tally.{Tally}
-use Rattle.load_run.specs.Loading.{HasRun, Loads, LoadsOn, LoadsSoFar, NotesRun, Prints, StartsAs}
+use Rattle.load_run.specs.Loading.{HasLoaded, HasRun, Loads, LoadsSoFar, LoadsTurns, NotesRun}
+use Rattle.load_run.specs.Loading.{Prints, StartsAs}
+use Rattle.plain_turns.specs.Chains.{Turns, where_at}
+use Rattle.plain_turns.specs.PlainTurns.{limits_at}
 use Rattle.load_run.specs.Loading.{TurnsEnd, going_at}
 use Rattle.load_run.specs.Tallies.{Tallies}
 use Rattle.load_run.proofs.EndLemmas.{end-known}
@@ -31,23 +34,33 @@ use Rattle.server_core.proofs.FlushLemmas.{grew-then}
 module _ {R L C : Type 0} (log : R → Log)
     (gave : C → List ℕ → Type 0) (net : Link.Ghosts L) (words : LoadWords)
     (link via then_link : L) (clock then_clock : C) (before mid later : R) (start run : LoadsSoFar)
-    (starts : StartsAs log words before mid start)
+    (starts : StartsAs log net words via before mid start)
     (sent : net.sent via ≡ net.sent link)
     (quiet : net.faults via ≡ net.faults link) where
   -- turns were made since the start
   ran : (told : Status) (many : ℕ) → going_at run ≡ Over told
       → net.faults then_link ≡ net.faults via
-      → LoadsOn log gave (net.sent via) (net.sent then_link) clock then_clock start run
-      mid later many
+      → LoadsTurns log gave net many (where_at start via clock mid)
+      (where_at run then_link then_clock later)
       → HasRun log gave net words link then_link clock then_clock before later run
-  ran told many e still on =
-      let counts = on.counts starts.noted starts.stands in
+  ran told many e still turns =
+      let limits = limits_at words.timeout in
+      let on = turns.on in
+      let counts = on.counts limits starts.noted starts.stands in
+      let all : many ≡ run.made = let made = on.made in let none = starts.made in
+      omega (arith, made, none) in
       let first : Tallies start.ledger.plan start.ledger.tally [] =
       subst (λ (t : Tally). Tallies start.ledger.plan t []) (sym starts.tally)
       (tallies-none start.ledger.plan) in
       let opened : Tallies start.ledger.plan start.ledger.tally starts.noted =
       (counts-silent starts.noted start.ledger starts.ends).tally [] first in
       record {
+        ready = via;
+        mid = mid;
+        start = start;
+        starts = starts;
+        each = subst (λ n. Turns (HasLoaded log net gave) n (where_at start via clock mid)
+            (where_at run then_link then_clock later)) all turns.each;
         over = λ on. let both : Over told ≡ On = sym e ∙ on in cc;
         plan = counts.plan ∙ starts.plan;
         turns = on.turns ∙ starts.turns;
@@ -55,8 +68,8 @@ module _ {R L C : Type 0} (log : R → Log)
           noted = starts.noted ++ on.runs.goes.noted;
           grew = grew-then log before mid later starts.noted on.runs.goes.noted starts.grew
               on.runs.goes.grew;
-          stands = on.runs.goes.goes_on starts.noted starts.stands;
-          sends = on.runs.sends starts.noted starts.stands
+          stands = on.runs.goes.goes_on limits starts.noted starts.stands;
+          sends = on.runs.sends limits starts.noted starts.stands
               ∙ ap (option_map (λ ds. ds ++ sent_of on.runs.goes.noted)) sent
               ∙ ap (λ x. option_map (λ ds. ds ++ x) (net.sent link))
               (sym (sent-append starts.noted on.runs.goes.noted
@@ -74,12 +87,12 @@ module _ {R L C : Type 0} (log : R → Log)
               ∷ on.runs.goes.noted) (sym on.session),
         );
         asked =
-            let more = on.asks starts.noted starts.stands in
+            let more = on.asks limits starts.noted starts.stands in
             let first = starts.asked in
             let none = starts.none in
             omega (arith, more, first, none, many-append is_asked starts.noted on.runs.goes.noted);
         order =
-            let order = on.order starts.noted starts.stands (starts.asked ∙ sym starts.none) in
+            let order = on.order limits starts.noted starts.stands (starts.asked ∙ sym starts.none) in
             let none = starts.none in
             order-then run.ledger.plan run.session 0 0 starts.noted on.runs.goes.noted
             (omega (arith, none)) (order-none run.ledger.plan run.session 0 starts.noted starts.none)
@@ -91,7 +104,8 @@ module _ {R L C : Type 0} (log : R → Log)
       }
 
   pub has-run : (told : Status) → told ≢ NoMemory → told ≢ LinkFault
-      → TurnsEnd told log gave net via then_link clock then_clock start run mid later
+      → TurnsEnd told log gave net (where_at start via clock mid)
+      (where_at run then_link then_clock later)
       → HasRun log gave net words link then_link clock then_clock before later run
   has-run NoMemory kept held ends = absurd (kept refl)
   has-run LinkFault kept held ends = absurd (held refl)
@@ -119,8 +133,9 @@ pub loads-stopped : {R L C : Type 0} (log : R → Log)
     (start run : LoadsSoFar)
     → net.faults via ≡ net.faults link
     → (told : Status) → (told ≡ LinkFault) ⊎ (told ≡ NoMemory)
-    → TurnsEnd told log gave net via then_link clock then_clock start run mid later
-    → NotesRun log before later
+    → TurnsEnd told log gave net (where_at start via clock mid)
+    (where_at run then_link then_clock later)
+    → NotesRun log (limits_at words.timeout) before later
     → Loads told log gave net words link then_link clock then_clock before later out out
 loads-stopped log gave net words link via then_link clock then_clock before mid later out
     start run quiet LinkFault which ends notes =

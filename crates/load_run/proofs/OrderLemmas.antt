@@ -10,10 +10,11 @@ use Rattle.load_plan.specs.Calls.{Calls}
 use Rattle.load_run.specs.Loading.{AsksInOrder, ask_noted}
 use Rattle.node_laws.proofs.Allowed.{Leads}
 use Rattle.node_laws.proofs.RunLaws.{run_leads}
-use Rattle.plain_turns.specs.PlainTurns.{End, Stands, usual_limits}
+use Rattle.plain_turns.specs.PlainTurns.{End, Stands}
 use Rattle.rpc_base.specs.declared.event.Event.{Event}
 use Rattle.rpc_base.specs.declared.event.Event.TheVariants.{Asked}
 use Rattle.rpc_base.specs.declared.fact.Fact.{Fact}
+use Rattle.rpc_base.specs.declared.limits.Limits.{Limits}
 use Rattle.rpc_laws.specs.declared.tables.Lists.{Lists}
 use Rattle.rpc_laws.specs.NodeLists.{after, asked_after, new_lists}
 
@@ -32,11 +33,11 @@ asked-leads s (f ∷ x) t l =
       many-cons is_asked f x (is_asked f.event) refl,
     )
 
-pub asked-stands : (past : List Fact) (e : End) → Stands past e
+pub asked-stands : (limits : Limits) (past : List Fact) (e : End) → Stands limits past e
     → e.timed.lists.asked ≡ asked_in past
-asked-stands past e s =
+asked-stands limits past e s =
     let all : e.timed.lists.asked ≡ 0 + asked_in past =
-    asked-leads (new_lists e.timed.lists.me usual_limits) past _ (run_leads s.runs.run) in
+    asked-leads (new_lists e.timed.lists.me limits) past _ (run_leads s.runs.run) in
     omega (arith, all)
 
 -- numbers, and those behind them

@@ -31,6 +31,7 @@ use Rattle.rpc_base.specs.declared.event.Event.TheVariants.{NconnectNumbers, Nco
 use Rattle.rpc_base.specs.declared.event.Event.TheVariants.{Closing, NcloseBusy, NcloseState}
 use Rattle.rpc_base.specs.declared.event.Event.TheVariants.{Rated, Ran, Sent, Worked}
 use Rattle.rpc_base.specs.declared.fact.Fact.{Fact}
+use Rattle.rpc_base.specs.declared.limits.Limits.{Limits}
 use Rattle.rpc_base.specs.declared.state.SessionState.{SessionState}
 use Rattle.rpc_base.specs.declared.state.SessionState.TheVariants.{Connected}
 use Rattle.rpc_laws.specs.declared.tables.Lists.{Lists}
@@ -45,7 +46,7 @@ use Rattle.rpc_laws.specs.Steps.{Rel}
 use Rattle.rpc_outside.specs.PlainAnswer.{background_answer}
 use Rattle.worker_crew.specs.Crews.{CrewState}
 use Rattle.worker_crew.specs.Dispatching.{jobs_in}
-use Rattle.plain_turns.specs.PlainTurns.{End, Stands, usual_limits, crew_members}
+use Rattle.plain_turns.specs.PlainTurns.{End, Stands, crew_members}
 use Rattle.plain_turns.proofs.RunLemmas.{goes-none, goes-then}
 
 -- a handler ran, a job was worked, a datagram was sent, or a call ended
@@ -94,7 +95,7 @@ module _ {R : Type 0} (log : R → Log) where
       → (makes : Makes log P a.timed b.timed f g)
       → ((s : Timed) (x : List Fact) (t : Timed) → P s x t → Group plain_serving.mode s x t)
       → Stills is_loud P → to ≡ from + asked_in makes.noted
-      → ((past : List Fact) → Stands past a → from ≡ asked_in past
+      → ((limits : Limits) → (past : List Fact) → Stands limits past a → from ≡ asked_in past
       → AsksInOrder c session from makes.noted) → Leaves a b
       → Passes log a b f g c session from to
   passes-of P a b f g c session from to makes group still asked order leaves = record {
@@ -122,14 +123,15 @@ module _ {R : Type 0} (log : R → Log) where
           (told (jobs_in w.dispatching) b.timed)) (sym leaves.workers)
           (group (seen a a) makes.noted (seen a b) step)
 
-      goes : (h : List Fact) → Stands h a → Stands (h ++ makes.noted) b
-      goes h s =
+      goes : (limits : Limits) → (h : List Fact) → Stands limits h a
+          → Stands limits (h ++ makes.noted) b
+      goes limits h s =
           let quiet = none-labour makes.noted all in
           let none = still-answers plain_serving (served_after_all plain_serving.mode [] h)
           makes.noted (none-ran makes.noted quiet) in
-          let me = me-more plain_members crew_members usual_limits h a b
+          let me = me-more plain_members crew_members limits h a b
           makes.noted s.runs changes in
-          let runs = stands-more plain_members crew_members usual_limits h
+          let runs = stands-more plain_members crew_members limits h
           a b makes.noted s.runs changes (none-worked makes.noted quiet) none.0
           (rw (leaves.service, none.1) s.runs.serves)
           (rw leaves.workers (staffed-still background_answer
@@ -143,7 +145,7 @@ module _ {R : Type 0} (log : R → Log) where
   passes-none a b f g c session n same still = rw (same, still) (record {
     goes = goes-none log a f;
     asks = sym (add-zero n);
-    order = λ past s e. order-none c session n [] refl;
+    order = λ limits past s e. order-none c session n [] refl;
     sends = refl;
     ends = refl;
   })
@@ -156,10 +158,10 @@ module _ {R : Type 0} (log : R → Log) where
     goes = goes-then log a b c f g h p.goes q.goes;
     asks = let one = p.asks in let two = q.asks in
         omega (arith, one, two, many-append is_asked p.goes.noted q.goes.noted);
-    order = λ past s e.
+    order = λ limits past s e.
         let one = p.asks in
-        order-then plan session l m p.goes.noted q.goes.noted one (p.order past s e)
-        (q.order (past ++ p.goes.noted) (p.goes.goes_on past s)
+        order-then plan session l m p.goes.noted q.goes.noted one (p.order limits past s e)
+        (q.order limits (past ++ p.goes.noted) (p.goes.goes_on limits past s)
         (omega (arith, one, e, many-append is_asked past p.goes.noted)));
     sends = sent-append p.goes.noted q.goes.noted ∙ ap₂ (λ xs ys. xs ++ ys) p.sends q.sends;
     ends = ends-append p.goes.noted q.goes.noted ∙ ap₂ (λ xs ys. xs ++ ys) p.ends q.ends;
@@ -255,10 +257,10 @@ module _ {R : Type 0} (log : R → Log) (a b : End) (f g : R)
       noted = asks-one session req_type ask room (asking no_asks a.timed) makes.noted
           (asking no_asks b.timed) (makes.step no_asks) few on
 
-      order : (past : List Fact) → Stands past a → n ≡ asked_in past
+      order : (limits : Limits) → (past : List Fact) → Stands limits past a → n ≡ asked_in past
           → AsksInOrder c session n makes.noted
-      order past s e =
-          let number : a.timed.lists.asked ≡ n = asked-stands past a s ∙ sym e in
+      order limits past s e =
+          let number : a.timed.lists.asked ≡ n = asked-stands limits past a s ∙ sym e in
           let same : makes.noted ≡ ask_noted c session n ∷ [] =
           noted ∙ rw (s.node, number, own_type, own_bytes, own_room) refl in
           rw same refl
@@ -272,7 +274,7 @@ module _ {R : Type 0} (log : R → Log) (a b : End) (f g : R)
       passes-of log (Disconnects session) a b f g c session n n makes
       (λ s x t h. disconnects session h)
       (close-still is_loud (λ n s. refl) (λ n c. refl) (λ n. refl) session)
-      (omega (arith, none)) (λ past s e. order-none c session n makes.noted none) leaves
+      (omega (arith, none)) (λ limits past s e. order-none c session n makes.noted none) leaves
 
   -- a session is opened, at no rate
   pub connect-passes : (session peer credits : ℕ) → IsCredits credits
@@ -288,7 +290,7 @@ module _ {R : Type 0} (log : R → Log) (a b : End) (f g : R)
         passes = passes-of log (Connects peer credits 0) a b f g c session 0 0 makes
             (λ s x t h. connects peer credits 0 own h)
             (connect-still is_loud refl (λ n c r. refl) (λ n p c. refl) (λ n r. refl) peer credits
-            0) (omega (arith, none)) (λ past s e. order-none c session 0 makes.noted none) leaves;
+            0) (omega (arith, none)) (λ limits past s e. order-none c session 0 makes.noted none) leaves;
         opens =
             let one = makes.step no_asks in
             let me : b.timed.lists.me ≡ a.timed.lists.me =

@@ -19,7 +19,9 @@ use Rattle.load_run.specs.Tallies.{Counts, KeepsAll}
 use Rattle.load_run.proofs.OrderLemmas.{order-none, order-then}
 use Rattle.load_run.proofs.TallyLemmas.{counts-none, counts-noted, counts-silent, counts-then}
 use Rattle.plain_turns.proofs.RunLemmas.{goes-none, goes-then, runs-then}
+use Rattle.plain_turns.specs.Chains.{where_at}
 use Rattle.plain_turns.specs.PlainTurns.{End, TakesTurn, TellsTurn}
+use Rattle.plain_turns.specs.declared.rest.Rest.{Rest}
 use Rattle.rpc_base.specs.declared.state.SessionState.{SessionState}
 use Rattle.rpc_base.specs.declared.state.SessionState.TheVariants.{Connected}
 use Rattle.rpc_outside.specs.Linking.{Carried}
@@ -54,8 +56,9 @@ module _ {R C : Type 0} (log : R → Log)
         runs = record {
           goes = goes-then log old.endpoint ready.endpoint new.endpoint f g h passes.goes
               turn.goes;
-          sends = λ past s.
-              (turn.told (past ++ passes.goes.noted) (passes.goes.goes_on past s)).sends
+          sends = λ limits past s.
+              (turn.told limits (past ++ passes.goes.noted)
+              (passes.goes.goes_on limits past s)).sends
               ∙ ap (λ x. option_map (λ ds. ds ++ x) sent)
               (sym (sent-append passes.goes.noted turn.goes.noted
               ∙ ap (λ x. x ++ sent_of turn.goes.noted) passes.sends));
@@ -63,18 +66,21 @@ module _ {R C : Type 0} (log : R → Log)
           count = refl;
           ticks = tick;
         };
-        asks = λ past s.
-            let told = turn.told (past ++ passes.goes.noted) (passes.goes.goes_on past s) in
+        asks = λ limits past s.
+            let told = turn.told limits (past ++ passes.goes.noted)
+            (passes.goes.goes_on limits past s) in
             let none = told.asks in
             let some = passes.asks in
             omega (arith, asked, some, none, many-append is_asked passes.goes.noted turn.goes.noted);
-        order = λ past s e.
-            let told = turn.told (past ++ passes.goes.noted) (passes.goes.goes_on past s) in
+        order = λ limits past s e.
+            let told = turn.told limits (past ++ passes.goes.noted)
+            (passes.goes.goes_on limits past s) in
             order-then old.ledger.plan old.session old.asked ready.asked passes.goes.noted
-            turn.goes.noted passes.asks (passes.order past s e)
+            turn.goes.noted passes.asks (passes.order limits past s e)
             (order-none old.ledger.plan old.session ready.asked turn.goes.noted told.asks);
-        counts = λ past s.
-            let told = turn.told (past ++ passes.goes.noted) (passes.goes.goes_on past s) in
+        counts = λ limits past s.
+            let told = turn.told limits (past ++ passes.goes.noted)
+            (passes.goes.goes_on limits past s) in
             counts-then passes.goes.noted turn.goes.noted old.ledger old.ledger new.ledger
             (counts-silent passes.goes.noted old.ledger passes.ends)
             (subst (λ (l : Ledger). Counts turn.goes.noted l new.ledger)
@@ -91,14 +97,14 @@ module _ {R C : Type 0} (log : R → Log)
   loads-none sent clock run f = record {
     runs = record {
       goes = goes-none log run.endpoint f;
-      sends = λ past s. took-none sent;
+      sends = λ limits past s. took-none sent;
       times = [];
       count = refl;
       ticks = λ before h. subst (gave clock) (sym (append-nil before)) h;
     };
-    asks = λ past s. sym (add-zero run.asked);
-    order = λ past s e. order-none run.ledger.plan run.session run.asked [] refl;
-    counts = λ past s. counts-none run.ledger;
+    asks = λ limits past s. sym (add-zero run.asked);
+    order = λ limits past s e. order-none run.ledger.plan run.session run.asked [] refl;
+    counts = λ limits past s. counts-none run.ledger;
     session = refl;
     turns = refl;
     made = sym (add-zero run.made);
@@ -113,22 +119,23 @@ module _ {R C : Type 0} (log : R → Log)
   loads-then sent mid then_sent clock via then_clock a b c f g h n m p q = record {
     runs = runs-then log gave sent mid then_sent clock via then_clock a.endpoint b.endpoint
         c.endpoint f g h n m p.runs q.runs;
-    asks = λ past s.
-        let one = p.asks past s in
-        let two = q.asks (past ++ p.runs.goes.noted) (p.runs.goes.goes_on past s) in
+    asks = λ limits past s.
+        let one = p.asks limits past s in
+        let two = q.asks limits (past ++ p.runs.goes.noted) (p.runs.goes.goes_on limits past s) in
         omega (arith, one, two, many-append is_asked p.runs.goes.noted q.runs.goes.noted);
-    order = λ past s e.
-        let one = p.asks past s in
-        let plan = (p.counts past s).plan in
+    order = λ limits past s e.
+        let one = p.asks limits past s in
+        let plan = (p.counts limits past s).plan in
         let count : b.asked ≡ asked_in (past ++ p.runs.goes.noted) =
         omega (arith, one, e, many-append is_asked past p.runs.goes.noted) in
         order-then a.ledger.plan a.session a.asked b.asked p.runs.goes.noted q.runs.goes.noted one
-        (p.order past s e)
-        (rw (plan, p.session) at q.order (past ++ p.runs.goes.noted) (p.runs.goes.goes_on past s)
-        count);
-    counts = λ past s.
+        (p.order limits past s e)
+        (rw (plan, p.session) at q.order limits (past ++ p.runs.goes.noted)
+        (p.runs.goes.goes_on limits past s) count);
+    counts = λ limits past s.
         counts-then p.runs.goes.noted q.runs.goes.noted a.ledger b.ledger c.ledger
-        (p.counts past s) (q.counts (past ++ p.runs.goes.noted) (p.runs.goes.goes_on past s));
+        (p.counts limits past s)
+        (q.counts limits (past ++ p.runs.goes.noted) (p.runs.goes.goes_on limits past s));
     session = q.session ∙ p.session;
     turns = q.turns ∙ p.turns;
     made = let one = p.made in let two = q.made in omega arith;
@@ -144,17 +151,17 @@ counted-or (Err e) P whole made lost kept = let no : true ≡ false = sym kept �
 module _ {R L C : Type 0} (log : R → Log)
     (net : Link.Ghosts L) (gave : C → List ℕ → Type 0) (link then_link : L) (clock then_clock : C)
     (old ready shown : LoadsSoFar)
-    (before mid later : R) (next : End) (counted : Ledger) (none ended : Ended)
+    (before mid later : R) (next : End) (rested : Rest) (counted : Ledger) (none ended : Ended)
     (same : shown ≡ ready) (keeps : Keeps old ready) (empty : KeepsAll none []) where
   abbrev after : LoadsSoFar → LoadsSoFar
-  after s = record s { endpoint = next; ledger = counted; made = s.made + 1 }
+  after s = record s { endpoint = next; rest = rested; ledger = counted; made = s.made + 1 }
 
   pub has-loaded : (told : Option Turn) → Prepares log old ready before mid
-      → TakesTurn log net KeepsAll gave told link then_link clock
+      → TakesTurn log net KeepsAll gave shown.rest rested told link then_link clock
       then_clock shown.endpoint next mid later none ended
       → (ended.whole ≡ true → Counts (map (done_fact 0) ended.dones.items) shown.ledger counted)
-      → HasLoaded log net gave link then_link clock then_clock old
-      (after shown) before later
+      → HasLoaded log net gave (where_at old link clock before)
+      (where_at (after shown) then_link then_clock later)
   has-loaded told prepares takes counts = record {
     ready = ready;
     mid = mid;
@@ -164,7 +171,8 @@ module _ {R L C : Type 0} (log : R → Log)
     none = none;
     none_over = empty;
     ended = ended;
-    takes = subst (λ (s : LoadsSoFar). TakesTurn log net KeepsAll gave told link then_link clock then_clock s.endpoint next mid later none ended) same takes;
+    takes = subst (λ (s : LoadsSoFar). TakesTurn log net KeepsAll gave s.rest rested told link then_link
+        clock then_clock s.endpoint next mid later none ended) same takes;
     counts = λ kept.
         subst (λ (s : LoadsSoFar). Counts (map (done_fact 0) ended.dones.items) s.ledger counted)
         same (counts kept);

@@ -1,6 +1,6 @@
 -- A run of a client.
 use Rattle.std.specs.Prelude.{◌≡◌, ◌≢◌, ℕ, ◌+◌, ◌-◌, ◌<◌, ◌≤◌, ◌==◌, ◌&&◌, ◌⊎◌, Bool, true, false}
-use Rattle.std.specs.Prelude.{Option}
+use Rattle.std.specs.Prelude.{Option, IfSome}
 use Rattle.std.specs.Prelude.{if◌then◌else◌, List, [], ◌∷◌, map}
 use Rattle.std.specs.List.{filter, find, range_with_len}
 use Rattle.client_core.specs.Shown.{done_fact}
@@ -16,10 +16,15 @@ use Rattle.rpc_base.specs.declared.limits.TheConstants.{MOST_MESSAGE_BYTES}
 use Rattle.load_run.specs.declared.ended.Ended.{Ended}
 use Rattle.load_run.specs.declared.ledger.Ledger.{Ledger}
 use Rattle.load_run.specs.Tallies.{Counts, KeepsAll, Tallies}
+use Rattle.plain_turns.specs.Chains.{Moment, Turns, where_at}
 use Rattle.plain_turns.specs.PlainTurns.{End, GoesOnBy, HasTurned, RunsOn, Stands, TakesTurn}
+use Rattle.plain_turns.specs.PlainTurns.{limits_at}
+use Rattle.plain_turns.specs.Resting.{resting}
+use Rattle.plain_turns.specs.declared.rest.Rest.{Rest}
 use Rattle.load_run.specs.declared.run.TheConstants.{LOAD_CREDITS}
 use Rattle.rpc_base.specs.declared.event.Event.TheVariants.{Asked, Opened}
 use Rattle.rpc_base.specs.declared.fact.Fact.{Fact}
+use Rattle.rpc_base.specs.declared.limits.Limits.{Limits}
 use Rattle.rpc_base.specs.declared.state.SessionState.{SessionState}
 use Rattle.rpc_base.specs.declared.state.SessionState.TheVariants.{Connected, Closed, Failed}
 use Rattle.rpc_base.specs.declared.state.SessionState.TheVariants.{Broken}
@@ -38,10 +43,11 @@ use Rattle.run_status.specs.declared.going.Going.TheVariants.{On, Over}
 use Rattle.run_status.specs.declared.status.Status.{Status}
 use Rattle.run_status.specs.declared.status.Status.TheVariants as status
 
--- its endpoint and its session, its calls with how they ended, how many it asked, and the turns
--- that it makes and made
+-- its endpoint and what it does where nothing comes, its session, its calls with how they ended,
+-- how many it asked, and the turns that it makes and made
 pub record LoadsSoFar : Type 0 where
   pub endpoint : End
+  pub rest : Rest
   pub session : ℕ
   pub ledger : Ledger
   pub asked : ℕ
@@ -76,6 +82,7 @@ AsksInOrder c session from noted =
 
 -- only its endpoint changed, and how many calls were asked
 pub record Keeps (old new : LoadsSoFar) : Type 0 where
+  pub rest : new.rest ≡ old.rest
   pub session : new.session ≡ old.session
   pub ledger : new.ledger ≡ old.ledger
   pub turns : new.turns ≡ old.turns
@@ -129,30 +136,33 @@ pub record Passes {R : Type 0} (log : R → Log) (old new : End) (before now : R
     (session from to : ℕ) : Type 0 where
   pub goes : GoesOnBy log old new before now
   pub asks : to ≡ from + asked_in goes.noted
-  pub order : (past : List Fact) → Stands past old → from ≡ asked_in past
-      → AsksInOrder c session from goes.noted
+  pub order : (limits : Limits) → (past : List Fact) → Stands limits past old
+      → from ≡ asked_in past → AsksInOrder c session from goes.noted
   pub sends : sent_of goes.noted ≡ []
   pub ends : filter is_end goes.noted ≡ []
 
 -- a turn was made: it was prepared, and the endpoint made a turn. The calls that were over then
 -- were counted, where there was memory for each
 pub record HasLoaded {R L C : Type 0} (log : R → Log) (net : Link.Ghosts L)
-    (gave : C → List ℕ → Type 0) (link then_link : L) (clock then_clock : C) (old new : LoadsSoFar)
-    (before later : R) : Type 0 where
+    (gave : C → List ℕ → Type 0) (old new : Moment LoadsSoFar R L C) : Type 0 where
   pub ready : LoadsSoFar
   pub mid : R
-  pub prepares : Prepares log old ready before mid
-  pub keeps : Keeps old ready
+  pub prepares : Prepares log old.run ready old.rec mid
+  pub keeps : Keeps old.run ready
   pub told : Option Turn
   pub none : Ended
   pub none_over : KeepsAll none []
   pub ended : Ended
-  pub takes : TakesTurn log net KeepsAll gave told link then_link clock
-      then_clock ready.endpoint new.endpoint mid later none ended
+  pub takes : TakesTurn log net KeepsAll gave ready.rest new.run.rest told old.link new.link
+      old.clock new.clock ready.endpoint new.run.endpoint mid new.rec none ended
   pub counts : ended.whole ≡ true
-      → Counts (map (done_fact 0) ended.dones.items) ready.ledger new.ledger
-  pub then_is : new
-      ≡ record ready { endpoint = new.endpoint; ledger = new.ledger; made = ready.made + 1 }
+      → Counts (map (done_fact 0) ended.dones.items) ready.ledger new.run.ledger
+  pub then_is : new.run ≡ record ready {
+    endpoint = new.run.endpoint;
+    rest = new.run.rest;
+    ledger = new.run.ledger;
+    made = ready.made + 1;
+  }
 
 -- n turns were made: its endpoint goes on by what was noted, and the calls that were asked and those
 -- that ended among that were counted
@@ -161,15 +171,22 @@ pub record LoadsOn {R C : Type 0} (log : R → Log) (gave : C → List ℕ → T
     (before later : R) (n : ℕ) : Type 0 where
   pub runs : RunsOn log gave sent then_sent clock then_clock old.endpoint new.endpoint
       before later n
-  pub asks : (past : List Fact) → Stands past old.endpoint
+  pub asks : (limits : Limits) → (past : List Fact) → Stands limits past old.endpoint
       → new.asked ≡ old.asked + asked_in runs.goes.noted
-  pub order : (past : List Fact) → Stands past old.endpoint → old.asked ≡ asked_in past
-      → AsksInOrder old.ledger.plan old.session old.asked runs.goes.noted
-  pub counts : (past : List Fact) → Stands past old.endpoint
+  pub order : (limits : Limits) → (past : List Fact) → Stands limits past old.endpoint
+      → old.asked ≡ asked_in past → AsksInOrder old.ledger.plan old.session old.asked runs.goes.noted
+  pub counts : (limits : Limits) → (past : List Fact) → Stands limits past old.endpoint
       → Counts runs.goes.noted old.ledger new.ledger
   pub session : new.session ≡ old.session
   pub turns : new.turns ≡ old.turns
   pub made : new.made ≡ old.made + n
+
+-- so many turns were made, one after another: what follows from them stands beside them
+pub record LoadsTurns {R L C : Type 0} (log : R → Log) (gave : C → List ℕ → Type 0)
+    (net : Link.Ghosts L) (many : ℕ) (old new : Moment LoadsSoFar R L C) : Type 0 where
+  pub each : Turns (HasLoaded log net gave) many old new
+  pub on : LoadsOn log gave (net.sent old.link) (net.sent new.link) old.clock new.clock old.run
+      new.run old.rec new.rec many
 
 -- unless there was no memory
 abbrev pub UnlessNoMemory : Going → Type 0 → Type 0
@@ -189,11 +206,9 @@ is_over Failed = true
 is_over Broken = true
 is_over _ = false
 
--- all calls were asked, and each ended well with a right answer
+-- all calls were asked, and as many ended well with a right answer
 abbrev pub is_clean : LoadsSoFar → Bool
-is_clean s =
-    (unasked s == 0) && (s.ledger.tally.small == 0) && (s.ledger.tally.lost == 0)
-    && (s.ledger.tally.wrong == 0)
+is_clean s = (unasked s == 0) && (s.ledger.tally.ok == s.ledger.plan.calls)
 
 -- how it is to end, where its session is over or all turns are made
 abbrev pub going_at : LoadsSoFar → Going
@@ -218,20 +233,33 @@ calls_line s =
     ∷ record { word = word.Wrong; number = s.ledger.tally.wrong }
     ∷ record { word = word.Unasked; number = unasked s } ∷ [])
 
--- the line was written, and its status is told; or a front of the line, where the sink failed
+-- the line was written, and its status is told, and Done says that all calls were asked and ended
+-- well with a right answer; or a front of the line, where the sink failed
 abbrev pub Prints : LoadsSoFar → Status → Written → Written → Type 0
 Prints s status.WriteFault old new = Broke old new (calls_line s)
+Prints s status.Done old new =
+    (going_at s ≡ Over status.Done) × Wrote old new (calls_line s)
+    × (s.asked ≡ s.ledger.plan.calls) × (s.ledger.tally.ok ≡ s.ledger.plan.calls)
 Prints s told old new =
     (going_at s ≡ Over told) × Wrote old new (calls_line s)
 
--- a session was opened with some peer, and nothing asked yet
-pub record StartsAs {R : Type 0} (log : R → Log) (words : LoadWords) (before now : R)
-    (s : LoadsSoFar) : Type 0 where
+-- a link took the client's address of the words for its own, and knows the server's by this number
+pub record Reaches {L : Type 0} (net : Link.Ghosts L) (words : LoadWords) (link : L) (peer : ℕ)
+    : Type 0 where
+  pub bound : IfSome (net.bound link) (λ bytes. bytes ≡ words.bind)
+  pub number : IfSome (net.numbers link words.addr) (λ number. number ≡ peer)
+
+-- a client was started: its link reaches the server, a session was opened with it, and nothing asked
+-- yet
+pub record StartsAs {R L : Type 0} (log : R → Log) (net : Link.Ghosts L) (words : LoadWords)
+    (link : L) (before now : R) (s : LoadsSoFar) : Type 0 where
   pub noted : List Fact
   pub peer : ℕ
+  pub reaches : Reaches net words link peer
   pub opens : noted ≡ plain 0 (Opened s.session peer LOAD_CREDITS) ∷ []
   pub grew : Grew (log before) (log now) noted
-  pub stands : Stands noted s.endpoint
+  pub stands : Stands (limits_at words.timeout) noted s.endpoint
+  pub rest : s.rest ≡ resting words.idle words.timeout
   pub sends : sent_of noted ≡ []
   pub ends : filter is_end noted ≡ []
   pub none : asked_in noted ≡ 0
@@ -244,32 +272,33 @@ pub record StartsAs {R : Type 0} (log : R → Log) (words : LoadWords) (before n
 -- how the turns of a run end: the link failed; or there was no memory, and it didn't; or the run is
 -- over, and it didn't
 abbrev pub TurnsEnd : {R L C : Type 0} → Status → (R → Log) → (C → List ℕ → Type 0)
-    → (net : Link.Ghosts L) → (link then_link : L) → (clock then_clock : C) → (old new : LoadsSoFar)
-    → (before later : R) → Type 0
-TurnsEnd status.LinkFault log gave net link then_link clock then_clock old new
-    before later =
-    HasRisen (net.faults link) (net.faults then_link)
-TurnsEnd status.NoMemory log gave net link then_link clock then_clock old new
-    before later =
-    (net.faults then_link) ≡ (net.faults link)
-TurnsEnd told log gave net link then_link clock then_clock old new before later =
-    (going_at new ≡ Over told)
-    × (net.faults then_link ≡ net.faults link)
+    → (net : Link.Ghosts L) → (old new : Moment LoadsSoFar R L C) → Type 0
+TurnsEnd status.LinkFault log gave net old new =
+    HasRisen (net.faults old.link) (net.faults new.link)
+TurnsEnd status.NoMemory log gave net old new = net.faults new.link ≡ net.faults old.link
+TurnsEnd told log gave net old new =
+    (going_at new.run ≡ Over told)
+    × (net.faults new.link ≡ net.faults old.link)
     × (many : ℕ)
-    × LoadsOn log gave (net.sent link) (net.sent then_link) clock then_clock old new
-    before later many
+    × LoadsTurns log gave net many old new
 
--- what `load` did once its run was over: it made its turns, in which the session was opened first;
--- the calls that were asked are the first of its calls, in their order; how many were and how calls
+-- what `load` did once its run was over: it was started, and made its turns, one after another; the
+-- calls that were asked are the first of its calls, in their order; how many were and how calls
 -- ended are counts of what was noted, and the link didn't fail
 pub record HasRun {R L C : Type 0} (log : R → Log) (gave : C → List ℕ → Type 0)
     (net : Link.Ghosts L) (words : LoadWords) (link then_link : L) (clock then_clock : C)
     (before later : R) (run : LoadsSoFar) : Type 0 where
+  pub ready : L
+  pub mid : R
+  pub start : LoadsSoFar
+  pub starts : StartsAs log net words ready before mid start
+  pub each : Turns (HasLoaded log net gave) run.made (where_at start ready clock mid)
+      (where_at run then_link then_clock later)
   pub over : going_at run ≢ On
   pub plan : run.ledger.plan ≡ calls_of words
   pub turns : run.turns ≡ words.turns
-  pub turned : HasTurned log gave (net.sent link) (net.sent then_link) clock then_clock
-      before later run.made run.endpoint
+  pub turned : HasTurned log gave (limits_at words.timeout) (net.sent link) (net.sent then_link)
+      clock then_clock before later run.made run.endpoint
   pub opens : (peer : ℕ) × (rest : List Fact)
       × (turned.noted ≡ plain 0 (Opened run.session peer LOAD_CREDITS) ∷ rest)
   pub asked : run.asked ≡ asked_in turned.noted
@@ -277,11 +306,12 @@ pub record HasRun {R L C : Type 0} (log : R → Log) (gave : C → List ℕ → 
   pub tallies : Tallies run.ledger.plan run.ledger.tally turned.noted
   pub quiet : net.faults then_link ≡ net.faults link
 
--- the facts that were noted are a run of node 0 with usual limits
-pub record NotesRun {R : Type 0} (log : R → Log) (before later : R) : Type 0 where
+-- the facts that were noted are a run of node 0 with these limits
+pub record NotesRun {R : Type 0} (log : R → Log) (limits : Limits) (before later : R)
+    : Type 0 where
   pub noted : List Fact
   pub grew : Grew (log before) (log later) noted
-  pub runs : (noted ≡ []) ⊎ ((endpoint : End) × Stands noted endpoint)
+  pub runs : (noted ≡ []) ⊎ ((endpoint : End) × Stands limits noted endpoint)
 
 -- how `load` ends: the link failed, or there was no memory and it didn't, and nothing was written;
 -- or its run was over, and the line was written, or a front of it where the sink failed
@@ -291,11 +321,11 @@ abbrev pub Loads : {R L C : Type 0} → Status → (R → Log) → (C → List �
 Loads status.LinkFault log gave net words link then_link clock then_clock before later
     old new =
     HasRisen (net.faults link) (net.faults then_link)
-    × NotesRun log before later × (new ≡ old)
+    × NotesRun log (limits_at words.timeout) before later × (new ≡ old)
 Loads status.NoMemory log gave net words link then_link clock then_clock before later
     old new =
     (net.faults then_link ≡ net.faults link)
-    × NotesRun log before later × (new ≡ old)
+    × NotesRun log (limits_at words.timeout) before later × (new ≡ old)
 Loads told log gave net words link then_link clock then_clock before later old new =
     (run : LoadsSoFar)
     × HasRun log gave net words link then_link clock then_clock before later run

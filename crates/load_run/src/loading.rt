@@ -2,6 +2,7 @@
 ghost use Rattle.std.specs.Prelude.{◌<◌};
 ghost use Rattle.command_line.specs.Answers.{IsLoadInRange};
 ghost use Rattle.load_run.specs.Loading.{Loads, TurnsEnd};
+ghost use Rattle.plain_turns.specs.Chains.{where_at};
 ghost use Rattle.plain_turns.specs.PlainTurns.{GoesOnBy};
 
 use crate::run::LoadRun;
@@ -19,8 +20,9 @@ fn turn_all<H: Wait + Drop, L: Link, C: Clock, R: Recorder>(
     rec: &mut R,
 ) -> Status
     requires left { run.old.made < run.old.turns }
-    ensures ends { TurnsEnd result R.log C.gave L.Link link.old link.new clock.old
-        clock.new run.old run.new rec.old rec.new }
+    ensures ends { TurnsEnd result R.log C.gave L.Link
+        (where_at run.old link.old clock.old rec.old)
+        (where_at run.new link.new clock.new rec.new) }
     ensures goes_on { GoesOnBy R.log run.old.endpoint run.new.endpoint rec.old rec.new }
 {
     'turns: loop {

@@ -1,13 +1,17 @@
 //! A run of a client.
-ghost use Rattle.std.specs.Prelude.{◌≡◌, ◌<◌, ◌≢◌, IfErr, IfOk, OnErr, OnOk};
+ghost use Rattle.std.specs.Prelude.{◌≡◌, ◌<◌, ◌≤◌, ◌≢◌, IfErr, IfOk, OnErr, OnOk};
 ghost use Rattle.command_line.specs.Answers.{IsLoadInRange};
 ghost use Rattle.count_line.specs.Line.{line_text};
 ghost use Rattle.load_run.specs.Loading.{calls_line};
-ghost use Rattle.load_run.specs.Loading.{Answers, HasLoaded, LoadsOn, Prints, StartsAs};
+ghost use Rattle.load_run.specs.Loading.{Answers, HasLoaded, LoadsOn, Prints, Reaches, StartsAs};
 ghost use Rattle.load_run.specs.Loading.{UnlessFailed, UnlessNoMemory, going_at, is_clean};
 ghost use Rattle.load_run.specs.Loading.{pending_in, state_in, unasked};
+ghost use Rattle.plain_turns.specs.Chains.{where_at};
 ghost use Rattle.plain_turns.specs.PlainTurns.{GoesOnBy, WhyNot};
-ghost use Rattle.run_status.specs.declared.going.Going.TheVariants.{On};
+ghost use Rattle.plain_turns.specs.Resting.{TellsNothingNew};
+ghost use Rattle.rpc_outside.specs.Faults.{HasCause};
+ghost use Rattle.rpc_outside.specs.Linking.{NoneComes};
+ghost use Rattle.run_status.specs.declared.going.Going.TheVariants.{On, Over};
 
 use crate::ended::Ended;
 use crate::ledger::Ledger;
@@ -16,9 +20,9 @@ use command_line::LoadSpec;
 use count_line::{Count, Word, write_counts};
 use load_plan::Plan;
 use message_buffer::MsgBuf;
-use plain_turns::{PlainEndpoint, let_go, plain_endpoint, take_turn};
-use rpc_base::{SessionNo, SessionState};
-use rpc_outside::{Clock, Link, Recorder, Sink};
+use plain_turns::{PlainEndpoint, Rest, let_go, plain_endpoint, take_turn};
+use rpc_base::{Peer, SessionNo, SessionState};
+use rpc_outside::{Clock, Failed, Link, Recorder, Sink};
 use run_status::{Going, Status};
 use std::alloc::Global;
 use std::marker::Model;
@@ -34,6 +38,7 @@ pub const LOAD_CREDITS: u16 = 32;
 pub struct LoadRun<H: Wait> {
     pub(crate) alloc: Global,
     pub(crate) endpoint: PlainEndpoint<H>,
+    rest: Rest,
     pub(crate) session: SessionNo,
     pub(crate) ledger: Ledger,
     pub(crate) asked: u32,
@@ -52,6 +57,7 @@ impl<H: Wait> Model for LoadRun<H> {
 
     ghost view = { λ r. record {
       endpoint = r.endpoint;
+      rest = r.rest;
       session = r.session;
       ledger = r.ledger;
       asked = r.asked;
@@ -85,12 +91,11 @@ impl<H: Wait> LoadRun<H> {
         self.endpoint.state(self.session)
     }
 
-    // Whether all calls were asked, and each ended well with a right answer.
+    // Whether all calls were asked, and as many ended well with a right answer.
     fn is_clean(&self) -> bool
         ensures { result ≡ is_clean self.now }
     {
-        let tally = &self.ledger.tally;
-        self.unasked() == 0 && tally.small == 0 && tally.lost == 0 && tally.wrong == 0
+        self.unasked() == 0 && self.ledger.tally.ok == u64::from(self.ledger.plan.calls)
     }
 
     // Whether it goes on, and how it is to end where it doesn't.
@@ -112,10 +117,35 @@ impl<H: Wait> LoadRun<H> {
     }
 }
 
+// Packets to this peer go several in a datagram of so many bytes, and alone where there are none.
+fn pack<L: Link>(frame: Option<u32>, link: &mut L, peer: Peer)
+    ensures { TellsNothingNew L.Link link.old link.new }
+{
+    if let Some(bytes) = frame {
+        link.pack(peer, bytes);
+    }
+}
+
+// Binds the link to the client's address, and learns by which number it knows the server, to whom
+// packets go as the words say.
+fn reach<L: Link>(spec: &LoadSpec, link: &mut L) -> Result<Peer, Failed>
+    ensures reaches { IfOk result (Reaches L.Link spec.now link.new) }
+    ensures sent { L.sent link.new ≡ L.sent link.old }
+    ensures lists { NoneComes L.waiting L.received link.old link.new }
+    ensures busies { L.busies link.new ≡ L.busies link.old }
+    ensures cause { HasCause (L.faults link.old) (L.faults link.new) result }
+{
+    link.bind(spec.bind.as_str())?;
+    let server = link.peer(spec.addr.as_str())?;
+    pack(spec.frame, link, server);
+    Ok(server)
+}
+
 impl<H: Wait + Drop> LoadRun<H> {
     /// Binds the link to the client's address, and opens a session with the server at the other
-    /// one, with 32 credits, of an endpoint of node 0 with usual limits. `LinkFault` comes exactly
-    /// where a fault of the link came, and `NoMemory` only where there was no memory.
+    /// one, with 32 credits, of an endpoint of node 0 with usual limits but for its timeout. Packets
+    /// to the server go several in a datagram where the words name a frame. `LinkFault` comes
+    /// exactly where a fault of the link came, and `NoMemory` only where there was no memory.
     pub fn start<L: Link, R: Recorder>(
         rt: H,
         alloc: Global,
@@ -124,22 +154,22 @@ impl<H: Wait + Drop> LoadRun<H> {
         rec: &mut R,
     ) -> Result<LoadRun<H>, Status>
         requires { IsLoadInRange spec.now }
-        ensures starts { IfOk result (StartsAs R.log spec.now rec.old rec.new) }
+        ensures starts { IfOk result (StartsAs R.log L.Link spec.now link.new rec.old rec.new) }
         ensures sent { L.sent link.new ≡ L.sent link.old }
+        ensures lists { NoneComes L.waiting L.received link.old link.new }
+        ensures busies { L.busies link.new ≡ L.busies link.old }
         ensures quiet { OnOk result (L.faults link.new ≡ L.faults link.old) }
         ensures refused { IfErr result (WhyNot (L.faults link.old) (L.faults link.new)) }
         ensures unnoted { OnErr result (rec.new ≡ rec.old) }
     {
-        if link.bind(spec.bind.as_str()).is_err() {
-            return Err(Status::LinkFault);
-        }
-        let Ok(peer) = link.peer(spec.addr.as_str()) else {
+        let Ok(peer) = reach(spec, link) else {
             return Err(Status::LinkFault);
         };
         let Ok(plan) = Plan::of(alloc, spec) else {
             return Err(Status::NoMemory);
         };
-        let Ok(mut endpoint) = plain_endpoint(rt, alloc, 0, &mut SerialSpawner::new()) else {
+        let mut spawner = SerialSpawner::new();
+        let Ok(mut endpoint) = plain_endpoint(rt, alloc, spec.timeout, 0, &mut spawner) else {
             return Err(Status::NoMemory);
         };
         let Ok(session) = endpoint.connect(peer, LOAD_CREDITS, 0, rec) else {
@@ -149,6 +179,7 @@ impl<H: Wait + Drop> LoadRun<H> {
         Ok(LoadRun {
             alloc,
             endpoint,
+            rest: Rest::new(spec.idle, spec.timeout),
             session,
             ledger: Ledger {
                 plan,
@@ -162,11 +193,12 @@ impl<H: Wait + Drop> LoadRun<H> {
     }
 
     /// Makes a turn: where the session is Connected, asks calls until 64 are pending or all are
-    /// asked, and begins to close it where none is pending then; takes one number of the clock, and
-    /// makes one turn of the endpoint. It is over with `LinkFault` exactly where a fault of the
-    /// link came; with `NoMemory` only where there was none for a call that is asked or is over;
-    /// and otherwise exactly where the session is over, with `Done` or `CallsFailed`, or all turns
-    /// are made, with `TurnsSpent`. A turn is made only while some are left.
+    /// asked, and begins to close it where none is pending then; waits by the link where the run is
+    /// asleep, takes one number of the clock, and makes one turn of the endpoint. It is over with
+    /// `LinkFault` exactly where a fault of the link came; with `NoMemory` only where there was none
+    /// for a call that is asked or is over; and otherwise exactly where the session is over, with
+    /// `Done` or `CallsFailed`, or all turns are made, with `TurnsSpent`. A turn is made only while
+    /// some are left.
     pub fn turn<L: Link, C: Clock, R: Recorder>(
         &mut self,
         link: &mut L,
@@ -175,8 +207,8 @@ impl<H: Wait + Drop> LoadRun<H> {
     ) -> Going
         requires left { self.old.made < self.old.turns }
         ensures loads { UnlessNoMemory result
-            (HasLoaded R.log L.Link C.gave link.old link.new clock.old clock.new self.old self.new
-            rec.old rec.new) }
+            (HasLoaded R.log L.Link C.gave (where_at self.old link.old clock.old rec.old)
+            (where_at self.new link.new clock.new rec.new)) }
         ensures on { UnlessFailed result (LoadsOn R.log C.gave (L.sent link.old)
             (L.sent link.new) clock.old clock.new self.old self.new rec.old rec.new 1) }
         ensures goes_on { GoesOnBy R.log self.old.endpoint self.new.endpoint rec.old
@@ -188,7 +220,14 @@ impl<H: Wait + Drop> LoadRun<H> {
             return Going::Over(Status::NoMemory);
         };
         let mut ended = Ended::new(self.alloc);
-        let turned = take_turn(&mut self.endpoint, link, clock, &mut ended, rec);
+        let turned = take_turn(
+            &mut self.endpoint,
+            &mut self.rest,
+            link,
+            clock,
+            &mut ended,
+            rec,
+        );
         self.made += 1;
         match (turned, self.ledger.count(ended, &mut self.spare)) {
             (Err(_), _) => Going::Over(Status::LinkFault),
@@ -206,12 +245,11 @@ impl<H: Wait + Drop> LoadRun<H> {
         ensures { Prints self result (K.page sink.old) (K.page sink.new) }
     {
         let line = self.line();
-        let going = self.going();
+        let told = self.told();
         self.stop();
-        match (write_counts(sink, &line), going) {
-            (Ok(()), Going::Over(status)) => status,
-            (Ok(()), Going::On) => unreachable!(),
-            (Err(_), _) => Status::WriteFault,
+        match write_counts(sink, &line) {
+            Ok(()) => told,
+            Err(_) => Status::WriteFault,
         }
     }
 
@@ -219,6 +257,19 @@ impl<H: Wait + Drop> LoadRun<H> {
     pub fn stop(self) {
         let LoadRun { endpoint, .. } = self;
         let_go(endpoint);
+    }
+
+    // With which status a run that is over ended.
+    fn told(&self) -> Status
+        requires over { going_at self.now ≢ On }
+        ensures told { going_at self.now ≡ Over result }
+        ensures within { self.now.asked ≤ self.now.ledger.plan.calls }
+    {
+        let _asked = self.asked;
+        match self.going() {
+            Going::Over(status) => status,
+            Going::On => unreachable!(),
+        }
     }
 
     // The line of its counts.

@@ -34,8 +34,9 @@ pub record Untouched (old new : Written) : Type 0 where
 -- the report of the history of the script was written: no other history follows the script, and the
 -- report shows each fact with all its bytes, so the text names that one history. It is lawful; before
 -- a datagram is repeated and a call is rolled back each packet of a session stands in one place at
--- most, and only while it is unanswered; and at the end each node's table of requests says what its
--- facts tell. Where nothing moves at the end of a command, each call that isn't over has a cause
+-- most, and only while it is unanswered; and at the end each node's tables of calls and of requests
+-- say what its facts tell. Where nothing moves at the end of a command, each call that isn't over has
+-- a cause
 pub record Reports (script : List Line) (page then_page : Written) : Type 0 where
   pub history : List Fact
   pub follows : Follows script history

@@ -75,8 +75,8 @@ where
         → Unmoved (S.input source.old) (S.input source.new) }
     ensures serves { (words' : ServeWords)
         → task_of (map string_bytes words.now) ≡ Some (Task.Serve words')
-        → Serves result R.log C.gave L.Link words'.turns link.old link.new clock.old clock.new
-        rec.old rec.new (K.page sink.old) (K.page sink.new) }
+        → Serves result R.log C.gave L.Link words' link.old link.new clock.old clock.new rec.old
+        rec.new (K.page sink.old) (K.page sink.new) }
     ensures loads { (words' : LoadWords)
         → task_of (map string_bytes words.now) ≡ Some (Task.Load words')
         → Loads result R.log C.gave L.Link words' link.old link.new clock.old clock.new rec.old

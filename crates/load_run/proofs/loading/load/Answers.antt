@@ -22,6 +22,6 @@ returns-in-LinkFault g c =
     c.turn_all.new.clock c.args.rec.now c.start.new.rec c.turn_all.new.rec _ c.in-Ok.run'
     c.turn_all.new.run c.in-Ok.ensures.quiet c.turn_all.result c.in-LinkFault.is
     c.turn_all.ensures.ends
-    (notes-run g.R.Recorder.log c.args.spec.now c.args.rec.now c.start.new.rec
+    (notes-run g.R.Recorder.log g.L.Link c.args.spec.now c.start.new.link c.args.rec.now c.start.new.rec
     c.turn_all.new.rec c.in-Ok.run' c.turn_all.new.run c.in-Ok.ensures.starts
     c.turn_all.ensures.goes_on)

@@ -38,6 +38,7 @@ returns-in-Err-clause-wanting g c =
     in (
       ap (λ (e : End). record {
         endpoint = e;
+        rest = s.rest;
         session = s.session;
         ledger = s.ledger;
         asked = s.asked;

@@ -1,6 +1,8 @@
 -- a session is opened
-use Rattle.std.proofs.Common.{[], ◌∷◌, ◌∙◌, ap, ap₂, arith, refl, sym}
+use Rattle.std.proofs.Common.{[], ◌∷◌, ◌∙◌, ap, ap₂, arith, refl, subst, sym}
 use Rattle.command_line.specs.Words.{LoadWords}
+use Rattle.plain_turns.specs.PlainTurns.{Stands, limits_at}
+use Rattle.plain_turns.specs.Resting.{resting}
 use Rattle.load_run.proofs.PassLemmas.{connect-passes}
 use Rattle.rpc_base.specs.declared.event.Event.TheVariants.{Opened}
 use Rattle.rpc_laws.specs.Facts.{plain}
@@ -13,14 +15,18 @@ returns-clause-starts g c =
     c.in-Ok-of.plan 0 c.in-Ok.peer 32 (record { some = omega arith; few = omega arith })
     c.in-Ok-connect.ensures.makes c.in-Ok-connect.ensures.accepted in
     let passes = opened.passes in
-    let stands = passes.goes.goes_on [] c.in-Ok-plain_endpoint.ensures.made.stands in
+    let stands = passes.goes.goes_on (limits_at c.spec.inside.timeout) []
+    c.in-Ok-plain_endpoint.ensures.made.stands in
     record {
       noted = passes.goes.noted;
       grew = passes.goes.grew;
       peer = c.in-Ok.peer;
+      reaches = c.in-Ok.ensures.reaches;
       opens = opened.opens ∙ ap₂ (λ m n. plain m (Opened n c.in-Ok.peer 32) ∷ []) stands.node
           (sym c.in-Ok-connect.ensures.number);
-      stands = stands;
+      stands = subst (λ (w : LoadWords). Stands (limits_at w.timeout) passes.goes.noted
+          c.connect.new.self) c.spec.view_is stands;
+      rest = c.new.ensures ∙ ap (λ (w : LoadWords). resting w.idle w.timeout) c.spec.view_is;
       sends = passes.sends;
       ends = passes.ends;
       none = let asks = passes.asks in omega (arith, asks);

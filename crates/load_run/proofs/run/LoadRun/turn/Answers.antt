@@ -13,7 +13,7 @@ returns-in-Err-default-clause-loads g c =
     has-loaded g.R.Recorder.log g.L.Link
     g.C.Clock.gave c.args.link.now c.take_turn-turned.new.link c.args.clock.now c.take_turn-turned.new.clock
     c.args.self.now c.prepare.new.self _ c.args.rec.now c.prepare.new.rec c.take_turn-turned.new.rec
-    c.take_turn-turned.new.endpoint c.count.new.self c.new-ended.result c.take_turn-turned.new.k
+    c.take_turn-turned.new.endpoint c.take_turn-turned.new.rest c.count.new.self c.new-ended.result c.take_turn-turned.new.k
     c.self.view_is c.in-Ok.ensures.keeps c.new-ended.ensures (turn_of c.take_turn-turned.result)
     c.in-Ok.ensures.prepares c.take_turn-turned.ensures.takes
     (counted-or c.count.result _ _ c.count.ensures.counts c.count.ensures.lost)
@@ -39,7 +39,7 @@ returns-in-Ok-Ok-clause-loads g c =
     g.C.Clock.gave
     c.args.link.now c.take_turn-turned.new.link c.args.clock.now c.take_turn-turned.new.clock
     c.args.self.now c.prepare.new.self _ c.args.rec.now c.prepare.new.rec c.take_turn-turned.new.rec
-    c.take_turn-turned.new.endpoint c.count.new.self c.new-ended.result c.take_turn-turned.new.k
+    c.take_turn-turned.new.endpoint c.take_turn-turned.new.rest c.count.new.self c.new-ended.result c.take_turn-turned.new.k
     c.self.view_is c.in-Ok.ensures.keeps c.new-ended.ensures (turn_of c.take_turn-turned.result)
     c.in-Ok.ensures.prepares c.take_turn-turned.ensures.takes (λ kept. c.in-Ok-Ok.ensures.counts))
 
@@ -50,7 +50,7 @@ returns-in-Ok-Ok-clause-on g c =
     g.C.Clock.gave
     c.args.link.now c.take_turn-turned.new.link c.args.clock.now c.take_turn-turned.new.clock
     c.args.self.now c.prepare.new.self _ c.args.rec.now c.prepare.new.rec c.take_turn-turned.new.rec
-    c.take_turn-turned.new.endpoint c.count.new.self c.new-ended.result c.take_turn-turned.new.k
+    c.take_turn-turned.new.endpoint c.take_turn-turned.new.rest c.count.new.self c.new-ended.result c.take_turn-turned.new.k
     c.self.view_is c.in-Ok.ensures.keeps c.new-ended.ensures
     c.take_turn-turned.ensures.takes.now c.in-Ok.ensures.passes c.take_turn-turned.ensures.tells
     c.take_turn-turned.ensures.takes.ticks c.in-Ok-Ok.ensures.whole c.in-Ok-Ok.ensures.counts)
