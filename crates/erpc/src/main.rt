@@ -15,7 +15,7 @@ use std::io::{self, BufWriter, Write};
 use std::process::ExitCode;
 use std::rt::Env;
 use std::sync::Wait;
-use udp_link::UdpLink;
+use udp_link::{Trouble, UdpLink};
 use worker_crew::{Child, Hand, Launcher, Spawner, ThreadSpawner, launch};
 
 // The words after the program's name.
@@ -27,6 +27,23 @@ fn words_of(rt: &(impl Env + AllocGlobal)) -> io::Result<Vec<String>> {
     Ok(words)
 }
 
+/// How a run of the program ended, and what failed of its link.
+#[derive(Clone, Copy, Debug, PartialEq, Eq)]
+struct Ended {
+    status: Status,
+    trouble: Option<Trouble>,
+}
+
+impl Ended {
+    // The link didn't fail.
+    fn without_trouble(status: Status) -> Ended {
+        Ended {
+            status,
+            trouble: None,
+        }
+    }
+}
+
 // The report goes out in large pieces.
 fn run_words<H: Wait + Drop, S: Source, P: Spawner<Hand<PlainDuty>>>(
     rt: &HostRuntime,
@@ -34,38 +51,44 @@ fn run_words<H: Wait + Drop, S: Source, P: Spawner<Hand<PlainDuty>>>(
     words: &[String],
     source: &mut S,
     spawner: &mut P,
-) -> Status
+) -> Ended
     requires none { P.hands_out spawner.old ≡ [] }
 {
     let Ok(writer) = BufWriter::new(rt.alloc(), rt.stdout()) else {
-        return Status::NoMemory;
+        return Ended::without_trouble(Status::NoMemory);
     };
     let mut sink = IoSink::new(writer);
+    let mut link = UdpLink::new(rt.alloc(), rt);
     let status = run(
         waits,
         rt.alloc(),
         words,
         source,
         &mut sink,
-        &mut UdpLink::new(rt.alloc(), rt),
+        &mut link,
         &mut SysClock::new(rt),
         spawner,
         &mut NoRecord,
     );
     // The writer holds the last piece back until it is flushed.
     match sink.into_writer().flush() {
-        Ok(()) => status,
-        Err(_) => Status::WriteFault,
+        Ok(()) => Ended {
+            status,
+            trouble: link.trouble(),
+        },
+        Err(_) => Ended::without_trouble(Status::WriteFault),
     }
 }
 
-// One line on standard error; for a bad script with what was expected in place of its bad line.
-fn complain(rt: &HostRuntime, status: Status, script: Option<&[u8]>) {
-    let _ = match (status, script) {
-        (Status::BadScript(bad), Some(bytes)) => {
+// One line on standard error: for a bad script with what was expected in place of its bad line, for
+// a link that failed with what failed.
+fn complain(rt: &HostRuntime, ended: Ended, script: Option<&[u8]>) {
+    let _ = match (ended.status, script, ended.trouble) {
+        (Status::BadScript(bad), Some(bytes), _) => {
             eprintln!(rt; "erpc: {}", Explanation::of(bytes, bad))
         }
-        _ => eprintln!(rt; "erpc: {status}"),
+        (Status::LinkFault, _, Some(trouble)) => eprintln!(rt; "erpc: {trouble}"),
+        (status, _, _) => eprintln!(rt; "erpc: {status}"),
     };
 }
 
@@ -88,22 +111,24 @@ fn main(rt: HostRuntime) -> ExitCode {
             ensures { Launched (name_of hand) result }
         { launch(rt, alloc, hand) },
     ) else {
-        complain(&rt, Status::NoMemory, None);
+        complain(&rt, Ended::without_trouble(Status::NoMemory), None);
         return ExitCode::from(Status::NoMemory.code());
     };
     let launcher: Launcher = launcher;
     let mut spawner = ThreadSpawner::new(rt, alloc, launcher);
-    let status = match &words {
+    let ended = match &words {
         Ok(words) => run_words(&rt, rt, words.as_slice(), &mut source, &mut spawner),
-        Err(error) if error.kind() == io::ErrorKind::OutOfMemory => Status::NoMemory,
+        Err(error) if error.kind() == io::ErrorKind::OutOfMemory => {
+            Ended::without_trouble(Status::NoMemory)
+        }
         // A word that is no text is in no line of the grammar.
-        Err(_) => Status::Usage,
+        Err(_) => Ended::without_trouble(Status::Usage),
     };
-    match (status, words) {
+    match (ended.status, words) {
         (Status::Done, _) => {}
         (Status::Usage, Ok(words)) => refuse(&rt, words.as_slice()),
         (Status::Usage, Err(_)) => refuse(&rt, &[]),
-        _ => complain(&rt, status, source.bytes()),
+        _ => complain(&rt, ended, source.bytes()),
     }
-    ExitCode::from(status.code())
+    ExitCode::from(ended.status.code())
 }

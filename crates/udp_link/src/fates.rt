@@ -46,8 +46,8 @@ pub enum Fate {
     Gone,
     /// The system could not take them now.
     Busy,
-    /// The link failed.
-    Fault,
+    /// The link failed, with this error of the system.
+    Fault(ErrorKind),
 }
 
 impl Fate {
@@ -57,7 +57,7 @@ impl Fate {
             Ok(()) => Fate::Gone,
             Err(error) if is_of_this_one(&error) => Fate::Gone,
             Err(error) if is_passing(error.kind()) => Fate::Busy,
-            Err(_) => Fate::Fault,
+            Err(error) => Fate::Fault(error.kind()),
         }
     }
 }

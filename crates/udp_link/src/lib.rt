@@ -9,5 +9,7 @@ mod fates;
 mod link;
 mod peers;
 mod socket;
+mod trouble;
 
 pub use link::UdpLink;
+pub use trouble::Trouble;

@@ -9,6 +9,7 @@ use crate::buffers::enlarge;
 use crate::fates::{Fate, is_lost, is_passing};
 use crate::peers::Peers;
 use crate::socket::{send, wait};
+use crate::trouble::Trouble;
 use packet_frames::{Frame, is_frame, next_packet};
 use packet_header::MAGIC;
 use rpc_base::{HEAD_BYTES, Peer};
@@ -44,7 +45,9 @@ pub struct UdpLink<'a, N: Net> {
     from: Peer,
     sender: Address,
     /// What failed in a call that tells of no fault shows at the next one that does.
-    has_failed: bool,
+    hidden: Option<Trouble>,
+    /// What failed last.
+    trouble: Option<Trouble>,
 }
 
 // Whether a datagram may be of an end of this protocol: a header stands where its first packet does.
@@ -86,17 +89,24 @@ impl<'a, N: Net> UdpLink<'a, N> {
             to: Peer(0),
             from: Peer(0),
             sender: Address::none(),
-            has_failed: false,
+            hidden: None,
+            trouble: None,
         }
     }
 
-    // A fault is counted.
-    fn fail<T>(&mut self) -> Result<T, Failed>
+    /// Why the call failed that failed last.
+    pub fn trouble(&self) -> Option<Trouble> {
+        self.trouble
+    }
+
+    // A fault is counted, and what it was is kept.
+    fn fail<T>(&mut self, trouble: Trouble) -> Result<T, Failed>
         ensures failed { IsErr result }
         ensures busies { self.new.busies ≡ self.old.busies }
         ensures risen { HasRisen self.old.faults self.new.faults }
     {
         self.faults = self.faults.saturating_add(1);
+        self.trouble = Some(trouble);
         Err(Failed)
     }
 
@@ -105,11 +115,11 @@ impl<'a, N: Net> UdpLink<'a, N> {
         ensures busies { self.new.busies ≡ self.old.busies }
         ensures cause { HasCause self.old.faults self.new.faults result }
     {
-        if !self.has_failed {
+        let Some(trouble) = self.hidden else {
             return Ok(());
-        }
-        self.has_failed = false;
-        self.fail()
+        };
+        self.hidden = None;
+        self.fail(trouble)
     }
 
     // A packet wasn't taken.
@@ -149,8 +159,8 @@ impl<'a, N: Net> UdpLink<'a, N> {
         ensures faults { self.new.faults ≡ self.old.faults }
         ensures busies { self.new.busies ≡ self.old.busies }
     {
-        if self.hand_over() == Fate::Fault {
-            self.has_failed = true;
+        if let Fate::Fault(kind) = self.hand_over() {
+            self.hidden = Some(Trouble::NotSent(kind));
         }
     }
 
@@ -200,7 +210,7 @@ impl<'a, N: Net> UdpLink<'a, N> {
     {
         match self.hand_over() {
             Fate::Gone => Ok(Taken::Whole),
-            Fate::Fault => self.fail(),
+            Fate::Fault(kind) => self.fail(Trouble::NotSent(kind)),
             Fate::Busy => {
                 self.empty();
                 Ok(self.refuse())
@@ -258,17 +268,21 @@ impl<'a, N: Net> Link for UdpLink<'a, N> {
 
     fn bind(&mut self, addr: &str) -> Result<(), Failed> {
         let Ok(addr) = addr.parse::<SocketAddr>() else {
-            return self.fail();
+            return self.fail(Trouble::NoOwnAddress);
         };
-        let Ok(socket) = self.net.bind_udp(addr) else {
-            return self.fail();
+        let socket = match self.net.bind_udp(addr) {
+            Ok(socket) => socket,
+            Err(error) => {
+                let kind = error.kind();
+                return self.fail(Trouble::NotBound { addr, kind });
+            }
         };
-        if socket.set_nonblocking(true).is_err() {
-            return self.fail();
+        if let Err(error) = socket.set_nonblocking(true) {
+            return self.fail(Trouble::Waits(error.kind()));
         }
         enlarge(&socket);
         let (Ok(frame), Ok(came)) = (Frame::new(self.alloc), Arrived::new(self.alloc)) else {
-            return self.fail();
+            return self.fail(Trouble::NoMemory);
         };
         self.open = Some(Open {
             socket,
@@ -280,7 +294,7 @@ impl<'a, N: Net> Link for UdpLink<'a, N> {
 
     fn peer(&mut self, addr: &str) -> Result<Peer, Failed> {
         let Ok(addr) = addr.parse::<SocketAddr>() else {
-            return self.fail();
+            return self.fail(Trouble::NoPeerAddress);
         };
         let address = Address::of(addr);
         if let Some(peer) = self.peers.known(&address) {
@@ -288,7 +302,7 @@ impl<'a, N: Net> Link for UdpLink<'a, N> {
         }
         match self.peers.add(&address) {
             Some(peer) => Ok(peer),
-            None => self.fail(),
+            None => self.fail(Trouble::NoNumber(addr)),
         }
     }
 
@@ -296,17 +310,17 @@ impl<'a, N: Net> Link for UdpLink<'a, N> {
         self.show()?;
         let is_known = self.open.is_some() && self.peers.address(to).is_some();
         if !is_known || head.len() + body.len() > MOST_LINK_BYTES {
-            return self.fail();
+            return self.fail(Trouble::NoWay);
         }
         if !self.put(to, head, body) {
             match self.hand_over() {
                 Fate::Gone => {}
                 Fate::Busy => return Ok(self.refuse()),
-                Fate::Fault => return self.fail(),
+                Fate::Fault(kind) => return self.fail(Trouble::NotSent(kind)),
             }
             // Nothing is in the frame now, so there is room.
             if !self.put(to, head, body) {
-                return self.fail();
+                return self.fail(Trouble::NoWay);
             }
         }
         if self.peers.most(to) > 0 {
@@ -321,11 +335,11 @@ impl<'a, N: Net> Link for UdpLink<'a, N> {
         if let Some(len) = self.give(out) {
             return Ok(Got::Packet { peer: from, len });
         }
-        if self.hand_over() == Fate::Fault {
-            return self.fail();
+        if let Fate::Fault(kind) = self.hand_over() {
+            return self.fail(Trouble::NotSent(kind));
         }
         let Some(open) = &mut self.open else {
-            return self.fail();
+            return self.fail(Trouble::NoWay);
         };
         match open.came.receive(open.socket.as_raw_fd(), &mut self.sender) {
             Ok(()) => {
@@ -337,7 +351,7 @@ impl<'a, N: Net> Link for UdpLink<'a, N> {
                 }
             }
             Err(error) if is_lost(error.kind()) || is_passing(error.kind()) => Ok(Got::Nothing),
-            Err(_) => self.fail(),
+            Err(error) => self.fail(Trouble::NotReceived(error.kind())),
         }
     }
 
