@@ -1,7 +1,6 @@
 //! A link in memory.
 ghost use Rattle.std.specs.Prelude.{◌≤◌, ◌+◌, None, IfSome, length};
 
-use crate::both::Carries;
 use rpc_base::{NoMemory, Peer};
 use rpc_outside::{Failed, Got, Link, MOST_LINK_BYTES, Taken};
 use std::alloc::Global;
@@ -113,11 +112,9 @@ impl Wire {
             busies: 0,
         })
     }
-}
 
-impl Carries for Wire {
-    /// Nothing comes while older datagrams wait there.
-    fn carry(&mut self, other: &mut Wire) {
+    /// What was sent here comes to the other end. Nothing comes while older datagrams wait there.
+    pub fn move_to(&mut self, other: &mut Wire) {
         if other.incoming.count == 0 {
             mem::swap(&mut self.out, &mut other.incoming);
         }

@@ -1,0 +1,88 @@
+//! A thousand calls over a link in memory, and a thousand over two sockets of this machine.
+use crate::fault::Fault;
+use crate::options::{Options, read};
+use crate::run::Run;
+use crate::server::Server;
+use crate::wire::Wire;
+use call_load::{Caller, Tally};
+use rpc_outside::Link;
+use std::io::Write;
+use udp_link::UdpLink;
+
+/// Addresses of this machine, one after another until one is free.
+const ADDRESSES: [&str; 4] = [
+    "127.0.0.1:47101",
+    "127.0.0.1:47102",
+    "127.0.0.1:47103",
+    "127.0.0.1:47104",
+];
+
+/// The options of a row.
+const ROW: &str = "--calls 1000 --sessions 8 --pending 64 --timeout 1000000";
+
+fn row_words(rt: &HostRuntime) -> Result<Vec<String>, Fault> {
+    let mut words = Vec::new(rt.alloc());
+    for word in ROW.split_whitespace() {
+        let Ok(word) = String::from_str(rt.alloc(), word) else {
+            return Err(Fault::NoMemory);
+        };
+        if words.push(word).is_err() {
+            return Err(Fault::NoMemory);
+        }
+    }
+    Ok(words)
+}
+
+fn tell(rt: &HostRuntime, tally: &Tally) -> Result<(), Fault> {
+    let told = println!(rt;
+        "calls {} right {} wrong {} small {} lost {}",
+        tally.asked, tally.right, tally.wrong, tally.small, tally.lost
+    );
+    if told.is_err() {
+        return Err(Fault::Write);
+    }
+    if tally.right == tally.asked {
+        Ok(())
+    } else {
+        Err(Fault::Calls)
+    }
+}
+
+fn memory_row(rt: &HostRuntime, options: &Options) -> Result<Tally, Fault> {
+    let caller = Caller::new(rt.alloc(), options.aim()?)?;
+    let server = Server::new(rt.alloc(), Wire::new(rt.alloc())?)?;
+    let mut run = Run::new(caller, Wire::new(rt.alloc())?, server, rt);
+    run.open(options)?;
+    run.ask_all()
+}
+
+fn socket_row(rt: &HostRuntime, options: &Options) -> Result<Tally, Fault> {
+    let caller = Caller::new(rt.alloc(), options.aim()?)?;
+    let mut link = UdpLink::new(rt.alloc(), rt);
+    if link.bind(options.addr).is_err() {
+        return Err(Fault::Link);
+    }
+    let server = Server::new(rt.alloc(), link)?;
+    let mut run = Run::new(caller, UdpLink::new(rt.alloc(), rt), server, rt);
+    run.open(options)?;
+    run.ask_all()
+}
+
+fn socket_rows(rt: &HostRuntime, words: &[String]) -> Result<Tally, Fault> {
+    for addr in ADDRESSES {
+        match socket_row(rt, &read(addr, words)?) {
+            Err(Fault::Link) => {}
+            ended => return ended,
+        }
+    }
+    Err(Fault::Link)
+}
+
+/// Runs both, and writes a line for each.
+pub fn run(rt: &HostRuntime) -> Result<(), Fault> {
+    let words = row_words(rt)?;
+    let in_memory = memory_row(rt, &read("memory", words.as_slice())?)?;
+    tell(rt, &in_memory)?;
+    let over_sockets = socket_rows(rt, words.as_slice())?;
+    tell(rt, &over_sockets)
+}

@@ -1,0 +1,194 @@
+//! A run: a client, its link, what is at the link's other end, and the clock.
+use crate::fault::Fault;
+use crate::json::Json;
+use crate::options::Options;
+use crate::report::{Report, Second};
+use crate::server::Other;
+use call_load::{Caller, Standing, Tally};
+use rpc_outside::Link;
+use std::io::Write;
+use std::time;
+
+/// The nanoseconds of a second.
+const SECOND: u64 = 1_000_000_000;
+
+/// How long a run waits for its sessions, and for calls that are pending at its end.
+const PATIENCE: u64 = 5 * SECOND;
+
+/// How long a turn without packets waits while sessions open or close, in microseconds.
+const NAP: u32 = 1_000;
+
+// A line on standard error.
+fn tell_second(rt: &HostRuntime, second: &Second) -> Result<(), Fault> {
+    eprintln!(rt; "{second}").map_err(|_fault| Fault::Write)
+}
+
+// A line of JSON on standard output, or else lines on standard error.
+fn tell(rt: &HostRuntime, is_json: bool, report: Report) -> Result<(), Fault> {
+    let told = if is_json {
+        println!(rt; "{}", Json(report))
+    } else {
+        eprintln!(rt; "{report}")
+    };
+    told.map_err(|_fault| Fault::Write)
+}
+
+/// What a run has.
+pub struct Run<'a, L: Link, S: Other<L>, T: time::Clock> {
+    caller: Caller,
+    link: L,
+    other: S,
+    clock: &'a T,
+    // The time, in nanoseconds, as the clock told it last.
+    now: u64,
+}
+
+// Written by hand, so that whoever lets one go makes a call.
+impl<'a, L: Link + Drop, S: Other<L> + Drop, T: time::Clock> Drop for Run<'a, L, S, T> {
+    fn drop(self) {
+        let Run {
+            caller: _caller,
+            link: _link,
+            other: _other,
+            clock: _,
+            now: _,
+        } = self;
+    }
+}
+
+impl<'a, L: Link + Drop, S: Other<L> + Drop, T: time::Clock> Run<'a, L, S, T> {
+    /// The client isn't connected yet.
+    pub fn new(caller: Caller, link: L, other: S, clock: &'a T) -> Run<'a, L, S, T> {
+        Run {
+            caller,
+            link,
+            other,
+            clock,
+            now: 0,
+        }
+    }
+
+    // Looks at the clock. Where it doesn't tell the time, no time went by.
+    fn look(&mut self) {
+        if let Ok(time) = self.clock.monotonic() {
+            let now = u64::try_from(time.as_nanos()).unwrap_or(u64::MAX);
+            self.now = self.now.max(now);
+        }
+    }
+
+    // A turn of the client, and one of the link's other end. Whether the client handled packets.
+    fn turn(&mut self) -> Result<bool, Fault> {
+        let has_some = self.caller.turn(self.now, &mut self.link)?;
+        self.other.turn(self.now, &mut self.link);
+        self.look();
+        if !self.caller.count(self.now) {
+            return Err(Fault::NoMemory);
+        }
+        Ok(has_some)
+    }
+
+    // A turn that waits where nothing came.
+    fn nap(&mut self) -> Result<(), Fault> {
+        if !self.turn()? && !self.other.is_here() {
+            self.link.wait(NAP);
+            self.look();
+        }
+        Ok(())
+    }
+
+    /// Binds the link, and opens the sessions.
+    pub fn open(&mut self, options: &Options) -> Result<(), Fault> {
+        if self.link.bind(options.bind).is_err() {
+            return Err(Fault::Link);
+        }
+        let Ok(peer) = self.link.peer(options.addr) else {
+            return Err(Fault::Link);
+        };
+        if options.frame > 0 {
+            self.link.pack(peer, options.frame);
+        }
+        if !self.caller.connect(peer) {
+            return Err(Fault::NoMemory);
+        }
+        self.look();
+        let end = self.now.saturating_add(PATIENCE);
+        for _turn in 0..u64::MAX {
+            match self.caller.standing() {
+                Standing::Open => return Ok(()),
+                Standing::Opening if self.now < end => self.nap()?,
+                _ => return Err(Fault::NoServer),
+            }
+        }
+        Err(Fault::NoServer)
+    }
+
+    // Asks calls until this time, or until all are over where there is a number of them.
+    fn go_until(&mut self, end: u64) -> Result<(), Fault> {
+        for _turn in 0..u64::MAX {
+            if self.now >= end || self.caller.is_done() {
+                break;
+            }
+            self.caller.ask_all(self.now);
+            let _some = self.turn()?;
+        }
+        match self.caller.standing() {
+            Standing::Open => Ok(()),
+            _ => Err(Fault::Lost),
+        }
+    }
+
+    // Waits for what is pending, and closes the sessions.
+    fn end(&mut self) -> Result<(), Fault> {
+        let end = self.now.saturating_add(PATIENCE);
+        for _turn in 0..u64::MAX {
+            if self.now >= end || self.caller.tally.pending == 0 {
+                break;
+            }
+            self.nap()?;
+        }
+        self.caller.close();
+        for _turn in 0..u64::MAX {
+            if self.now >= end || self.caller.standing() != Standing::Over {
+                break;
+            }
+            self.nap()?;
+        }
+        Ok(())
+    }
+
+    // Counts calls until `end`, and tells of them as this second.
+    fn count_second(&mut self, number: u32, end: u64) -> Result<Second, Fault> {
+        let from = self.now;
+        self.caller.newest.clear();
+        self.go_until(end)?;
+        Ok(Second::of(&self.caller, number, self.now.saturating_sub(from)))
+    }
+
+    /// Asks calls without counting them, then counts those of so many seconds, with a line each,
+    /// and tells what came.
+    pub fn measure(&mut self, rt: &HostRuntime, options: &Options) -> Result<(), Fault> {
+        let warm = u64::from(options.warm) * SECOND;
+        self.go_until(self.now.saturating_add(warm))?;
+        self.caller.begin(self.now);
+        let began = self.now;
+        for number in 0..options.secs {
+            let end = began.saturating_add((u64::from(number) + 1) * SECOND);
+            let second = self.count_second(number, end)?;
+            if !options.json {
+                tell_second(rt, &second)?;
+            }
+        }
+        let report = Report::of(&self.caller, self.now.saturating_sub(began));
+        self.end()?;
+        tell(rt, options.json, report)
+    }
+
+    /// Asks its number of calls, and tells how they ended.
+    pub fn ask_all(&mut self) -> Result<Tally, Fault> {
+        self.caller.begin(self.now);
+        self.go_until(self.now.saturating_add(PATIENCE))?;
+        let tally = self.caller.tally;
+        self.end()?;
+        Ok(tally)
+    }
+}
