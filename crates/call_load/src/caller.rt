@@ -121,7 +121,7 @@ impl Caller {
         })
     }
 
-    /// Opens its sessions with the server at this peer. Whether there was memory for each.
+    /// Opens its sessions with the server at this peer. Whether each was opened.
     pub fn connect(&mut self, peer: Peer) -> bool {
         let mut is_whole = true;
         'sessions: for _session in 0..self.aim.sessions {

@@ -41,10 +41,11 @@ abbrev pub Rests : {L : Type 0} → Link.Ghosts L → (asleep : Bool) → (old n
 Rests net true old new = TellsNothingNew net old new
 Rests net false old new = new ≡ old
 
--- a turn did nothing: no packet was handled or sent, and none waits, nor does a job
+-- a turn handled and sent no packet, and left none to be sent
 abbrev pub IsIdle : Option Turn → Type 0
 IsIdle told = told ≡ Some (record { handled = 0; sent = 0; busy = false })
 
+-- a turn did nothing: beside that the endpoint is quiet behind it
 abbrev pub DidNothing : Option Turn → Lists → Type 0
 DidNothing told s = IsIdle told × IsQuiet s
 

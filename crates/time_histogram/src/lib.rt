@@ -1,5 +1,5 @@
 //! A histogram of times, of a fixed size: 128 buckets for each doubling, so that what it tells of a
-//! time is off by less than a 128th of it. It knows nothing of clocks, and of no unit.
+//! time is off by no more than a 128th of it. It knows nothing of clocks, and of no unit.
 #![tactic(auto)]
 
 mod buckets;

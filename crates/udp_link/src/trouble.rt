@@ -40,10 +40,7 @@ impl fmt::Display for Trouble {
             Trouble::NoMemory => f.write_str("there is no memory for the link"),
             Trouble::NoNumber(addr) => write!(f, "{addr} is one address too many"),
             Trouble::NoWay => f.write_str("a packet has no way to go"),
-            Trouble::NotSent(kind) => write!(
-                f,
-                "cannot send: {kind}; --bind gives an address of one's own that reaches the other"
-            ),
+            Trouble::NotSent(kind) => write!(f, "cannot send: {kind}"),
             Trouble::NotReceived(kind) => write!(f, "cannot receive: {kind}"),
         }
     }
