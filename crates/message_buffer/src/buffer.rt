@@ -52,6 +52,20 @@ impl MsgBuf {
         })
     }
 
+    /// A buffer that holds these bytes, at most `MOST_CAPACITY` of them, as its message: its capacity
+    /// is their count. `NoMemory` comes only where there is no memory for its block.
+    pub fn of(alloc: Global, bytes: &[u8]) -> Result<MsgBuf, NoMemory>
+        requires { length bytes.now ≤ MOST_CAPACITY }
+        ensures message { IfOk result (λ b. bytes_of b ≡ bytes.now) }
+        ensures capacity { IfOk result (λ b. capacity_of b ≡ length bytes.now) }
+    {
+        let len = bytes.len() as u32;
+        let mut message = MsgBuf::new(alloc, len)?;
+        message.set_len(len);
+        message.write(0, bytes);
+        Ok(message)
+    }
+
     /// How long the message may become, in bytes: at most `MOST_CAPACITY`.
     pub fn capacity(&self) -> u32
         ensures capacity { result ≡ capacity_of self.now }

@@ -1,14 +1,10 @@
 -- What a chain is after a link was written.
 use Rattle.std.proofs.Common.{◌≡◌, ◌≢◌, ℕ, zero, suc, ◌+◌, ◌<◌, List, [], ◌∷◌, ◌++◌, length, set, refl, ap, ◌∙◌}
 use Rattle.std.proofs.Common.{arith, cond, eq-eqb, ne_eqb, subst}
+use Rattle.rpc_base.proofs.TotalsLemmas.{only-same}
+use Rattle.rpc_base.specs.Totals.{only}
 use Rattle.pacing_wheel.specs.declared.chains.Link.{Link}
-use Rattle.pacing_wheel.specs.Chains.{chain_at, items_at, last_or, link_at, only, times}
-
-pub only-same : (k x : ℕ) → x ≡ k → only k x ≡ 1
-only-same k x e = ap (λ b. cond b 1 0) (eq-eqb x k e)
-
-pub only-other : (k x : ℕ) → x ≢ k → only k x ≡ 0
-only-other k x n = ap (λ b. cond b 1 0) (ne_eqb x k n)
+use Rattle.pacing_wheel.specs.Chains.{chain_at, items_at, last_or, link_at, times}
 
 pub link-here : (links : List Link) (k : ℕ) (x : Link) → k < length links → link_at (set links k x) k ≡ x
 link-here [] k x h = absurd (omega (arith, h))

@@ -6,6 +6,7 @@ use mathlib.Core.Logic.{dite}
 use native.Mathlib.Decide.{ℕ_discrete}
 use Rattle.std.specs.List.{AllByRecursion, find}
 use Rattle.std.proofs.lemmas.Bool.Decides.{nat_tests}
+use Rattle.rpc_base.proofs.TotalsLemmas.{only-same, only-other}
 use Rattle.rpc_base.specs.Least.{least_number, smaller}
 use Rattle.rpc_base.proofs.LeastLemmas.{lesser}
 use Rattle.pacing_wheel.specs.Wheel.{number_of}
@@ -14,7 +15,7 @@ use Rattle.pacing_wheel.specs.declared.chains.Link.{Link}
 use Rattle.pacing_wheel.specs.declared.chains.Ends.{Ends}
 use Rattle.pacing_wheel.specs.Chains.{chain_at, chain_of, in_chains, items_at, last_or, lens, link_at, list_at, lists_in, no_ends}
 use Rattle.pacing_wheel.specs.Chains.{Tied, times, EndsAt}
-use Rattle.pacing_wheel.proofs.ChainLemmas.{only-other, only-same, times-append}
+use Rattle.pacing_wheel.proofs.ChainLemmas.{times-append}
 use Rattle.pacing_wheel.proofs.PushLemmas.{length-end, lens-at, lens-set, ends-at}
 
 -- a list of the table is the chain at its ends

@@ -5,10 +5,11 @@ use Rattle.std.proofs.lemmas.Bool.Decides.{nat_tests}
 use mathlib.Core.Logic.{dite}
 use native.Mathlib.Decide.{ℕ_discrete}
 use Rattle.std.specs.List.{AllByRecursion}
+use Rattle.rpc_base.specs.Totals.{only}
 use Rattle.pacing_wheel.specs.declared.pacer.Paced.{Paced}
 use Rattle.pacing_wheel.specs.declared.chains.Link.{Link}
 use Rattle.pacing_wheel.specs.declared.chains.Ends.{Ends}
-use Rattle.pacing_wheel.specs.Chains.{chain_at, chain_of, in_chains, items_at, last_or, lens, link_at, lists_in, Tied, only, table, times, with_last, EndsAt}
+use Rattle.pacing_wheel.specs.Chains.{chain_at, chain_of, in_chains, items_at, last_or, lens, link_at, lists_in, Tied, table, times, with_last, EndsAt}
 use Rattle.pacing_wheel.proofs.ChainLemmas.{frame, frame-items, extend, items-append, times-append, link-here, link-else, last-in}
 
 -- a link that no chain has is written: all stays

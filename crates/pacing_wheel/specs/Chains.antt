@@ -1,6 +1,7 @@
 -- Chains in an array: which places of it a chain has, and that no place is in two.
 use Rattle.std.specs.Prelude.{◌≡◌, ℕ, zero, suc, ◌+◌, ◌<◌, ◌≤◌, ◌==◌, List, [], ◌∷◌, ◌++◌, None, length, map, slice_index_or, cond}
 use Rattle.std.specs.List.{AllByRecursion}
+use Rattle.rpc_base.specs.Totals.{only}
 use Rattle.rpc_base.specs.declared.owner.Owner.TheVariants.{Control}
 use Rattle.pacing_wheel.specs.declared.pacer.Paced.{Paced}
 use Rattle.pacing_wheel.specs.declared.chains.Link.{Link}
@@ -35,9 +36,6 @@ items_at links (k ∷ ks) = (link_at links k).item ∷ items_at links ks
 
 abbrev pub lists_in : List Link → List Ends → List (List Paced)
 lists_in links places = map (λ (e : Ends). items_at links (chain_of links e)) places
-
-abbrev pub only : ℕ → ℕ → ℕ
-only k x = cond (x == k) 1 0
 
 abbrev pub times : ℕ → List ℕ → ℕ
 times k [] = 0

@@ -6,3 +6,4 @@ pub mod LeastLemmas
 pub mod PlaceLemmas
 pub mod TablesLemmas
 pub mod TakingLemmas
+pub mod TotalsLemmas

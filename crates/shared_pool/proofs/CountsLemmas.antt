@@ -6,8 +6,8 @@ use mathlib.Core.Logic.{dite}
 use native.Mathlib.Decide.{ℕ_discrete}
 use mathlib.Core.Option.{some, some-injective, some-ne-none}
 use lib.ListN.{get_elem?}
-use Rattle.worker_board.specs.Counts.{only}
-use Rattle.worker_board.proofs.CountsLemmas.{only-same, only-other}
+use Rattle.rpc_base.specs.Totals.{only}
+use Rattle.rpc_base.proofs.TotalsLemmas.{only-same, only-other}
 use Rattle.shared_pool.specs.Loans.{LoanNo}
 use Rattle.shared_pool.specs.Counts.{is_loan, of_place, without, IsOnceBelow}
 

@@ -2,13 +2,13 @@
 use Rattle.std.proofs.Common.{◌≡◌, ◌≢◌, ℕ, suc, ◌+◌, ◌*◌, ◌≤◌, ◌<◌, List, [], ◌∷◌, refl, ap, subst, ◌∙◌, arith, inl, inr, ⊎_elim, cond, eq-eqb}
 use mathlib.Core.Option.{some}
 use lib.ListN.{get_elem?}
+use Rattle.rpc_base.specs.Totals.{only}
+use Rattle.rpc_base.proofs.TotalsLemmas.{only-same}
 use Rattle.atomic_table.specs.Table.{rest}
 use Rattle.shared_pool.specs.Words.{MayNotBeLent}
 use Rattle.shared_pool.specs.Loans.{LoanNo, loan_no, AllInside}
 use Rattle.shared_pool.specs.declared.word.TheConstants.{MOST_LOANS}
 use Rattle.shared_pool.specs.declared.view.View.{View}
-use Rattle.worker_board.specs.Counts.{only}
-use Rattle.worker_board.proofs.CountsLemmas.{only-same}
 use Rattle.shared_pool.specs.Counts.{holds, without}
 use Rattle.shared_pool.specs.Rule.{Slot}
 use Rattle.shared_pool.specs.Moves.{Seated, note, noted, turned_to, lent_to, returned}

@@ -4,11 +4,11 @@ use mathlib.Core.Logic.{dite}
 use mathlib.Core.Option.{some}
 use native.Mathlib.Decide.{ℕ_discrete, dec_le}
 use lib.ListN.{get_elem?}
+use Rattle.rpc_base.proofs.TotalsLemmas.{only-is}
 use Rattle.shared_pool.specs.Loans.{LoanNo}
 use Rattle.shared_pool.specs.declared.view.View.{View}
-use Rattle.rpc_base.specs.Totals.{total}
-use Rattle.worker_board.specs.Counts.{only}
-use Rattle.worker_board.proofs.CountsLemmas.{only-is, term_le, terms_le}
+use Rattle.rpc_base.specs.Totals.{only, total}
+use Rattle.worker_board.proofs.CountsLemmas.{term_le, terms_le}
 use Rattle.worker_board.proofs.WordLemmas.{some_term}
 use Rattle.shared_pool.specs.Counts.{holds, got, gave, IsOnceBelow}
 use Rattle.shared_pool.specs.Rule.{Home, HasBuffer, PoolLaw, Stands, Whereabouts, home, out}

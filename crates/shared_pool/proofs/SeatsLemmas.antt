@@ -3,11 +3,12 @@ use Rattle.std.proofs.Common.{◌≡◌, ℕ, suc, ◌+◌, ◌<◌, ◌≤◌, 
 use Rattle.std.proofs.Common.{get_or, set, sym, refl, ap, ◌∙◌, subst, ⊎_elim, arith, suc-ne-zero}
 use mathlib.Core.Option.{some, some-ne-none}
 use lib.ListN.{get_elem?}
+use Rattle.rpc_base.proofs.TotalsLemmas.{only-other}
 use Rattle.atomic_table.specs.Table.{Splits, Joins}
 use Rattle.atomic_table.proofs.Lists.{at_set, set_else, set_again, at_snoc}
 use Rattle.shared_pool.specs.declared.view.View.{View}
 use Rattle.rpc_base.specs.Totals.{total}
-use Rattle.worker_board.proofs.CountsLemmas.{at_append, total-append, total-set, only-other}
+use Rattle.worker_board.proofs.CountsLemmas.{at_append, total-append, total-set}
 use Rattle.shared_pool.specs.Counts.{is_loan, of_place, has_turn, holds, got, gave}
 use Rattle.shared_pool.specs.Rule.{PoolLaw, IsCurrent, fresh}
 use Rattle.shared_pool.specs.Moves.{split_off, taken_in}

@@ -5,10 +5,10 @@ use mathlib.Core.Option.{some, some-injective, some-ne-none}
 use lib.ListN.{get_elem?, length-map}
 use Rattle.std.specs.Prelude.{Some, None}
 use Rattle.std.specs.List.{All}
+use Rattle.rpc_base.proofs.TotalsLemmas.{only-other}
 use Rattle.atomic_table.specs.Table.{opening}
 use Rattle.shared_pool.specs.declared.view.View.{View}
 use Rattle.shared_pool.specs.Rule.{Slot, IsFilled, HasBuffer, PoolLaw, home, fresh}
-use Rattle.worker_board.proofs.CountsLemmas.{only-other}
 
 at_home : (capacity : ℕ) (xs : List Slot) (p : ℕ) → p < length xs → IsFilled capacity (get_or xs p None)
     → HasBuffer capacity (get_elem? (map some xs) p)

@@ -9,6 +9,7 @@ use native.Mathlib.Decide.{ℕ_discrete}
 use lib.ListN.{get_elem?}
 use prog.Atomic.{either}
 use Rattle.std.specs.Prelude.{Some, None}
+use Rattle.rpc_base.proofs.TotalsLemmas.{only-same, only-other, only-is}
 use Rattle.atomic_table.specs.Table.{step, keeps, takes, gives, Act, Valid, Allows, stepped, carried_after}
 use Rattle.atomic_table.proofs.Lists.{set_here, set_else, exchanged}
 use Rattle.message_buffer.specs.Buffer.{Buffer, capacity_of}
@@ -16,10 +17,8 @@ use Rattle.shared_pool.specs.Loans.{LoanNo, loan_no}
 use Rattle.shared_pool.specs.declared.word.TheConstants.{MOST_LOANS}
 use Rattle.shared_pool.specs.declared.view.Note.{Note}
 use Rattle.shared_pool.specs.declared.view.View.{View}
-use Rattle.rpc_base.specs.Totals.{total}
-use Rattle.worker_board.specs.Counts.{only}
-use Rattle.worker_board.proofs.CountsLemmas.{suc_inj, total-set, term_le, terms_le, only-same}
-use Rattle.worker_board.proofs.CountsLemmas.{only-other, only-is}
+use Rattle.rpc_base.specs.Totals.{only, total}
+use Rattle.worker_board.proofs.CountsLemmas.{suc_inj, total-set, term_le, terms_le}
 use Rattle.worker_board.proofs.FrameLemmas.{state}
 use Rattle.worker_board.proofs.WordLemmas.{some_term}
 use Rattle.shared_pool.specs.Counts.{has_turn, holds, got, gave}

@@ -1,7 +1,6 @@
 -- How often a seat holds, got or gave back a loan.
 use Rattle.std.specs.Prelude.{◌≡◌, ℕ, suc, ◌<◌, ◌≤◌, List, [], ◌∷◌, ◌==◌, cond}
-use Rattle.rpc_base.specs.Totals.{total}
-use Rattle.worker_board.specs.Counts.{only}
+use Rattle.rpc_base.specs.Totals.{only, total}
 use Rattle.shared_pool.specs.Loans.{LoanNo}
 use Rattle.shared_pool.specs.declared.view.View.{View}
 

@@ -6,9 +6,10 @@ use mathlib.Core.Logic.{dite}
 use native.Mathlib.Decide.{ℕ_discrete}
 use mathlib.Core.Option.{some, some-injective, some-ne-none}
 use lib.ListN.{get_elem?}
-use Rattle.rpc_base.specs.Totals.{total}
+use Rattle.rpc_base.proofs.TotalsLemmas.{only-other}
+use Rattle.rpc_base.specs.Totals.{only, total}
 use Rattle.worker_board.specs.declared.view.Claim.{Claim}
-use Rattle.worker_board.specs.Counts.{only, without, times, removed}
+use Rattle.worker_board.specs.Counts.{without, times, removed}
 
 pub suc_inj : {a b : ℕ} → suc a ≡ suc b → a ≡ b
 suc_inj e = omega arith
@@ -49,15 +50,6 @@ module _ {A : Type 0} (g : A → ℕ) where
   terms_le (x ∷ xs) zero (suc k) v u n e d = omega (arith, ap g (some-injective x v e), term_le xs k u d)
   terms_le (x ∷ xs) (suc j) zero v u n e d = omega (arith, ap g (some-injective x u d), term_le xs j v e)
   terms_le (x ∷ xs) (suc j) (suc k) v u n e d = omega (arith, terms_le xs j k v u (λ h. n (ap suc h)) e d)
-
-pub only-same : (k x : ℕ) → x ≡ k → only k x ≡ 1
-only-same k x e = ap (λ b. cond b 1 0) (eq-eqb x k e)
-
-pub only-other : (k x : ℕ) → x ≢ k → only k x ≡ 0
-only-other k x n = ap (λ b. cond b 1 0) (ne_eqb x k n)
-
-pub only-is : (k x : ℕ) → 0 < only k x → x ≡ k
-only-is k x h = dite (ℕ_discrete x k) (λ e. e) (λ n. absurd (omega (arith, only-other k x n)))
 
 -- what a list without a place holds
 pub at_without : (p : ℕ) (l : List Claim) (k : ℕ) (c : Claim) → get_elem? (without p l) k ≡ some c

@@ -10,7 +10,8 @@ use native.Mathlib.Decide.{ℕ_discrete}
 use lib.ListN.{get_elem?}
 use prog.Atomic.{either}
 use Rattle.std.specs.Prelude.{Some, None}
-use Rattle.rpc_base.specs.Totals.{total}
+use Rattle.rpc_base.proofs.TotalsLemmas.{only-same, only-other, only-is}
+use Rattle.rpc_base.specs.Totals.{only, total}
 use Rattle.atomic_table.specs.Table.{step, keeps, takes, gives, Allows}
 use Rattle.atomic_table.proofs.Lists.{set_here, set_else, exchanged}
 use Rattle.worker_board.specs.Tickets.{OfferNo, offer_no}
@@ -23,7 +24,7 @@ use Rattle.worker_board.specs.declared.view.Role.{Role}
 use Rattle.worker_board.specs.declared.view.Role.TheVariants.{Dispatcher, Hand, Spent}
 use Rattle.worker_board.specs.declared.view.End.{End}
 use Rattle.worker_board.specs.declared.view.End.TheVariants.{Open, Collected, TakenBack}
-use Rattle.worker_board.specs.Counts.{only, both_of, has_turn, holds, ran, times, is_hand, hand_of}
+use Rattle.worker_board.specs.Counts.{both_of, has_turn, holds, ran, times, is_hand, hand_of}
 use Rattle.worker_board.specs.Word.{IsUnfinished, Phase, closed, ready, claimed, done, digit}
 use Rattle.worker_board.specs.Word.{word_at, IsOpen, IsClosed, IsCurrent, offer_of, ended, newest}
 use Rattle.worker_board.specs.Word.{run_of, runs_of, OlderEnded, offers_at}
@@ -32,8 +33,7 @@ use Rattle.worker_board.specs.Rule.{held_of, PlaceLaw, BoardLaw}
 use Rattle.worker_board.specs.Moves.{Seated, note, noting, turned_to, offered, ended_as, missed}
 use Rattle.worker_board.specs.Moves.{lost_at, Opened, Released, Numbered, Named, Readied}
 use Rattle.worker_board.specs.Moves.{LostBefore, Summed, Looked, TookBack}
-use Rattle.worker_board.proofs.CountsLemmas.{at_lt, suc_inj, total-set, term_le, only-same}
-use Rattle.worker_board.proofs.CountsLemmas.{only-other, only-is}
+use Rattle.worker_board.proofs.CountsLemmas.{at_lt, suc_inj, total-set, term_le}
 use Rattle.worker_board.proofs.WordLemmas.{not_both, closed_phase, word_open, word_ended}
 use Rattle.worker_board.proofs.WordLemmas.{word_below, closed_ended, older_ended, all_ended}
 use Rattle.worker_board.proofs.WordLemmas.{runs_ended, runs_offered, lost_stays, some_term}

@@ -10,7 +10,8 @@ use native.Mathlib.Decide.{ℕ_discrete}
 use lib.ListN.{get_elem?}
 use prog.Atomic.{either}
 use Rattle.std.specs.Prelude.{Some, None}
-use Rattle.rpc_base.specs.Totals.{total}
+use Rattle.rpc_base.proofs.TotalsLemmas.{only-same, only-other, only-is}
+use Rattle.rpc_base.specs.Totals.{only, total}
 use Rattle.atomic_table.specs.Table.{step, keeps, takes, gives, Allows}
 use Rattle.atomic_table.proofs.Lists.{set_here, set_else, exchanged}
 use Rattle.worker_board.specs.declared.word.TheConstants.{PHASES, READY, OVER}
@@ -23,15 +24,15 @@ use Rattle.worker_board.specs.declared.view.Role.{Role}
 use Rattle.worker_board.specs.declared.view.Role.TheVariants.{Hand}
 use Rattle.worker_board.specs.declared.view.End.{End}
 use Rattle.worker_board.specs.declared.view.End.TheVariants.{Open, Collected, TakenBack}
-use Rattle.worker_board.specs.Counts.{only, both_of, has_turn, holds, ran}
+use Rattle.worker_board.specs.Counts.{both_of, has_turn, holds, ran}
 use Rattle.worker_board.specs.Word.{Phase, closed, ready, claimed, done, word_at, IsOpen, job_of}
 use Rattle.worker_board.specs.Word.{IsOfferedJob, IsCurrent, newest, run_of, runs_of, offers_at}
 use Rattle.worker_board.specs.Rule.{Slot, Answer, Home, IsEmptyOrOut, IsHand, IsAnswered, InPhase}
 use Rattle.worker_board.specs.Rule.{held_of, PlaceLaw, BoardLaw}
 use Rattle.worker_board.specs.Moves.{Seated, Has, claim, note, noting, turned_to, lost_at, won}
 use Rattle.worker_board.specs.Moves.{worked, Reopened, Released, Finished, Tried}
-use Rattle.worker_board.proofs.CountsLemmas.{total-set, term_le, terms_le, only-same, only-other}
-use Rattle.worker_board.proofs.CountsLemmas.{only-is, at_without, total-without, none-without}
+use Rattle.worker_board.proofs.CountsLemmas.{total-set, term_le, terms_le}
+use Rattle.worker_board.proofs.CountsLemmas.{at_without, total-without, none-without}
 use Rattle.worker_board.proofs.CountsLemmas.{suc_inj}
 use Rattle.worker_board.proofs.WordLemmas.{not_both, word_open, lost_stays, offers_newest, other_word}
 use Rattle.worker_board.proofs.WordLemmas.{some_term}

@@ -5,7 +5,8 @@ use mathlib.Core.Logic.{dite}
 use mathlib.Core.Option.{some, some-ne-none}
 use native.Mathlib.Decide.{ℕ_discrete}
 use lib.ListN.{get_elem?}
-use Rattle.rpc_base.specs.Totals.{total}
+use Rattle.rpc_base.proofs.TotalsLemmas.{only-same, only-other}
+use Rattle.rpc_base.specs.Totals.{only, total}
 use Rattle.atomic_table.specs.Table.{Splits, Joins}
 use Rattle.atomic_table.proofs.Lists.{at_set, set_here, set_else, at_snoc, at_longer}
 use Rattle.worker_board.specs.Tickets.{OfferNo}
@@ -14,12 +15,12 @@ use Rattle.worker_board.specs.declared.view.Claim.{Claim}
 use Rattle.worker_board.specs.declared.view.View.{View}
 use Rattle.worker_board.specs.declared.view.Role.{Role}
 use Rattle.worker_board.specs.declared.view.Role.TheVariants.{Dispatcher, Hand, Spent}
-use Rattle.worker_board.specs.Counts.{only, both_of, has_turn, holds, ran, times, is_hand, hand_of, removed}
+use Rattle.worker_board.specs.Counts.{both_of, has_turn, holds, ran, times, is_hand, hand_of, removed}
 use Rattle.worker_board.specs.Word.{IsClosed, IsCurrent, offers_at}
 use Rattle.worker_board.specs.Rule.{Answer, Home, IsHand, IsPastReady, InPhase, PlaceLaw, BoardLaw, fresh}
 use Rattle.worker_board.specs.Moves.{sent_out, new_hand, number_of, taken_in}
 use Rattle.worker_board.proofs.CountsLemmas.{at_append, at_lt, total-append, total-set, term_le}
-use Rattle.worker_board.proofs.CountsLemmas.{only-same, only-other, times-removed}
+use Rattle.worker_board.proofs.CountsLemmas.{times-removed}
 use Rattle.worker_board.proofs.DispatcherLemmas.{is_dispatcher}
 
 no_claims : (l : List Claim) (p : ℕ) → l ≡ [] → total (λ (c : Claim). only p c.ticket.place) l ≡ 0

@@ -5,10 +5,10 @@ use mathlib.Core.Option.{some, some-injective, some-ne-none}
 use lib.ListN.{get_elem?, length-map, length-replicate}
 use Rattle.std.proofs.lemmas.List.{get_or-replicate}
 use Rattle.std.specs.Prelude.{None}
+use Rattle.rpc_base.proofs.TotalsLemmas.{only-other}
 use Rattle.atomic_table.specs.Table.{opening}
 use Rattle.worker_board.specs.declared.view.Offer.{Offer}
 use Rattle.worker_board.specs.declared.view.View.{View}
-use Rattle.worker_board.proofs.CountsLemmas.{only-other}
 use Rattle.worker_board.specs.Word.{closed}
 use Rattle.worker_board.specs.Rule.{Slot, Answer, PlaceLaw, BoardLaw, first_view}
 

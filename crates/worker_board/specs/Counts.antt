@@ -1,14 +1,11 @@
 -- How often a seat holds or ran something.
 use Rattle.std.specs.Prelude.{ℕ, suc, List, [], ◌∷◌, ◌==◌, cond}
-use Rattle.rpc_base.specs.Totals.{total}
+use Rattle.rpc_base.specs.Totals.{only, total}
 use Rattle.worker_board.specs.Tickets.{OfferNo}
 use Rattle.worker_board.specs.declared.view.Claim.{Claim}
 use Rattle.worker_board.specs.declared.view.View.{View}
 use Rattle.worker_board.specs.declared.view.Role.{Role}
 use Rattle.worker_board.specs.declared.view.Role.TheVariants.{Hand}
-
-abbrev pub only : ℕ → ℕ → ℕ
-only k x = cond (x == k) 1 0
 
 abbrev pub both_of : ℕ → ℕ → ℕ → ℕ → ℕ
 both_of p g x y = cond (x == p) (only g y) 0

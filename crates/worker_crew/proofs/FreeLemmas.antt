@@ -4,10 +4,12 @@ use Rattle.std.proofs.Common.{refl, sym, ap, ◌∙◌, subst, arith, length-app
 use mathlib.Core.Logic.{dite}
 use native.Mathlib.Decide.{ℕ_discrete}
 use Rattle.std.proofs.lemmas.List.{get_or-replicate, length-replicate}
+use Rattle.rpc_base.specs.Totals.{only}
+use Rattle.rpc_base.proofs.TotalsLemmas.{only-same, only-other}
 use Rattle.worker_board.specs.declared.view.Offer.{Offer}
-use Rattle.worker_board.specs.Counts.{only, times}
+use Rattle.worker_board.specs.Counts.{times}
 use Rattle.worker_board.specs.Word.{offers_at}
-use Rattle.worker_board.proofs.CountsLemmas.{total-append, only-same, only-other}
+use Rattle.worker_board.proofs.CountsLemmas.{total-append}
 use Rattle.worker_crew.specs.Places.{is_open, AreFree, IsKept}
 
 pub free-more : {n : ℕ} {l l' : List ℕ} → AreFree n l → l' ≡ l ++ n ∷ [] → AreFree (n + 1) l'

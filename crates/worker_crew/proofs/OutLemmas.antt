@@ -5,12 +5,14 @@ use Rattle.std.proofs.Common.{eq-eqb, ne_eqb}
 use Rattle.std.proofs.lemmas.List.{append-nil}
 use mathlib.Core.Logic.{dite}
 use native.Mathlib.Decide.{ℕ_discrete}
+use Rattle.rpc_base.specs.Totals.{only}
+use Rattle.rpc_base.proofs.TotalsLemmas.{only-same, only-other}
 use Rattle.rpc_outside.specs.Faults.{HasRisen, end_of_count}
 use Rattle.worker_board.specs.declared.view.View.{View}
-use Rattle.worker_board.specs.Counts.{only, times, removed}
+use Rattle.worker_board.specs.Counts.{times, removed}
 use Rattle.worker_board.specs.Moves.{taken_in}
 use Rattle.worker_board.specs.Seats.{with_hand}
-use Rattle.worker_board.proofs.CountsLemmas.{total-append, only-same, only-other, times-removed}
+use Rattle.worker_board.proofs.CountsLemmas.{total-append, times-removed}
 use Rattle.place_queue.specs.declared.knows.Numbered.{Numbered}
 use Rattle.worker_crew.specs.CrewIds.{CrewId}
 use Rattle.worker_crew.specs.Hands.{HandName}

@@ -10,15 +10,17 @@ use Rattle.std.proofs.lemmas.Grind.{get_or_default_zero}
 use Rattle.std.proofs.lemmas.List.Sorted.{IsPermutation-middle}
 use Rattle.std.proofs.Math.Seq.{drop-cons, take-append_seam, drop-append_seam}
 use Rattle.std.specs.Prelude.{Option, Some, option_to_list}
+use Rattle.rpc_base.specs.Totals.{only}
+use Rattle.rpc_base.proofs.TotalsLemmas.{only-same, only-other}
 use Rattle.worker_board.specs.declared.Parcel.{Parcel}
 use Rattle.worker_board.specs.declared.view.Offer.{Offer}
 use Rattle.worker_board.specs.declared.view.End.{End}
 use Rattle.worker_board.specs.declared.view.End.TheVariants.{Open, Collected, TakenBack}
-use Rattle.worker_board.specs.Counts.{only, times}
+use Rattle.worker_board.specs.Counts.{times}
 use Rattle.worker_board.specs.Word.{IsOpen, IsClosed, ended, offers_at, IsNewest, IsOfferedJob}
 use Rattle.worker_board.specs.Word.{job_of as board_job}
 use Rattle.worker_board.specs.declared.view.Job.{Job as BoardJob}
-use Rattle.worker_board.proofs.CountsLemmas.{total-append, only-same, only-other}
+use Rattle.worker_board.proofs.CountsLemmas.{total-append}
 use Rattle.worker_crew.specs.Jobs.{Job, job_of}
 use Rattle.worker_crew.specs.Places.{is_open_end, is_open, newest_job, jobs_at, put_at, IsKept}
 

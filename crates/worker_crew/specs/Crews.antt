@@ -1,10 +1,10 @@
 -- A crew: its dispatcher, and its hands.
 use Rattle.std.specs.Prelude.{◌≡◌, ◌+◌, ◌≤◌, ℕ, Bool, true, false, List, [], ◌∷◌, ◌++◌, length, map}
 use Rattle.std.specs.Prelude.{min, Option, None, Some}
-use Rattle.rpc_base.specs.Totals.{total}
+use Rattle.rpc_base.specs.Totals.{only, total}
 use Rattle.rpc_outside.specs.Faults.{end_of_count}
 use Rattle.worker_board.specs.declared.Parcel.{Parcel}
-use Rattle.worker_board.specs.Counts.{only, times}
+use Rattle.worker_board.specs.Counts.{times}
 use Rattle.worker_board.specs.Tickets.{OfferNo}
 use Rattle.worker_crew.specs.CrewIds.{CrewId}
 use Rattle.worker_crew.specs.Hands.{HandName, name_of}
