@@ -29,6 +29,8 @@ use Rattle.client_core.specs.Session.{Session, can_post}
 use Rattle.client_core.specs.Timeouts.{rolled_call}
 use Rattle.client_core.proofs.CallsLemmas.{sum-at_first}
 use Rattle.client_core.proofs.PoolLemmas.{names-cons}
+use Rattle.client_core.specs.Keeping.{StillKeepsAll}
+use Rattle.client_core.specs.KeepsPool.{KeepsPool}
 use Rattle.rpc_base.proofs.TakingLemmas.{find-passes}
 use Rattle.buffer_pool.proofs.PlacesLemmas.{named-one, lowest-empty}
 
@@ -357,3 +359,12 @@ module _ (now : ℕ) (h : MessageHeader) (body : List ℕ) (s new : Session) (po
       g.found) in
       λ e other was. rw g.session (end-others c s e (ap (λ r. is_of (Ask s.number r) e) same ∙ other) was)
   reply-entries (Dropped why) replies = λ e was. rw replies.0 was
+
+-- a call that changes nothing
+pub same-still : (s : Session) (pool : Pool) → KeepsPool pool s.active → StillKeepsAll s s pool pool
+same-still s pool keeps = record {
+  others = λ p none used. (none, refl, refl);
+  counts = λ entries counts. counts;
+  queued = λ entries counts. counts;
+  keeps_pool = keeps;
+}

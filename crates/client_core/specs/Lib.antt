@@ -1,5 +1,6 @@
 pub mod Counting
 pub mod Handing
+pub mod Keeping
 pub mod KeepsEntries
 pub mod KeepsPool
 pub mod Losing

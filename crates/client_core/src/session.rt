@@ -1,6 +1,6 @@
 //! A client session: its calls begin and post here. What replies and timeouts do to them stands in
 //! the modules below.
-ghost use Rattle.std.specs.Prelude.{◌≡◌, ◌<◌, ◌≤◌, ◌+◌, ◌^◌, ◌↔◌, ◌⊎◌, ℕ, Bool, List, [], ◌∷◌};
+ghost use Rattle.std.specs.Prelude.{◌≡◌, ◌<◌, ◌≤◌, ◌+◌, ◌^◌, ◌↔◌, ◌⊎◌, ℕ, List, [], ◌∷◌};
 ghost use Rattle.std.specs.Prelude.{◌++◌, false, count_by, length, option_map, IfErr, IfNone};
 ghost use Rattle.std.specs.Prelude.{◌-◌, IfSome, IsNone, IsTrue, OnErr, OnOk, option_copied};
 ghost use Rattle.std.specs.Prelude.{slice_get};
@@ -12,12 +12,12 @@ ghost use Rattle.rpc_laws.specs.Posting.{beginning, posting};
 ghost use Rattle.session_slots.specs.Slots.{lowest_free};
 ghost use Rattle.rpc_base.specs.declared.owner.Owner.TheVariants.{Ask};
 ghost use Rattle.packet_rings.specs.Entries.{is_of};
-ghost use Rattle.packet_rings.specs.Still.{Still, StillWith, StillWithout};
+ghost use Rattle.packet_rings.specs.Still.{Still, StillWith};
 ghost use Rattle.packet_rings.specs.Values.{EntryValue};
 ghost use Rattle.client_core.specs.Counting.{Counts, CountsQueued};
 ghost use Rattle.client_core.specs.Handing.{handed_of, handed_waiting};
 ghost use Rattle.client_core.specs.KeepsEntries.{KeepsEntries};
-ghost use Rattle.client_core.specs.KeepsPool.{CanHold, IsHeld, KeepsPool, LeavesOthers, held_for, released_at};
+ghost use Rattle.client_core.specs.KeepsPool.{CanHold, IsHeld, KeepsPool, LeavesOthers, held_for};
 ghost use Rattle.client_core.specs.Posting.{IsPacketOf, Starts, call_of, flushed_at, next_entry, posted, sent_at};
 ghost use Rattle.client_core.specs.Replies.{call_as};
 ghost use Rattle.client_core.specs.Session.{IsSession, bytes_in, can_post, enqueued, new_session};
@@ -26,6 +26,7 @@ ghost use Rattle.client_core.specs.Shown.{asked, begun_event, packet_of, paired,
 ghost use Rattle.client_core.specs.Shown.{sent_event, shown, stepped};
 ghost use Rattle.client_core.specs.Timeouts.{is_numbered};
 ghost use Rattle.client_core.specs.Watching.{is_after, next_told};
+ghost use Rattle.client_core.specs.Keeping.{LeavesEntry, MayLeave};
 ghost use Rattle.rpc_laws.specs.Packets.{IsSpelled};
 
 mod conditions;
@@ -285,20 +286,11 @@ impl ClientSession {
     /// An entry that was posted is sent: its reference is given up. Where it is the call's packet
     /// whose answer is wanted next, the call's clock starts anew at `now`, in microseconds.
     pub fn sent(&mut self, pool: &mut BufferPool, entry: &Entry, now: u64)
-        requires keeps_pool { KeepsPool pool.old self.old.active }
-        requires held { IsHeld pool.old entry.now.place }
+        requires { MayLeave entry.now self.old pool.old }
         ensures session { self.new ≡ sent_at entry.now now self.old }
         ensures step { (peer : ℕ) → stepped now (sent_event entry.now)
             (shown pool.old peer self.old) ≡ shown pool.new peer self.new ∷ [] }
-        ensures pool { pool.new ≡ released_at entry.now.place pool.old }
-        ensures handed { handed_of pool.new self.new ≡ handed_of pool.old self.old }
-        ensures others { IsPacketOf (call_of self.old entry.now) entry.now
-            → LeavesOthers self.old.active self.new.active pool.old pool.new }
-        ensures entries { KeepsEntries self.old self.new }
-        ensures counts { StillWithout entry.now (Counts pool.old) (Counts pool.new) }
-        ensures queued { IsPacketOf (call_of self.old entry.now) entry.now
-            → StillWithout entry.now (CountsQueued self.old) (CountsQueued self.new) }
-        ensures keeps_pool { KeepsPool pool.new self.new.active }
+        ensures leaves { LeavesEntry entry.now self.old self.new pool.old pool.new }
     {
         pool.release_at(entry.place);
         self.calls.mark(self.number, entry.owner, entry.number, now);
@@ -306,19 +298,10 @@ impl ClientSession {
 
     /// An entry that was posted is taken out unsent: its reference is given up.
     pub fn flushed(&mut self, pool: &mut BufferPool, entry: &Entry)
-        requires keeps_pool { KeepsPool pool.old self.old.active }
-        requires held { IsHeld pool.old entry.now.place }
+        requires { MayLeave entry.now self.old pool.old }
         ensures session { self.new ≡ flushed_at entry.now self.old }
         ensures shown { (peer : ℕ) → shown pool.new peer self.new ≡ shown pool.old peer self.old }
-        ensures pool { pool.new ≡ released_at entry.now.place pool.old }
-        ensures handed { handed_of pool.new self.new ≡ handed_of pool.old self.old }
-        ensures others { IsPacketOf (call_of self.old entry.now) entry.now
-            → LeavesOthers self.old.active self.new.active pool.old pool.new }
-        ensures entries { KeepsEntries self.old self.new }
-        ensures counts { StillWithout entry.now (Counts pool.old) (Counts pool.new) }
-        ensures queued { IsPacketOf (call_of self.old entry.now) entry.now
-            → StillWithout entry.now (CountsQueued self.old) (CountsQueued self.new) }
-        ensures keeps_pool { KeepsPool pool.new self.new.active }
+        ensures leaves { LeavesEntry entry.now self.old self.new pool.old pool.new }
     {
         pool.release_at(entry.place);
         self.calls.leave(self.number, entry.owner);

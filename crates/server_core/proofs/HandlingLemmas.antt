@@ -1,24 +1,25 @@
 -- What a packet that is dropped leaves, what each row's packet leaves by the server rule, and what is
 -- noted in the end.
-use Rattle.std.proofs.Common.{◌≡◌, ℕ, Bool, List, [], ◌++◌, length, refl, sym}
+use Rattle.std.proofs.Common.{◌≡◌, ℕ, List, [], ◌++◌, length, refl, sym}
 use Rattle.std.proofs.Common.{subst, append_assoc}
 use Rattle.buffer_pool.specs.Pool.{Pool}
 use Rattle.packet_header.specs.declared.packet.MessageHeader.{MessageHeader}
-use Rattle.packet_rings.specs.Rings.{Ring, ring}
+use Rattle.packet_rings.specs.Rings.{ring}
 use Rattle.packet_rings.specs.Values.{EntryValue}
 use Rattle.rpc_base.specs.declared.fact.Fact.{Fact}
 use Rattle.rpc_base.specs.declared.fact.Who.{Who}
 use Rattle.rpc_base.specs.declared.state.DropReason.{DropReason}
 use Rattle.rpc_laws.specs.declared.rows.ServerRow.{ServerRow}
+use Rattle.rpc_laws.specs.declared.tables.Server.{Server}
 use Rattle.rpc_outside.specs.Recording.{Grew, Log}
 use Rattle.rpc_outside.specs.declared.service.Mode.{Mode}
 use Rattle.rpc_outside.specs.declared.service.Service as Service
 use Rattle.server_core.specs.Flushing.{flushes, replies_of, ring_after}
-use Rattle.server_core.specs.Handling.{Handles, Leaves}
+use Rattle.server_core.specs.Handling.{Handles, Leaves, row_for}
 use Rattle.server_core.specs.Keeping.{KeepsPlaces, KeepsReplies}
 use Rattle.server_core.specs.KeepsPool.{KeepsPool}
 use Rattle.server_core.specs.Noting.{early_facts, first_facts, last_facts, packet_facts}
-use Rattle.server_core.specs.Rows.{row_of}
+use Rattle.server_core.specs.Scene.{Desk, Incoming, Scene, pooled, without_ring}
 use Rattle.server_core.specs.Session.{IsSession, Session, newest}
 use Rattle.server_core.specs.Shown.{shown}
 use Rattle.server_core.specs.Steps.{AreServed, IsAsking, IsStepOf, LeavesPool, asked_with}
@@ -35,7 +36,8 @@ pub dropped-leaves : {V R : Type 0} (v : Service.Ghosts V) (log : R → Log)
     (before after : Pool) (serving : V) (rec : R) → noted [] ≡ []
     → shown after s ≡ shown before s → AreServed v.mode_of s.slots → KeepsPlaces s s before after
     → LeavesPool (Dropped why) before after
-    → Leaves v log noted h body (Dropped why) s s before after serving serving rec rec
+    → Leaves v log noted h body (Dropped why) (pooled s before serving rec)
+    (pooled s after serving rec)
 dropped-leaves v log noted h body why s before after serving rec none same served places pool = record {
   handled = record {
     answer = [];
@@ -53,57 +55,72 @@ dropped-leaves v log noted h body why s before after serving rec none same serve
   places = places;
 }
 
-module _ {V R : Type 0} (v : Service.Ghosts V) (log : R → Log) (jobs_full : Bool) (who : Who)
-    (h : MessageHeader) (body : List ℕ) (step : Step) (s w : Session) (before after : Pool)
-    (old new : Ring EntryValue) (serving then_serving : V) (rec then_rec : R) where
+module _ {V R : Type 0} (v : Service.Ghosts V) (log : R → Log) (who : Who) (packet : Incoming)
+    (step : Step) (before after : Scene Desk V R) where
+  abbrev s : Session
+  s = before.state.session
+
+  abbrev entries : List EntryValue
+  entries = before.state.ring.items
+
+  abbrev v_shown : Server
+  v_shown = shown before.state.pool before.state.session
+
+  abbrev mode : Mode
+  mode = v.mode_of packet.head.req_type
+
+  abbrev ask : List ℕ
+  ask = asked_with packet.head packet.body v_shown
+
   -- what a packet of a row leaves is what the server rule says
-  pub handles-by : IsAsking h (length body) → IsSession s → KeepsPool before s.slots
-      → (row : ServerRow) → row_of (v.mode_of h.req_type) jobs_full h s ≡ row
-      → IsStepOf (v.mode_of h.req_type) h row step
-      → new ≡ ring (ring_after row step s.number (newest h.request s) old.items) old.size
-      → Leaves v log (λ answer. early_facts who s old.items row h (asked_with h body (shown before s))
-      answer step) h body step s w before after serving then_serving rec then_rec
-      → KeepsReplies old.items (new.items ++ replies_of step) s w before after
-      → Handles v log early_facts jobs_full who h body step s w before after old new serving
-      then_serving rec then_rec
+  pub handles-by : IsAsking packet.head (length packet.body) → IsSession s
+      → KeepsPool before.state.pool s.slots → (row : ServerRow) → row_for v packet s ≡ row
+      → IsStepOf mode packet.head row step
+      → after.state.ring ≡ ring (ring_after row step s.number (newest packet.head.request s) entries)
+      before.state.ring.size
+      → Leaves v log (λ answer. early_facts who s entries row packet.head ask answer step)
+      packet.head packet.body step (without_ring before) (without_ring after)
+      → KeepsReplies entries (after.state.ring.items ++ replies_of step) s after.state.session
+      before.state.pool after.state.pool → Handles v log early_facts who packet step before after
   handles-by asking sound keeps row is did left leaves replies =
-      let mode : Mode = v.mode_of h.req_type in
-      let rule = row-shown before mode jobs_full h s keeps in
-      let at : IsStepOf mode h (row_of mode jobs_full h s) step =
-      subst (λ r. IsStepOf mode h r step) (sym is) did in
+      let rule = row-shown before.state.pool mode packet.jobs_full packet.head s keeps in
+      let at : IsStepOf mode packet.head (row_for v packet s) step =
+      subst (λ r. IsStepOf mode packet.head r step) (sym is) did in
       record {
         row = at;
         rule = rule;
-        lacks = lacks-row mode jobs_full (shown before s) s.peer h (row_of mode jobs_full h s) step
+        lacks = lacks-row mode packet.jobs_full v_shown s.peer packet.head (row_for v packet s) step
             rule at;
-        ring_is = subst (λ r. new ≡ ring (ring_after r step s.number (newest h.request s) old.items)
-            old.size) (sym is) left;
-        leaves = subst (λ r. Leaves v log (λ answer. early_facts who s old.items r h
-            (asked_with h body (shown before s)) answer step) h body step s w before after serving
-            then_serving rec then_rec) (sym is) leaves;
-        facts = λ own. by-rule s before old.items h body own mode jobs_full sound asking step at;
+        ring_is = subst (λ r. after.state.ring ≡ ring (ring_after r step s.number
+            (newest packet.head.request s) entries) before.state.ring.size) (sym is) left;
+        leaves = subst (λ r. Leaves v log (λ answer. early_facts who s entries r packet.head ask
+            answer step) packet.head packet.body step (without_ring before) (without_ring after))
+            (sym is) leaves;
+        facts = λ own. by-rule s before.state.pool entries packet.head packet.body own mode
+            packet.jobs_full sound asking step at;
         replies = replies;
       }
 
   -- the last facts are noted
-  pub handles-noted : Handles v log early_facts jobs_full who h body step s w before after old new
-      serving then_serving rec then_rec → (last_rec : R)
-      → Grew (log then_rec) (log last_rec) (last_facts who w.number h step)
-      → Handles v log packet_facts jobs_full who h body step s w before after old new serving
-      then_serving rec last_rec
+  pub handles-noted : Handles v log early_facts who packet step before after → (last_rec : R)
+      → Grew (log after.recorder) (log last_rec)
+      (last_facts who after.state.session.number packet.head step)
+      → Handles v log packet_facts who packet step before
+      (record { state = after.state; service = after.service; recorder = last_rec })
   handles-noted did last_rec grew =
       let done = did.leaves.handled in
-      let row = row_of (v.mode_of h.req_type) jobs_full h s in
-      let ask = asked_with h body (shown before s) in
-      let last = last_facts who s.number h step in
-      let number = number-of h body (shown before s) (shown after w) step done.answer done.steps in
-      let noted : Grew (log then_rec) (log last_rec) last =
-      subst (λ n. Grew (log then_rec) (log last_rec) (last_facts who n h step)) number grew in
-      let early = early_facts who s old.items row h ask done.answer step in
-      let all = subst (λ fs. Grew (log rec) (log last_rec) fs)
-      (append_assoc (flushes row step who s.number (newest h.request s) old.items)
-      (first_facts who s.number h ask done.answer step) last)
-      (grew-then log rec then_rec last_rec early last done.grew noted) in
+      let row = row_for v packet s in
+      let last = last_facts who s.number packet.head step in
+      let number = number-of packet.head packet.body v_shown
+      (shown after.state.pool after.state.session) step done.answer done.steps in
+      let noted : Grew (log after.recorder) (log last_rec) last =
+      subst (λ n. Grew (log after.recorder) (log last_rec)
+      (last_facts who n packet.head step)) number grew in
+      let early = early_facts who s entries row packet.head ask done.answer step in
+      let all = subst (λ fs. Grew (log before.recorder) (log last_rec) fs)
+      (append_assoc (flushes row step who s.number (newest packet.head.request s) entries)
+      (first_facts who s.number packet.head ask done.answer step) last)
+      (grew-then log before.recorder after.recorder last_rec early last done.grew noted) in
       record {
         row = did.row;
         rule = did.rule;

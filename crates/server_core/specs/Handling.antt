@@ -2,7 +2,7 @@
 use Rattle.std.specs.Prelude.{◌≡◌, ℕ, ◌<◌, ◌++◌, Bool, false, true, List, Some, IfSome}
 use Rattle.buffer_pool.specs.Pool.{Pool, spare_of}
 use Rattle.packet_header.specs.declared.packet.MessageHeader.{MessageHeader}
-use Rattle.packet_rings.specs.Rings.{Ring, ring}
+use Rattle.packet_rings.specs.Rings.{ring}
 use Rattle.packet_rings.specs.Values.{EntryValue}
 use Rattle.rpc_base.specs.declared.fact.Fact.{Fact}
 use Rattle.rpc_base.specs.declared.fact.Who.{Who}
@@ -10,6 +10,7 @@ use Rattle.rpc_base.specs.declared.state.DropReason.TheVariants.{NoMemory}
 use Rattle.rpc_laws.specs.declared.rows.ServerRow.{ServerRow}
 use Rattle.rpc_laws.specs.declared.rows.ServerRow.TheVariants.{Begins, Drops}
 use Rattle.rpc_laws.specs.ServerTable.{server_row}
+use Rattle.rpc_laws.specs.declared.tables.Server.{Server}
 use Rattle.rpc_outside.specs.Recording.{Log}
 use Rattle.rpc_outside.specs.declared.service.Mode.{Mode}
 use Rattle.rpc_outside.specs.declared.service.Service as Service
@@ -20,6 +21,7 @@ use Rattle.server_core.specs.KeepsPool.{KeepsPool}
 use Rattle.server_core.specs.Noting.{Handled, IsByRule}
 use Rattle.server_core.specs.Replies.{CanHold}
 use Rattle.server_core.specs.Rows.{row_of}
+use Rattle.server_core.specs.Scene.{Desk, Incoming, Pooled, Scene, without_ring}
 use Rattle.server_core.specs.Session.{Session, newest}
 use Rattle.server_core.specs.Shown.{shown}
 use Rattle.server_core.specs.Steps.{AreServed, HasNoBytes, IfGiven, IfRan, IfReply, IsParcel}
@@ -44,21 +46,23 @@ pub record IsReady (mode : Mode) (jobs_full : Bool) (h : MessageHeader) (s : Ses
 -- what a packet that did this leaves of the session, the pool and the service, and what was noted
 pub record Leaves {V R : Type 0} (v : Service.Ghosts V) (log : R → Log)
     (noted : (answer : List ℕ) → List Fact) (h : MessageHeader) (body : List ℕ) (step : Step)
-    (s w : Session) (before after : Pool) (serving then_serving : V) (rec then_rec : R)
-    : Type 0 where
+    (before after : Scene Pooled V R) : Type 0 where
   -- as the facts Took, Ran and Given of the definitions. The answer of a handler that ran is that
   -- of each list of requests that the service stands for
-  pub handled : Handled log rec then_rec noted v.answer (v.stands serving) (v.stands then_serving)
-      h body (shown before s) (shown after w) step
-  pub reply : IfReply step (IsReply h.request h.number w after)
-  pub give : IfGiven step (IsParcel v.answer (v.stands serving) h body (shown before s))
+  pub handled : Handled log before.recorder after.recorder noted v.answer (v.stands before.service)
+      (v.stands after.service) h body (shown before.state.pool before.state.session)
+      (shown after.state.pool after.state.session) step
+  pub reply : IfReply step (IsReply h.request h.number after.state.session after.state.pool)
+  pub give : IfGiven step (IsParcel v.answer (v.stands before.service) h body
+      (shown before.state.pool before.state.session))
   -- a request whose handler ran has given its bytes up
-  pub no_bytes : IfRan step (HasNoBytes (newest h.request w))
-  pub service : UnlessRan step (then_serving ≡ serving)
-  pub session : LeavesSession step h.request s w
-  pub pool : LeavesPool step before after
-  pub all_served : AreServed v.mode_of w.slots
-  pub places : KeepsPlaces s w before after
+  pub no_bytes : IfRan step (HasNoBytes (newest h.request after.state.session))
+  pub service : UnlessRan step (after.service ≡ before.service)
+  pub session : LeavesSession step h.request before.state.session after.state.session
+  pub pool : LeavesPool step before.state.pool after.state.pool
+  pub all_served : AreServed v.mode_of after.state.session.slots
+  pub places : KeepsPlaces before.state.session after.state.session before.state.pool
+      after.state.pool
 
 -- the facts that a packet of a row leaves, by the entries before it, all that was taken of its
 -- request, the answer of its handler, and what it did
@@ -66,25 +70,38 @@ abbrev pub Notes : Type 0
 Notes = Who → Session → List EntryValue → ServerRow → MessageHeader → (ask answer : List ℕ)
     → Step → List Fact
 
+-- what the server table says of a packet
+abbrev pub row_for : {V : Type 0} → Service.Ghosts V → Incoming → Session → ServerRow
+row_for v packet s = row_of (v.mode_of packet.head.req_type) packet.jobs_full packet.head s
+
+-- and what the server rule says of it, by what is shown of its session
+abbrev pub rule_for : {V : Type 0} → Service.Ghosts V → (lacks : Bool) → Incoming → Server → ServerRow
+rule_for v lacks packet x =
+    server_row (v.mode_of packet.head.req_type) packet.jobs_full lacks (Some x) x.way.peer packet.head
+
 -- the session handled the packet by the server rule, and these facts were noted
 pub record Handles {V R : Type 0} (v : Service.Ghosts V) (log : R → Log) (notes : Notes)
-    (jobs_full : Bool) (who : Who) (h : MessageHeader) (body : List ℕ) (step : Step)
-    (s w : Session) (before after : Pool) (old new : Ring EntryValue) (serving then_serving : V)
-    (rec then_rec : R) : Type 0 where
-  pub row : IsStepOf (v.mode_of h.req_type) h (row_of (v.mode_of h.req_type) jobs_full h s) step
+    (who : Who) (packet : Incoming) (step : Step) (before after : Scene Desk V R) : Type 0 where
+  pub row : IsStepOf (v.mode_of packet.head.req_type) packet.head
+      (row_for v packet before.state.session) step
   -- as the server rule says of what is shown
-  pub rule : server_row (v.mode_of h.req_type) jobs_full false (Some (shown before s)) s.peer h
-      ≡ row_of (v.mode_of h.req_type) jobs_full h s
+  pub rule : rule_for v false packet (shown before.state.pool before.state.session)
+      ≡ row_for v packet before.state.session
   -- and where memory was wanting, as it says then
-  pub lacks : step ≡ Dropped NoMemory → server_row (v.mode_of h.req_type) jobs_full true
-      (Some (shown before s)) s.peer h ≡ Drops NoMemory
-  pub ring_is : new ≡ ring (ring_after (row_of (v.mode_of h.req_type) jobs_full h s) step s.number
-      (newest h.request s) old.items) old.size
-  pub leaves : Leaves v log (λ answer. notes who s old.items
-      (row_of (v.mode_of h.req_type) jobs_full h s) h (asked_with h body (shown before s)) answer
-      step) h body step s w before after serving then_serving rec then_rec
+  pub lacks : step ≡ Dropped NoMemory
+      → rule_for v true packet (shown before.state.pool before.state.session) ≡ Drops NoMemory
+  pub ring_is : after.state.ring ≡ ring (ring_after (row_for v packet before.state.session) step
+      before.state.session.number (newest packet.head.request before.state.session)
+      before.state.ring.items) before.state.ring.size
+  pub leaves : Leaves v log (λ answer. notes who before.state.session before.state.ring.items
+      (row_for v packet before.state.session) packet.head
+      (asked_with packet.head packet.body (shown before.state.pool before.state.session)) answer
+      step) packet.head packet.body step (without_ring before) (without_ring after)
   -- these are the facts of the server rule
-  pub facts : h.session ≡ s.number → IsByRule (v.mode_of h.req_type) s old.items
-      (row_of (v.mode_of h.req_type) jobs_full h s) h body (shown before s) step
+  pub facts : packet.head.session ≡ before.state.session.number
+      → IsByRule (v.mode_of packet.head.req_type) before.state.session before.state.ring.items
+      (row_for v packet before.state.session) packet.head packet.body
+      (shown before.state.pool before.state.session) step
   -- the ring with the reply holds each reply of the session that is neither sent nor flushed
-  pub replies : KeepsReplies old.items (new.items ++ replies_of step) s w before after
+  pub replies : KeepsReplies before.state.ring.items (after.state.ring.items ++ replies_of step)
+      before.state.session after.state.session before.state.pool after.state.pool

@@ -1,6 +1,6 @@
 -- What a call keeps of the places that a session names and of the entries that are neither sent nor
 -- flushed.
-use Rattle.std.specs.Prelude.{◌≡◌, ◌≢◌, ℕ, ◌+◌, List, ◌++◌}
+use Rattle.std.specs.Prelude.{◌≡◌, ◌≢◌, ℕ, ◌+◌, List, [], ◌∷◌, ◌++◌}
 use Rattle.buffer_pool.specs.Counting.{Counts}
 use Rattle.buffer_pool.specs.Pool.{Pool, refs_of}
 use Rattle.packet_header.specs.declared.packet.MessageHeader.{MessageHeader}
@@ -15,7 +15,7 @@ use Rattle.server_core.specs.KeepsPool.{KeepsPool, KeepsSpare, LeavesOthers}
 use Rattle.server_core.specs.Replies.{IsReplyTo, released_at, request_of}
 use Rattle.server_core.specs.Session.{Session}
 use Rattle.server_core.specs.Shown.{shown}
-use Rattle.server_core.specs.Steps.{AreServed}
+use Rattle.server_core.specs.Steps.{AreServed, IsReply}
 
 -- the pool has what the session needs of it, the places of others are as they were, and a place is
 -- spare unless the session names it
@@ -41,6 +41,11 @@ pub record StaysSound (more : List EntryValue) (s w : Session) (before after : P
   -- all its requests are of types that are served, as before
   pub served : (mode_of : ℕ → Mode) → AreServed mode_of s.slots → AreServed mode_of w.slots
 
+-- so it is of a call that gives the reply to packet k of request r
+pub record GivesReply (r k : ℕ) (e : EntryValue) (s w : Session) (before after : Pool) : Type 0 where
+  pub reply : IsReply r k w after e
+  pub stays : StaysSound (e ∷ []) s w before after
+
 -- and where a request begins with a packet, once the replies to the older one of its slot were
 -- flushed
 pub record BeginsSound (h : MessageHeader) (more : List EntryValue) (s w : Session)
@@ -50,6 +55,12 @@ pub record BeginsSound (h : MessageHeader) (more : List EntryValue) (s w : Sessi
       → KeepsReplies entries (entries ++ more) (without_newest h.request s) w before after
   pub served : (mode_of : ℕ → Mode) → mode_of h.req_type ≢ Unserved → AreServed mode_of s.slots
       → AreServed mode_of w.slots
+
+-- so it is where the reply to that packet is given
+pub record BeginsWithReply (h : MessageHeader) (e : EntryValue) (s w : Session)
+    (before after : Pool) : Type 0 where
+  pub reply : IsReply h.request 0 w after e
+  pub begins : BeginsSound h (e ∷ []) s w before after
 
 -- the entries count the references as they did before
 abbrev pub StillCounts : (old new : Pool) → Type 0

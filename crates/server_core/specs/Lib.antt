@@ -9,7 +9,9 @@ pub mod Noting
 pub mod Replies
 pub mod Reusing
 pub mod Rows
+pub mod Scene
 pub mod Serving
 pub mod Session
 pub mod Shown
 pub mod Steps
+pub mod Wanting

@@ -18,9 +18,11 @@ use Rattle.rpc_laws.specs.ServerTable.{served_facts}
 use Rattle.rpc_outside.specs.Recording.{Grew, Log}
 use Rattle.rpc_outside.specs.Served.{Served}
 use Rattle.rpc_outside.specs.declared.service.Mode.{Mode}
+use Rattle.rpc_outside.specs.declared.service.Service as Service
 use Rattle.server_core.specs.declared.step.Step.{Step}
 use Rattle.server_core.specs.declared.step.Step.TheVariants.{Took, Again, Ran, Give, Dropped}
 use Rattle.server_core.specs.Flushing.{bare, flushes, queued_of}
+use Rattle.server_core.specs.Scene.{Scene}
 use Rattle.server_core.specs.Session.{Session, newest}
 use Rattle.server_core.specs.Steps.{IfRan, IsAnswer, Steps, asked_with, gone_on_as}
 
@@ -101,11 +103,11 @@ pub record Handled {R : Type 0} (log : R → Log) (before now : R)
   pub grew : Grew (log before) (log now) (noted answer)
 
 -- a request that is taken with all its bytes is answered by its handler
-pub record IsServed {R : Type 0} (log : R → Log)
-    (before now : R) (who : Who) (session : ℕ) (answer_of : Served → ℕ → List ℕ → List ℕ)
-    (stands after : Served → Type 0) (h : MessageHeader) (ask : List ℕ) (v w : Server)
-    : Type 0 where
+pub record IsServed {V R : Type 0} (v : Service.Ghosts V) (log : R → Log) (who : Who)
+    (h : MessageHeader) (ask : List ℕ) (before after : Scene Server V R) : Type 0 where
   pub answer : List ℕ
-  pub shown_is : w ≡ gone_on_as h.request (answered answer) v
-  pub by_service : IsAnswer answer_of stands after h.req_type ask answer
-  pub grew : Grew (log before) (log now) (ran_facts who session h ask answer)
+  pub shown_is : after.state ≡ gone_on_as h.request (answered answer) before.state
+  pub by_service :
+      IsAnswer v.answer (v.stands before.service) (v.stands after.service) h.req_type ask answer
+  pub grew : Grew (log before.recorder) (log after.recorder)
+      (ran_facts who before.state.way.number h ask answer)

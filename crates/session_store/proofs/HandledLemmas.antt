@@ -40,6 +40,7 @@ use Rattle.server_core.specs.Handling.{Handles}
 use Rattle.server_core.specs.Keeping.{KeepsReplies}
 use Rattle.server_core.specs.Noting.{packet_facts, step_facts}
 use Rattle.server_core.specs.Rows.{row_of}
+use Rattle.server_core.specs.Scene.{at_desk, incoming}
 use Rattle.server_core.specs.Session.{Session as Serving, answer_of, newest, owner_of}
 use Rattle.server_core.specs.Steps.{asked_with}
 use Rattle.server_core.specs.Shown.{shown as shown_server, shown_request}
@@ -238,10 +239,12 @@ beside-replies {v} {w} {pool} {after} old new ps rs calls keeps = record {
 module _ {V R : Type 0} {v : Service.Ghosts V} {log : R → Log} {jobs_full : Bool} {me : ℕ}
     {h : MessageHeader} {body : List ℕ} {step : Step} {pool after : Pool} {old new : Ring EntryValue}
     {serving then_serving : V} {rec then_rec : R} (ps : List EntryValue) (calls : Calls ps) where
-  pub beside-one : (s w : Serving) → Handles v log packet_facts jobs_full (Node me) h body step s w
-      pool after old new serving then_serving rec then_rec
-      → Handles v log packet_facts jobs_full (Node me) h body step s w pool after (beside ps old)
-      (beside ps new) serving then_serving rec then_rec
+  pub beside-one : (s w : Serving) → Handles v log packet_facts (Node me)
+      (incoming h body jobs_full) step (at_desk s pool old serving rec)
+      (at_desk w after new then_serving then_rec)
+      → Handles v log packet_facts (Node me)
+      (incoming h body jobs_full) step (at_desk s pool (beside ps old) serving rec)
+      (at_desk w after (beside ps new) then_serving then_rec)
   beside-one s w g =
       let row = row_of (v.mode_of h.req_type) jobs_full h s in
       let older = newest h.request s in
@@ -283,10 +286,12 @@ module _ {V R : Type 0} {v : Service.Ghosts V} {log : R → Log} {jobs_full : Bo
       }
 
   abbrev pub beside-step : {i : ℕ} {servers now : List Serving}
-      → ServerStep i (λ s w. Handles v log packet_facts jobs_full (Node me) h body step s w pool
-      after old new serving then_serving rec then_rec) servers now
-      → ServerStep i (λ s w. Handles v log packet_facts jobs_full (Node me) h body step s w pool
-      after (beside ps old) (beside ps new) serving then_serving rec then_rec) servers now
+      → ServerStep i (λ s w. Handles v log packet_facts (Node me)
+      (incoming h body jobs_full) step (at_desk s pool old serving rec)
+      (at_desk w after new then_serving then_rec)) servers now
+      → ServerStep i (λ s w. Handles v log packet_facts (Node me)
+      (incoming h body jobs_full) step (at_desk s pool (beside ps old) serving rec)
+      (at_desk w after (beside ps new) then_serving then_rec)) servers now
   beside-step g = record {
     server = g.server;
     at = g.at;

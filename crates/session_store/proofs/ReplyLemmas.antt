@@ -43,7 +43,7 @@ use Rattle.client_core.proofs.PlacesLemmas.{two-places}
 use Rattle.server_core.specs.Session.{Session as Serving}
 use Rattle.server_core.specs.Shown.{shown as shown_server}
 use Rattle.session_store.specs.declared.side.Side.{Side}
-use Rattle.session_store.specs.Effects.{SideReplies}
+use Rattle.session_store.specs.Effects.{RepliesTo, SideChanges}
 use Rattle.session_store.specs.Hearing.{RepliesAt}
 use Rattle.session_store.specs.Stages.{is_connected}
 use Rattle.session_store.specs.declared.stage.Stage.TheVariants.{Connected}
@@ -148,7 +148,8 @@ row-idle w h n (Some d) c f e = idle-row _ _ _ w e
 module _ (pool after : Pool) (sides now : List Side) (servers : List Serving) (tx : Ring EntryValue)
     (i clock : ℕ) (h : MessageHeader) (body : List ℕ) (is_waiting : Bool) (r : Reply)
     (kept : Kept pool sides servers tx)
-    (g : SideReplies i clock h body is_waiting r sides now pool after)
+    (g : SideChanges i (λ s later. RepliesTo clock h body is_waiting r s.session later pool after)
+    sides now)
     (connected : g.side.stage ≡ Connected) (session : h.session ≡ i)
     (windows : Windows (map (shown_side pool) sides) (map queued_of tx.items))
     (waits : is_waiting ≡ list_any (is_entry (Ask i h.request) h.number) tx.items) where

@@ -34,7 +34,6 @@ use Rattle.rpc_laws.specs.declared.rows.ServerRow.TheVariants.{Drops, Begins, Ta
 use Rattle.rpc_laws.specs.declared.tables.Queued.{Queued}
 use Rattle.rpc_laws.specs.declared.tables.Server.{Server}
 use Rattle.rpc_outside.specs.Recording.{Grew, Log}
-use Rattle.rpc_outside.specs.Served.{Served}
 use Rattle.rpc_outside.specs.declared.service.Mode.{Mode}
 use Rattle.rpc_outside.specs.declared.service.Service as Service
 use Rattle.rpc_outside.specs.declared.service.Mode.TheVariants.{Unserved}
@@ -48,6 +47,7 @@ use Rattle.server_core.specs.Handling.{Handles}
 use Rattle.server_core.specs.Noting.{packet_facts}
 use Rattle.server_core.specs.Replies.{CanHold}
 use Rattle.server_core.specs.Rows.{row_of}
+use Rattle.server_core.specs.Scene.{at_desk, incoming}
 use Rattle.server_core.specs.Session.{IsSession, Session as Serving, answer_of, is_in_slot, newest, owner_of}
 use Rattle.server_core.specs.Shown.{shown as shown_server, shown_request}
 use Rattle.server_core.specs.Steps.{AreServed, IfReply, IsReply, IsStepOf, asked_with}
@@ -266,8 +266,8 @@ module _ {V R : Type 0} {v : Service.Ghosts V} {log : R → Log} {jobs_full : Bo
     {pool after : Pool} {serving then_serving : V} {rec then_rec : R} {sides : List Side}
     {servers now : List Serving} (kept : Kept pool sides servers old)
     (has-room : length old.items < old.size)
-    (g : ServerStep i (λ x w. Handles v log packet_facts jobs_full (Node me) h body step x w pool
-    after old new serving then_serving rec then_rec) servers now) (sound : IsSession g.later) where
+    (g : ServerStep i (λ x w. Handles v log packet_facts (Node me) (incoming h body jobs_full)
+    step (at_desk x pool old serving rec) (at_desk w after new then_serving then_rec)) servers now) (sound : IsSession g.later) where
   abbrev mode : Mode
   mode = v.mode_of h.req_type
 

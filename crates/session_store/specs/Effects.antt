@@ -206,12 +206,6 @@ pub record RepliesTo (now : ℕ) (h : MessageHeader) (body : List ℕ) (is_waiti
   pub queued : Still (CountsQueued old) (CountsQueued new)
   pub keeps : KeepsPool after new.active
 
-abbrev pub SideReplies : (i now : ℕ) → MessageHeader → List ℕ → Bool → Reply
-    → List Side → List Side → Pool → Pool → Type 0
-SideReplies i now h body is_waiting r old new before after =
-    SideChanges i (λ s later. RepliesTo now h body is_waiting r s.session later before after) old
-    new
-
 -- a call was rolled back
 pub record RollsBack (number : ℕ) (old new : Session) : Type 0 where
   pub call : ActiveCall

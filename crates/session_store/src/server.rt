@@ -17,6 +17,7 @@ ghost use Rattle.server_core.specs.Flushing.{replies_of};
 ghost use Rattle.server_core.specs.Serving.{IsUnheld};
 ghost use Rattle.server_core.specs.Handling.{Handles};
 ghost use Rattle.server_core.specs.Noting.{packet_facts};
+ghost use Rattle.server_core.specs.Scene.{at_desk, incoming};
 ghost use Rattle.server_core.specs.Session.{IsSession};
 ghost use Rattle.server_core.specs.Steps.{IsAsking};
 
@@ -181,9 +182,10 @@ pub fn asked_at<V: Service, R: Recorder>(
     requires asking { IsAsking head.now (length body.now) }
     requires all_served { IfSome (slice_get servers.old.items i) (ServerServed V.mode_of) }
     requires founded { StandsForSome (V.stands service.old) }
-    ensures handles { ServerStep i (λ v w. Handles V.Service R.log packet_facts jobs_full who
-        head.now body.now result v w pool.old pool.new tx.old tx.new service.old service.new
-        rec.old rec.new) servers.old.items servers.new.items }
+    ensures handles { ServerStep i (λ v w. Handles V.Service R.log packet_facts who
+        (incoming head.now body.now jobs_full) result
+        (at_desk v pool.old tx.old service.old rec.old)
+        (at_desk w pool.new tx.new service.new rec.new)) servers.old.items servers.new.items }
     ensures sound { IfSome (slice_get servers.new.items i) IsSession }
 {
     let server = &mut servers[i];

@@ -9,7 +9,8 @@ ghost use Rattle.client_core.specs.Timeouts.{call_numbered, timer_told};
 ghost use Rattle.client_core.specs.declared.call.ActiveCall.{ActiveCall};
 ghost use Rattle.packet_header.specs.Header.{AreBytes, MessageInRange};
 ghost use Rattle.session_store.specs.Effects.{SideBegins, SideFlushes, SideLoses, SidePosts};
-ghost use Rattle.session_store.specs.Effects.{SideReplies, SideRolls, SideSends, SideWaits};
+ghost use Rattle.session_store.specs.Effects.{RepliesTo, SideChanges, SideRolls, SideSends};
+ghost use Rattle.session_store.specs.Effects.{SideWaits};
 ghost use Rattle.session_store.specs.Effects.{SpellsIn};
 ghost use Rattle.session_store.specs.Sides.{IsOfSide, MayPost, SideKept, server_at};
 
@@ -153,8 +154,8 @@ pub fn heard_at(
         (λ s. head.now.session ≡ s.session.number) }
     requires unheld { IfSome (slice_get sides.old.items i) (λ s. NextIsUnheld pool.old is_waiting
         head.now.number (call_as head.now.request s.session)) }
-    ensures { SideReplies i now head.now body.now is_waiting result sides.old.items sides.new.items
-        pool.old pool.new }
+    ensures { SideChanges i (λ s later. RepliesTo now head.now body.now is_waiting result s.session
+        later pool.old pool.new) sides.old.items sides.new.items }
 {
     let side = &mut sides[i];
     side.session.on_reply(pool, head, body, is_waiting, now)

@@ -12,16 +12,15 @@ ghost use Rattle.message_buffer.specs.Buffer.{capacity_of, with_len};
 ghost use Rattle.buffer_pool.specs.Pool.{buf_at};
 ghost use Rattle.packet_header.specs.Header.{MessageInRange};
 ghost use Rattle.rpc_laws.specs.Calls.{is_response};
-ghost use Rattle.packet_rings.specs.Still.{Still};
-ghost use Rattle.client_core.specs.Counting.{Counts, CountsQueued};
 ghost use Rattle.client_core.specs.Handing.{HandsBackBy, handed_of};
 ghost use Rattle.client_core.specs.KeepsEntries.{RepliesKeep};
-ghost use Rattle.client_core.specs.KeepsPool.{IsKept, KeepsPool, LeavesOthers};
+ghost use Rattle.client_core.specs.KeepsPool.{IsKept, KeepsPool};
 ghost use Rattle.client_core.specs.Session.{IsInTurn};
 ghost use Rattle.client_core.specs.Replies.{IsDone, IsPart, IsTaken, IsUnheld, NextIsUnheld};
 ghost use Rattle.client_core.specs.Replies.{Replies, after_reply, answered, call_as, end_of};
 ghost use Rattle.client_core.specs.Replies.{reply_row, returned, rewritten_at, row_told, sized};
 ghost use Rattle.client_core.specs.Replies.{with_part, without_buffers, without_call};
+ghost use Rattle.client_core.specs.Keeping.{IsActive, StillKeeps, StillKeepsAll};
 
 use super::ClientSession;
 use crate::call::ActiveCall;
@@ -69,11 +68,8 @@ impl ClientSession {
         ensures replies { Replies result now head.now body.now self.old self.new pool.old pool.new }
         ensures handed { HandsBackBy result self.old.number (handed_of pool.old self.old)
             (handed_of pool.new self.new) }
-        ensures others { LeavesOthers self.old.active self.new.active pool.old pool.new }
         ensures entries { RepliesKeep result head.now.request self.old self.new }
-        ensures counts { Still (Counts pool.old) (Counts pool.new) }
-        ensures queued { Still (CountsQueued self.old) (CountsQueued self.new) }
-        ensures keeps_pool { KeepsPool pool.new self.new.active }
+        ensures still { StillKeepsAll self.old self.new pool.old pool.new }
     {
         let Some(call) = self.calls.of_request(head.request) else {
             return Reply::Dropped(DropReason::NoCall);
@@ -93,8 +89,7 @@ impl ClientSession {
         body: &[u8],
         now: u64,
     ) -> Reply
-        requires keeps_pool { KeepsPool pool.old self.old.active }
-        requires active { call_as call.request self.old ≡ Some call }
+        requires call { IsActive call self.old pool.old }
         requires of_call { head.now.request ≡ call.request }
         requires turn { IsInTurn call }
         requires taken { IsTaken call head.now (length body.now) }
@@ -102,8 +97,7 @@ impl ClientSession {
         requires unheld { call.posted ≡ call.got + 1 → IsUnheld pool.old call }
         ensures took { row_told result ≡ Takes }
         ensures replies { Replies result now head.now body.now self.old self.new pool.old pool.new }
-        ensures counts { Still (Counts pool.old) (Counts pool.new) }
-        ensures keeps_pool { KeepsPool pool.new self.new.active }
+        ensures still { StillKeeps self.new pool.old pool.new }
     {
         match call.end_row(head) {
             EndRow::GoesOn => {
@@ -131,15 +125,13 @@ impl ClientSession {
         body: &[u8],
         now: u64,
     )
-        requires keeps_pool { KeepsPool pool.old self.old.active }
-        requires active { call_as call.request self.old ≡ Some call }
+        requires call { IsActive call self.old pool.old }
         requires taken { IsTaken call head.now (length body.now) }
         requires goes_on { end_of head.now call ≡ GoesOn }
         requires small { is_response head.now.kind ≡ true → head.now.size ≤ MOST_MESSAGE_BYTES }
         ensures session { self.new ≡ after_reply now head.now call self.old }
         ensures pool { pool.new ≡ answered call head.now body.now pool.old }
-        ensures counts { Still (Counts pool.old) (Counts pool.new) }
-        ensures keeps_pool { KeepsPool pool.new self.new.active }
+        ensures still { StillKeeps self.new pool.old pool.new }
     {
         self.credits.give_back(call.request.slot());
         self.calls.replace(call.request, call.replied(head, now));
@@ -148,14 +140,12 @@ impl ClientSession {
 
     // An active call that no queued entry names is over.
     pub(super) fn end(&mut self, pool: &mut BufferPool, call: ActiveCall, outcome: Outcome) -> Done
-        requires keeps_pool { KeepsPool pool.old self.old.active }
-        requires active { call_as call.request self.old ≡ Some call }
+        requires call { IsActive call self.old pool.old }
         requires unheld { IsUnheld pool.old call }
         ensures done { IsDone self.old.number outcome call pool.old result }
         ensures session { self.new ≡ without_call call self.old }
         ensures pool { pool.new ≡ without_buffers call pool.old }
-        ensures counts { Still (Counts pool.old) (Counts pool.new) }
-        ensures keeps_pool { KeepsPool pool.new self.new.active }
+        ensures still { StillKeeps self.new pool.old pool.new }
     {
         self.credits.roll(call.request.slot());
         self.slots.end(call.request);

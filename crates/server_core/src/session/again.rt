@@ -1,21 +1,21 @@
 //! A request of one packet whose answer is written into the buffer of the older one of its slot.
-ghost use Rattle.std.specs.Prelude.{◌≡◌, ◌≢◌, ◌<◌, ℕ, ◌++◌, ◌∷◌, List, [], length, IfSome, None, Some};
+ghost use Rattle.std.specs.Prelude.{◌≡◌, ◌≢◌, ◌<◌, ℕ, ◌++◌, ◌∷◌, [], IfSome, None, Some};
 ghost use Rattle.message_buffer.specs.Messages.{message_in};
 ghost use Rattle.packet_header.specs.Parts.{packet_count, IsMessage};
 ghost use Rattle.buffer_pool.specs.Pool.{IsFull, buf_at, held, refs_of};
 ghost use Rattle.rpc_laws.specs.Requests.{given};
-ghost use Rattle.rpc_outside.specs.Served.{Served, StandsForSome};
-ghost use Rattle.rpc_outside.specs.declared.service.Mode.{Mode};
-ghost use Rattle.rpc_outside.specs.declared.service.Mode.TheVariants.{Inline, Unserved};
+ghost use Rattle.rpc_outside.specs.Served.{Served};
 ghost use Rattle.server_core.specs.KeepsPool.{KeepsPool};
 ghost use Rattle.server_core.specs.Noting.{IsServed};
 ghost use Rattle.server_core.specs.Replies.{entry_at};
 ghost use Rattle.server_core.specs.Reusing.{HasRoom, IsReusable, IsRewritten};
-ghost use Rattle.server_core.specs.Serving.{IsUnheld, begun, first_answered, with_slots};
+ghost use Rattle.server_core.specs.Serving.{begun, first_answered, with_slots};
 ghost use Rattle.server_core.specs.Session.{IsSession, newest};
 ghost use Rattle.server_core.specs.Shown.{shown};
-ghost use Rattle.server_core.specs.Steps.{AreServed, HasNoBytes, IsReply, begun_with, first_shown};
-ghost use Rattle.server_core.specs.Keeping.{BeginsSound};
+ghost use Rattle.server_core.specs.Steps.{HasNoBytes, begun_with, first_shown};
+ghost use Rattle.server_core.specs.Wanting.{CanBeginWhole, CanServe};
+ghost use Rattle.server_core.specs.Scene.{in_scene, pooled, seen};
+ghost use Rattle.server_core.specs.Keeping.{BeginsWithReply};
 
 use super::ServerSession;
 use crate::running::serve;
@@ -64,25 +64,18 @@ impl ServerSession {
         rec: &mut R,
     ) -> Entry
         requires session { IsSession self.old }
-        requires keeps_pool { KeepsPool pool.old self.old.slots }
+        requires whole { CanBeginWhole head.now self.old pool.old }
         requires reusable { IsReusable pool.old size place (newest head.now.request self.old) }
-        requires unheld { IfSome (newest head.now.request self.old) (IsUnheld pool.old) }
         requires newer { IfSome (newest head.now.request self.old)
             (λ q. q.number < head.now.request) }
-        requires size { IsMessage head.now.size }
-        requires one { packet_count head.now.size ≡ 1 }
-        requires inline { V.mode_of head.now.req_type ≡ Inline }
         requires answer { IsMessage size }
-        requires room { (served : Served) → V.stands service.old served →
-            length (V.answer served head.now.req_type body.now) ≡ size }
-        requires founded { StandsForSome (V.stands service.old) }
-        ensures answers { IsServed R.log rec.old rec.new who.now self.old.number V.answer
-            (V.stands service.old) (V.stands service.new) head.now body.now
-            (begun_with (given (first_shown head.now [] None)) (shown pool.old self.old))
-            (shown pool.new self.new) }
-        ensures reply { IsReply head.now.request 0 self.new pool.new result }
+        requires serves { CanServe V.Service service.old head.now.req_type body.now size }
+        ensures answers { IsServed V.Service R.log who.now head.now body.now
+            (in_scene (begun_with (given (first_shown head.now [] None)) (shown pool.old self.old))
+            (pooled self.old pool.old service.old rec.old))
+            (seen (pooled self.new pool.new service.new rec.new)) }
         ensures no_bytes { HasNoBytes (newest head.now.request self.new) }
-        ensures begins { BeginsSound head.now (result ∷ []) self.old self.new pool.old pool.new }
+        ensures replies { BeginsWithReply head.now result self.old self.new pool.old pool.new }
     {
         serve_at(pool, service, place, size, head.req_type, body);
         self.note_ran(head, body, pool.get(place).bytes(), who, rec);
@@ -129,10 +122,7 @@ fn serve_at<V: Service>(
     requires full { IsFull pool.old place }
     requires unheld { refs_of pool.old place ≡ 0 }
     requires fits { HasRoom size (buf_at pool.old place) }
-    requires inline { V.mode_of req_type ≡ Inline }
-    requires room { (served : Served) → V.stands service.old served →
-        length (V.answer served req_type ask.now) ≡ size }
-    requires founded { StandsForSome (V.stands service.old) }
+    requires serves { CanServe V.Service service.old req_type ask.now size }
     ensures rewritten { IsRewritten size place pool.old pool.new }
     ensures answer { (served : Served) → V.stands service.old served →
         message_in (buf_at pool.new place) ≡ V.answer served req_type ask.now }

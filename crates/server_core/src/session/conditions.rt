@@ -5,6 +5,7 @@ ghost use Rattle.server_core.specs.KeepsPool.{KeepsPool};
 ghost use Rattle.server_core.specs.Replies.{CanHold, IsHeld, IsReplyTo, request_of, taken_entry};
 ghost use Rattle.server_core.specs.Serving.{IsUnheld};
 ghost use Rattle.server_core.specs.Session.{newest};
+ghost use Rattle.server_core.specs.Wanting.{IsPosted};
 
 use super::ServerSession;
 use buffer_pool::BufferPool;
@@ -31,8 +32,7 @@ impl ServerSession {
     /// Whether there is a reference to the place of an entry, if it has one, as `sent` and
     /// `flushed` want it.
     pub fn is_held(&self, pool: &BufferPool, entry: &Entry) -> bool
-        requires keeps_pool { KeepsPool pool.now self.now.slots }
-        requires posted { IsReplyTo (request_of self.now entry.now) entry.now }
+        requires { IsPosted entry.now self.now pool.now }
         ensures { IsTrue result ↔ IsHeld pool.now entry.now.place }
     {
         match entry.place {

@@ -1,11 +1,9 @@
 //! The end of a session.
-ghost use Rattle.std.specs.Prelude.{◌≡◌, List, []};
+ghost use Rattle.std.specs.Prelude.{◌≡◌, []};
 ghost use Rattle.std.specs.List.{AllByRecursion};
-ghost use Rattle.packet_rings.specs.Values.{EntryValue};
 ghost use Rattle.server_core.specs.Keeping.{StillCounts};
 ghost use Rattle.server_core.specs.KeepsPool.{KeepsPool, KeepsSpare, LeavesOthers};
 ghost use Rattle.server_core.specs.Serving.{IsUnheld, all_given_up};
-ghost use Rattle.buffer_pool.specs.Counting.{Counts};
 
 use super::ServerSession;
 use super::taking::empty_buffers;

@@ -1,26 +1,27 @@
 //! Background jobs: a request goes to a worker with its bytes, and its answer comes back.
 ghost use Rattle.std.specs.Prelude.{◌≡◌, ◌≢◌, ℕ, ◌<◌, ◌≤◌, ◌+◌, List, [], ◌∷◌, ◌++◌, IfNone};
-ghost use Rattle.std.specs.Prelude.{IfSome, None, Some, false, true};
+ghost use Rattle.std.specs.Prelude.{IfSome, None, Some};
 ghost use Rattle.packet_header.specs.Parts.{packet_count};
 ghost use Rattle.message_buffer.specs.Buffer.{bytes_of};
 ghost use Rattle.buffer_pool.specs.Pool.{buf_at, spare_of};
 ghost use Rattle.packet_rings.specs.Values.{EntryValue};
 ghost use Rattle.rpc_laws.specs.Requests.{answered, given};
 ghost use Rattle.rpc_outside.specs.declared.service.Mode.{Mode};
-ghost use Rattle.rpc_outside.specs.declared.service.Mode.TheVariants.{Unserved};
 ghost use Rattle.server_core.specs.Counting.{CountsQueued};
 ghost use Rattle.server_core.specs.Finishing.{IsFinished, IsLeft};
 ghost use Rattle.server_core.specs.Flushing.{HoldsAll};
 ghost use Rattle.server_core.specs.KeepsPool.{IsAsked, KeepsPool};
-ghost use Rattle.server_core.specs.Serving.{IsUnheld, first_given, last_given};
-ghost use Rattle.server_core.specs.declared.slot.SlotState.TheVariants.{Taking, Working};
-ghost use Rattle.server_core.specs.Session.{IsInTurn, IsSession, newest};
+ghost use Rattle.server_core.specs.Serving.{first_given, last_given};
+ghost use Rattle.server_core.specs.declared.slot.SlotState.TheVariants.{Taking};
+ghost use Rattle.server_core.specs.Session.{IsSession, newest};
 ghost use Rattle.server_core.specs.Shown.{shown};
-ghost use Rattle.server_core.specs.Steps.{AreServed, HasNoBytes, IsReply, begun_with, first_shown};
+ghost use Rattle.server_core.specs.Steps.{AreServed, HasNoBytes, begun_with, first_shown};
 ghost use Rattle.server_core.specs.Steps.{gone_on_as, grown};
 ghost use Rattle.packet_header.specs.Parts.{IsMessage};
 ghost use Rattle.buffer_pool.specs.Counting.{Counts};
 ghost use Rattle.server_core.specs.Keeping.{BeginsSound, KeepsPlaces, StaysSound};
+ghost use Rattle.server_core.specs.Wanting.{CanBeginWhole, IsAwaited, IsNewest};
+ghost use Rattle.server_core.specs.Keeping.{GivesReply};
 
 use super::ServerSession;
 use super::taking::{give_up, put_message};
@@ -77,18 +78,14 @@ impl ServerSession {
         request: SlotRequest,
         answer: MsgBuf,
     ) -> Entry
-        requires keeps_pool { KeepsPool pool.old self.old.slots }
-        requires spare { 0 < spare_of pool.old }
-        requires found { newest request.number self.old ≡ Some request }
-        requires turn { IsInTurn request }
-        requires working { request.state ≡ Working }
+        requires awaited { IsAwaited request self.old pool.old }
         requires answer { IsMessage answer.len }
         ensures shown { shown pool.new self.new
             ≡ gone_on_as request.number (answered (bytes_of answer)) (shown pool.old self.old) }
         ensures last { result.number + 1 ≡ packet_count request.size }
-        ensures reply { IsReply request.number result.number self.new pool.new result }
         ensures no_bytes { HasNoBytes (newest request.number self.new) }
-        ensures stays { StaysSound (result ∷ []) self.old self.new pool.old pool.new }
+        ensures replies { GivesReply request.number result.number result self.old self.new pool.old
+            pool.new }
         // Whatever the entries are.
         ensures queued { (entries : List EntryValue) → CountsQueued self.old entries →
             CountsQueued self.new (entries ++ result ∷ []) }
@@ -108,16 +105,11 @@ impl ServerSession {
 
     // A new request of this one packet begins: a worker or its handler has it, with its bytes.
     pub(super) fn begin_working(&mut self, pool: &mut BufferPool, head: &MessageHeader)
-        requires keeps_pool { KeepsPool pool.old self.old.slots }
-        requires unheld { IfSome (newest head.now.request self.old) (IsUnheld pool.old) }
-        requires size { IsMessage head.now.size }
-        requires one { packet_count head.now.size ≡ 1 }
+        requires { CanBeginWhole head.now self.old pool.old }
         ensures shown { shown pool.new self.new
             ≡ begun_with (given (first_shown head.now [] None)) (shown pool.old self.old) }
-        ensures newest { newest head.now.request self.new ≡ Some (first_given head.now) }
         ensures number { self.new.number ≡ self.old.number }
-        ensures sound { IsSession self.new }
-        ensures more { spare_of pool.old ≤ spare_of pool.new }
+        ensures awaited { IsAwaited (first_given head.now) self.new pool.new }
         ensures begins { BeginsSound head.now [] self.old self.new pool.old pool.new }
     {
         give_up(&mut self.slots, pool, head.request.slot());
@@ -132,8 +124,7 @@ impl ServerSession {
         request: SlotRequest,
         place: Place,
     ) -> MsgBuf
-        requires keeps_pool { KeepsPool pool.old self.old.slots }
-        requires found { newest request.number self.old ≡ Some request }
+        requires newest { IsNewest request self.old pool.old }
         requires taking { request.state ≡ Taking place }
         requires kept { IsAsked pool.old request.size place }
         requires size { IsMessage request.size }
@@ -141,10 +132,8 @@ impl ServerSession {
         ensures ask { buf_at pool.old place ≡ Some result }
         ensures shown { shown pool.new self.new
             ≡ gone_on_as request.number (λ x. given (grown [] x)) (shown pool.old self.old) }
-        ensures newest { newest request.number self.new ≡ Some (last_given request) }
         ensures number { self.new.number ≡ self.old.number }
-        ensures sound { IsSession self.new }
-        ensures more { spare_of pool.new ≡ spare_of pool.old + 1 }
+        ensures awaited { IsAwaited (last_given request) self.new pool.new }
         ensures stays { StaysSound [] self.old self.new pool.old pool.new }
     {
         let Ok(ask) = pool.take(place) else {

@@ -2,8 +2,8 @@
 ghost use Rattle.packet_header.specs.Header.{AreBytes};
 ghost use Rattle.rpc_laws.specs.Packets.{IsSpelled};
 ghost use Rattle.server_core.specs.Keeping.{LeavesReply};
-ghost use Rattle.server_core.specs.KeepsPool.{KeepsPool};
-ghost use Rattle.server_core.specs.Replies.{IsHeld, IsReplyTo, packet_of, request_of};
+ghost use Rattle.server_core.specs.Replies.{packet_of};
+ghost use Rattle.server_core.specs.Wanting.{IsPosted, MayLeave};
 
 use super::ServerSession;
 use buffer_pool::BufferPool;
@@ -19,8 +19,7 @@ impl ServerSession {
         entry: &Entry,
         head: &mut [u8; HEAD_BYTES],
     ) -> &'a [u8]
-        requires keeps_pool { KeepsPool pool.now self.now.slots }
-        requires posted { IsReplyTo (request_of self.now entry.now) entry.now }
+        requires { IsPosted entry.now self.now pool.now }
         ensures spelled { IsSpelled (packet_of pool.now self.now entry.now) head.new result.now }
         ensures bytes { AreBytes head.new }
     {
@@ -40,8 +39,7 @@ impl ServerSession {
 
     /// An entry that was posted is sent: its reference is given up.
     pub fn sent(&mut self, pool: &mut BufferPool, entry: &Entry)
-        requires keeps_pool { KeepsPool pool.old self.old.slots }
-        requires held { IsHeld pool.old entry.now.place }
+        requires { MayLeave entry.now self.old pool.old }
         ensures { LeavesReply entry.now self.old self.new pool.old pool.new }
     {
         pool.release_at(entry.place);
@@ -50,8 +48,7 @@ impl ServerSession {
 
     /// An entry that was posted is taken out unsent: its reference is given up.
     pub fn flushed(&mut self, pool: &mut BufferPool, entry: &Entry)
-        requires keeps_pool { KeepsPool pool.old self.old.slots }
-        requires held { IsHeld pool.old entry.now.place }
+        requires { MayLeave entry.now self.old pool.old }
         ensures { LeavesReply entry.now self.old self.new pool.old pool.new }
     {
         self.sent(pool, entry);

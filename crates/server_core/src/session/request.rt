@@ -1,5 +1,5 @@
 //! The server table: what a Request or RFR does to the session that it is for.
-ghost use Rattle.std.specs.Prelude.{◌≡◌, ℕ, false, [], ◌∷◌, IfSome, Some, length};
+ghost use Rattle.std.specs.Prelude.{◌≡◌, ℕ, false, [], ◌∷◌, Some, length};
 ghost use Rattle.buffer_pool.specs.Pool.{Pool};
 ghost use Rattle.rpc_laws.specs.Service.{is_handled};
 ghost use Rattle.rpc_laws.specs.ServerTable.{new_row, server_row};
@@ -7,14 +7,15 @@ ghost use Rattle.rpc_outside.specs.Served.{StandsForSome};
 ghost use Rattle.rpc_outside.specs.declared.service.Mode.{Mode};
 ghost use Rattle.server_core.specs.Counting.{repeated};
 ghost use Rattle.server_core.specs.Handling.{Handles, IsReady};
-ghost use Rattle.server_core.specs.Keeping.{StaysSound};
 ghost use Rattle.server_core.specs.KeepsPool.{KeepsPool};
-ghost use Rattle.server_core.specs.Noting.{early_facts, packet_facts};
-ghost use Rattle.server_core.specs.Replies.{CanHold};
+ghost use Rattle.server_core.specs.Noting.{packet_facts};
 ghost use Rattle.server_core.specs.Rows.{row_of};
+ghost use Rattle.server_core.specs.Scene.{at_desk, incoming};
 ghost use Rattle.server_core.specs.Session.{IsSession, newest};
 ghost use Rattle.server_core.specs.Shown.{shown};
-ghost use Rattle.server_core.specs.Steps.{AreServed, IsAsking, IsReply, IsTakenBefore};
+ghost use Rattle.server_core.specs.Steps.{AreServed, IsAsking, IsTakenBefore};
+ghost use Rattle.server_core.specs.Wanting.{MayTake};
+ghost use Rattle.server_core.specs.Keeping.{GivesReply};
 
 use super::ServerSession;
 use crate::slot::{SlotRequest, makes_job};
@@ -52,58 +53,32 @@ impl ServerSession {
         // All packets of a session are handled by services of one type.
         requires all_served { AreServed V.mode_of self.old.slots }
         requires founded { StandsForSome (V.stands service.old) }
-        ensures { Handles V.Service R.log packet_facts jobs_full who head.now body.now result
-            self.old self.new pool.old pool.new tx.old tx.new service.old service.new rec.old
-            rec.new }
-    {
-        let step = self.step(alloc, pool, tx, service, head, body, jobs_full, &who, rec);
-        self.note(head, &step, &who, rec);
-        step
-    }
-
-    // What the packet does, before its facts are noted but for the replies that it flushes.
-    fn step<V: Service, R: Recorder>(
-        &mut self,
-        alloc: Global,
-        pool: &mut BufferPool,
-        tx: &mut TxRing,
-        service: &mut V,
-        head: &MessageHeader,
-        body: &[u8],
-        jobs_full: bool,
-        who: &Who,
-        rec: &mut R,
-    ) -> Step
-        requires ready { IsReady (V.mode_of head.now.req_type) jobs_full head.now self.old pool.old
-            tx.old.items }
-        requires asking { IsAsking head.now (length body.now) }
-        requires all_served { AreServed V.mode_of self.old.slots }
-        requires founded { StandsForSome (V.stands service.old) }
-        ensures { Handles V.Service R.log early_facts jobs_full who.now head.now body.now result
-            self.old self.new pool.old pool.new tx.old tx.new service.old service.new rec.old
-            rec.new }
+        ensures { Handles V.Service R.log packet_facts who (incoming head.now body.now jobs_full)
+            result (at_desk self.old pool.old tx.old service.old rec.old)
+            (at_desk self.new pool.new tx.new service.new rec.new) }
     {
         let mode = service.mode(head.req_type);
-        match self.row(head, mode, jobs_full) {
+        let step = match self.row(head, mode, jobs_full) {
             ServerRow::Drops(reason) => Step::Dropped(reason),
-            ServerRow::Begins => self.begin(alloc, pool, tx, service, mode, head, body, who, rec),
-            ServerRow::Takes => self.take(alloc, pool, service, mode, head, body, who, rec),
+            ServerRow::Begins => self.begin(alloc, pool, tx, service, mode, head, body, &who, rec),
+            ServerRow::Takes => self.take(alloc, pool, service, mode, head, body, &who, rec),
             ServerRow::Repeats => {
                 let reply = self.repeat(pool, head);
                 Step::Again { reply }
             }
-        }
+        };
+        self.note(head, &step, &who, rec);
+        step
     }
 
     // A packet that was taken before is answered once more.
     fn repeat(&mut self, pool: &mut BufferPool, head: &MessageHeader) -> Entry
-        requires keeps_pool { KeepsPool pool.old self.old.slots }
-        requires can_hold { IfSome (newest head.now.request self.old) (CanHold pool.old) }
+        requires ready { MayTake head.now self.old pool.old }
         requires again { IsTakenBefore head.now (newest head.now.request self.old) }
         ensures session { self.new ≡ repeated head.now.request self.old }
-        ensures reply { IsReply head.now.request head.now.number self.new pool.new result }
         ensures shown { shown pool.new self.new ≡ shown pool.old self.old }
-        ensures stays { StaysSound (result ∷ []) self.old self.new pool.old pool.new }
+        ensures replies { GivesReply head.now.request head.now.number result self.old self.new
+            pool.old pool.new }
     {
         let Some(request) = self.newest(head.request) else {
             unreachable!()

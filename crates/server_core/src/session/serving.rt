@@ -1,18 +1,13 @@
 //! The handler of a request runs.
-ghost use Rattle.std.specs.Prelude.{◌≡◌, ℕ, ◌<◌, ◌≤◌, ◌+◌, List, [], ◌∷◌, ◌++◌, Some, length, true};
+ghost use Rattle.std.specs.Prelude.{◌≡◌, ℕ, ◌<◌, ◌≤◌, ◌+◌, [], ◌∷◌, ◌++◌};
 ghost use Rattle.packet_header.specs.Parts.{packet_count, IsMessage};
 ghost use Rattle.message_buffer.specs.Buffer.{capacity_of};
-ghost use Rattle.buffer_pool.specs.Pool.{spare_of};
-ghost use Rattle.rpc_outside.specs.Served.{Served, StandsForSome};
-ghost use Rattle.rpc_outside.specs.declared.service.Mode.{Mode};
-ghost use Rattle.rpc_outside.specs.declared.service.Mode.TheVariants.{Inline};
-ghost use Rattle.server_core.specs.KeepsPool.{KeepsPool};
 ghost use Rattle.server_core.specs.Noting.{IsServed};
-ghost use Rattle.server_core.specs.declared.slot.SlotState.TheVariants.{Working};
-ghost use Rattle.server_core.specs.Session.{IsInTurn, newest};
-ghost use Rattle.server_core.specs.Shown.{shown};
-ghost use Rattle.server_core.specs.Steps.{AreServed, HasNoBytes, IsReply};
-ghost use Rattle.server_core.specs.Keeping.{StaysSound};
+ghost use Rattle.server_core.specs.Session.{newest};
+ghost use Rattle.server_core.specs.Steps.{HasNoBytes};
+ghost use Rattle.server_core.specs.Wanting.{CanServe, IsAwaited};
+ghost use Rattle.server_core.specs.Scene.{pooled, seen};
+ghost use Rattle.server_core.specs.Keeping.{GivesReply};
 
 use super::ServerSession;
 use crate::running::serve;
@@ -38,24 +33,17 @@ impl ServerSession {
         who: &Who,
         rec: &mut R,
     ) -> Entry
-        requires keeps_pool { KeepsPool pool.old self.old.slots }
-        requires spare { 0 < spare_of pool.old }
-        requires found { newest request.number self.old ≡ Some request }
-        requires turn { IsInTurn request }
-        requires working { request.state ≡ Working }
+        requires awaited { IsAwaited request self.old pool.old }
         requires own { request.number ≡ head.now.request }
         requires last { head.now.number + 1 ≡ packet_count request.size }
-        requires inline { V.mode_of head.now.req_type ≡ Inline }
+        requires serves { CanServe V.Service service.old head.now.req_type ask.now room.len }
         requires message { IsMessage room.len × (room.len ≤ capacity_of room) }
-        requires room { (served : Served) → V.stands service.old served →
-            length (V.answer served head.now.req_type ask.now) ≡ room.len }
-        requires founded { StandsForSome (V.stands service.old) }
-        ensures answers { IsServed R.log rec.old rec.new who.now self.old.number V.answer
-            (V.stands service.old) (V.stands service.new) head.now ask.now (shown pool.old self.old)
-            (shown pool.new self.new) }
-        ensures reply { IsReply head.now.request head.now.number self.new pool.new result }
+        ensures answers { IsServed V.Service R.log who.now head.now ask.now
+            (seen (pooled self.old pool.old service.old rec.old))
+            (seen (pooled self.new pool.new service.new rec.new)) }
         ensures no_bytes { HasNoBytes (newest head.now.request self.new) }
-        ensures stays { StaysSound (result ∷ []) self.old self.new pool.old pool.new }
+        ensures replies { GivesReply head.now.request head.now.number result self.old self.new
+            pool.old pool.new }
     {
         let mut answer = room;
         serve(service, head.req_type, ask, &mut answer);

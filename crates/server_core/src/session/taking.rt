@@ -1,11 +1,10 @@
 //! What a packet that is taken does: a request begins or goes on, and its handler runs after its
 //! last packet.
 ghost use Rattle.std.specs.Prelude.{◌≡◌, ◌≢◌, ℕ, ◌<◌, ◌≤◌, ◌+◌, ◌*◌, List, [], ◌∷◌, ◌++◌, length};
-ghost use Rattle.std.specs.Prelude.{map, take, IfSome, None, Some, false, true};
+ghost use Rattle.std.specs.Prelude.{take, IfSome, None, Some, true};
 ghost use Rattle.std.specs.List.{find};
-ghost use Rattle.rpc_outside.specs.Served.{StandsForSome};
 ghost use Rattle.rpc_base.specs.Tables.{without_first};
-ghost use Rattle.packet_header.specs.Parts.{packet_count, part_size, IsMessage};
+ghost use Rattle.packet_header.specs.Parts.{packet_count, part_size};
 ghost use Rattle.message_buffer.specs.Buffer.{bytes_of, capacity_of};
 ghost use Rattle.buffer_pool.specs.Pool.{IsFull, buf_at, emptied, filled, lowest_empty, refs_of};
 ghost use Rattle.buffer_pool.specs.Pool.{spare_of};
@@ -15,25 +14,26 @@ ghost use Rattle.rpc_laws.specs.declared.rows.ServerRow.TheVariants.{Begins};
 ghost use Rattle.rpc_laws.specs.ServerTable.{is_last, makes_job};
 ghost use Rattle.rpc_outside.specs.declared.service.Mode.{Mode};
 ghost use Rattle.rpc_outside.specs.declared.service.Mode.TheVariants.{Unserved};
-ghost use Rattle.server_core.specs.Counting.{IsCounted};
-ghost use Rattle.server_core.specs.Flushing.{HoldsReplies, replies_of, ring_after};
+ghost use Rattle.server_core.specs.Flushing.{replies_of, ring_after};
 ghost use Rattle.server_core.specs.KeepsPool.{IsKept, KeepsPool};
 ghost use Rattle.server_core.specs.KeepsPool.{own_names};
 ghost use Rattle.server_core.specs.Noting.{early_facts, first_facts};
 ghost use Rattle.server_core.specs.Replies.{CanHold};
-ghost use Rattle.server_core.specs.Serving.{IsUnheld, given_up, gone_on, next_taken, with_slots};
+ghost use Rattle.server_core.specs.Serving.{IsUnheld, given_up, next_taken};
 ghost use Rattle.server_core.specs.Serving.{without_answer, without_ask, without_buffers};
 ghost use Rattle.server_core.specs.declared.slot.SlotState.TheVariants.{Taking};
 ghost use Rattle.server_core.specs.Session.{IsInTurn, IsSession, ask_of, is_in_slot};
 ghost use Rattle.server_core.specs.Session.{newest};
-ghost use Rattle.server_core.specs.Shown.{ask_in, shown, shown_request};
-ghost use Rattle.server_core.specs.Steps.{AreServed, HasTaken};
-ghost use Rattle.server_core.specs.Steps.{IsBeginning, IsNextOf, IsReply};
+ghost use Rattle.server_core.specs.Shown.{ask_in, shown};
+ghost use Rattle.server_core.specs.Steps.{HasTaken};
+ghost use Rattle.server_core.specs.Steps.{IsNextOf};
 ghost use Rattle.server_core.specs.Steps.{asked_with, begun_with};
 ghost use Rattle.server_core.specs.Steps.{bytes_with, first_shown, gone_on_as, grown};
-ghost use Rattle.buffer_pool.specs.Counting.{Counts};
 ghost use Rattle.server_core.specs.Handling.{Leaves};
-ghost use Rattle.server_core.specs.Keeping.{BeginsSound, KeepsReplies, StaysSound};
+ghost use Rattle.server_core.specs.Keeping.{KeepsReplies, StaysSound};
+ghost use Rattle.server_core.specs.Wanting.{CanBegin, IsNewest, IsServing, MayBegin, MayTake};
+ghost use Rattle.server_core.specs.Scene.{pooled};
+ghost use Rattle.server_core.specs.Keeping.{BeginsWithReply, GivesReply};
 
 use super::ServerSession;
 use crate::running::{make_answer, make_message, make_room};
@@ -65,18 +65,9 @@ impl ServerSession {
         who: &Who,
         rec: &mut R,
     ) -> Step
-        requires session { IsSession self.old }
-        requires keeps_pool { KeepsPool pool.old self.old.slots }
-        requires spare { 0 < spare_of pool.old }
-        requires queued { IfSome (newest head.now.request self.old)
-            (HoldsReplies self.old.number pool.old tx.old.items) }
-        requires counted { IfSome (newest head.now.request self.old)
-            (IsCounted self.old.number tx.old.items) }
-        requires beginning { IsBeginning head.now (length body.now) self.old }
-        requires mode { V.mode_of head.now.req_type ≡ mode }
+        requires ready { MayBegin head.now (length body.now) self.old pool.old tx.old.items }
         requires served { mode ≢ Unserved }
-        requires all_served { AreServed V.mode_of self.old.slots }
-        requires founded { StandsForSome (V.stands service.old) }
+        requires serving { IsServing V.Service mode head.now self.old service.old }
         ensures taken { HasTaken (is_last head.now) (makes_job mode head.now) true result }
         ensures ring { tx.new ≡ ring
             (ring_after Begins result self.old.number (newest head.now.request self.old)
@@ -84,8 +75,8 @@ impl ServerSession {
         ensures leaves { Leaves V.Service R.log
             (λ answer. early_facts who.now self.old tx.old.items Begins head.now
             (asked_with head.now body.now (shown pool.old self.old)) answer result)
-            head.now body.now result self.old self.new pool.old pool.new service.old service.new
-            rec.old rec.new }
+            head.now body.now result (pooled self.old pool.old service.old rec.old)
+            (pooled self.new pool.new service.new rec.new) }
         ensures replies { KeepsReplies tx.old.items (tx.new.items ++ replies_of result) self.old
             self.new pool.old pool.new }
     {
@@ -157,20 +148,16 @@ impl ServerSession {
         who: &Who,
         rec: &mut R,
     ) -> Step
-        requires session { IsSession self.old }
-        requires keeps_pool { KeepsPool pool.old self.old.slots }
-        requires can_hold { IfSome (newest head.now.request self.old) (CanHold pool.old) }
+        requires ready { MayTake head.now self.old pool.old }
         requires next { IsNextOf head.now (length body.now) (newest head.now.request self.old) }
-        requires mode { V.mode_of head.now.req_type ≡ mode }
-        requires all_served { AreServed V.mode_of self.old.slots }
-        requires founded { StandsForSome (V.stands service.old) }
+        requires serving { IsServing V.Service mode head.now self.old service.old }
         ensures taken { HasTaken (is_last head.now) (makes_job mode head.now) (is_last head.now)
             result }
         ensures leaves { Leaves V.Service R.log
             (λ answer. first_facts who.now self.old.number head.now
             (asked_with head.now body.now (shown pool.old self.old)) answer result)
-            head.now body.now result self.old self.new pool.old pool.new service.old service.new
-            rec.old rec.new }
+            head.now body.now result (pooled self.old pool.old service.old rec.old)
+            (pooled self.new pool.new service.new rec.new) }
         ensures replies { (entries : List EntryValue) → KeepsReplies entries
             (entries ++ replies_of result) self.old self.new pool.old pool.new }
     {
@@ -204,17 +191,13 @@ impl ServerSession {
 
     // A new request of more packets than this one begins.
     fn begin_first(&mut self, pool: &mut BufferPool, head: &MessageHeader, ask: MsgBuf) -> Entry
-        requires keeps_pool { KeepsPool pool.old self.old.slots }
-        requires spare { 0 < spare_of pool.old }
-        requires unheld { IfSome (newest head.now.request self.old) (IsUnheld pool.old) }
-        requires size { IsMessage head.now.size }
+        requires begins { CanBegin head.now self.old pool.old }
         requires many { 1 < packet_count head.now.size }
         requires len { ask.len ≡ head.now.size }
         requires room { ask.len ≤ capacity_of ask }
         ensures shown { shown pool.new self.new
             ≡ begun_with (first_shown head.now (bytes_of ask) None) (shown pool.old self.old) }
-        ensures reply { IsReply head.now.request 0 self.new pool.new result }
-        ensures begins { BeginsSound head.now (result ∷ []) self.old self.new pool.old pool.new }
+        ensures replies { BeginsWithReply head.now result self.old self.new pool.old pool.new }
     {
         give_up(&mut self.slots, pool, head.request.slot());
         let ask = put_message(pool, ask);
@@ -233,15 +216,14 @@ impl ServerSession {
 
     // One packet more of a request is taken, whose bytes stand in its buffer already.
     fn take_next(&mut self, pool: &mut BufferPool, request: SlotRequest) -> Entry
-        requires keeps_pool { KeepsPool pool.old self.old.slots }
-        requires found { newest request.number self.old ≡ Some request }
+        requires newest { IsNewest request self.old pool.old }
         requires turn { IsInTurn (next_taken request) }
         requires can_hold { CanHold pool.old request }
         ensures shown { shown pool.new self.new
             ≡ gone_on_as request.number (grown (bytes_with pool.old request))
             (shown pool.old self.old) }
-        ensures reply { IsReply request.number request.taken self.new pool.new result }
-        ensures stays { StaysSound (result ∷ []) self.old self.new pool.old pool.new }
+        ensures replies { GivesReply request.number request.taken result self.old self.new pool.old
+            pool.new }
     {
         let reply = request.entry(self.number, request.taken, self.peer);
         pool.hold_at(reply.place);
@@ -257,8 +239,7 @@ impl ServerSession {
     // doesn't change: the packet isn't taken yet.
     fn write_part(&self, pool: &mut BufferPool, request: &SlotRequest, place: Place, body: &[u8])
         requires session { IsSession self.now }
-        requires keeps_pool { KeepsPool pool.old self.now.slots }
-        requires found { newest request.now.number self.now ≡ Some request.now }
+        requires newest { IsNewest request.now self.now pool.old }
         requires taking { request.now.state ≡ Taking place }
         requires within { request.now.taken < packet_count request.now.size }
         requires long { length body.now ≡ part_size request.now.size request.now.taken }

@@ -25,6 +25,7 @@ ghost use Rattle.session_store.specs.Joined.{put_listed};
 ghost use Rattle.session_store.specs.Leaving.{ChangesCalls, ChangesClients, ChangesQueue};
 ghost use Rattle.session_store.specs.Sides.{HasRoom};
 ghost use Rattle.session_store.specs.Stages.{named};
+ghost use Rattle.session_store.specs.Leaving.{MakesClient};
 
 use super::Store;
 use crate::line::{holds_in, put_in};
@@ -104,14 +105,8 @@ impl Store {
         requires server { server < SESSION_NUMBERS }
         requires some { 1 ≤ credits }
         requires most { credits ≤ MOST_CREDITS }
-        ensures clients { OnOk result (self.new.clients ≡ self.old.clients
-            ++ client_end (length self.old.clients) peer server credits ∷ []) }
-        ensures servers { self.new.servers ≡ self.old.servers }
-        ensures queued { self.new.queued ≡ self.old.queued }
-        ensures size { self.new.size ≡ self.old.size }
-        ensures handed { OnOk result (self.new.handed ≡ self.old.handed ++ [] ∷ []) }
-        ensures places { self.new.places ≡ self.old.places }
-        ensures unchanged { OnErr result (self.new ≡ self.old) }
+        ensures { MakesClient (client_end (length self.old.clients) peer server credits) result
+            self.old self.new }
     {
         let shares = self.shares_with(credits);
         let number = SessionNo(self.sides.len() as u16);

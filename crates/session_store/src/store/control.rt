@@ -1,6 +1,6 @@
 //! Client sessions are opened, connected and closed.
 ghost use Rattle.std.specs.Prelude.{◌≡◌, ◌<◌, ◌≤◌, ◌+◌, ◌^◌, ◌++◌, [], ◌∷◌, length, slice_get};
-ghost use Rattle.std.specs.Prelude.{IfSome, OnErr, OnOk};
+ghost use Rattle.std.specs.Prelude.{IfSome};
 ghost use Rattle.rpc_base.specs.declared.state.SessionState.TheVariants.{Closed, Closing};
 ghost use Rattle.rpc_base.specs.declared.state.SessionState.TheVariants.{Connecting, Failed};
 ghost use Rattle.rpc_laws.specs.Sessions.{comes_to, connects, opened_end};
@@ -8,6 +8,7 @@ ghost use Rattle.session_store.specs.Changes.{HasNoCalls, HasRequest, IsConnecte
 ghost use Rattle.session_store.specs.Changes.{IsClientEnd, IsInState, sent_again};
 ghost use Rattle.session_store.specs.Leaving.{ChangesClient};
 ghost use Rattle.session_store.specs.OwnRequests.{CountsRequests};
+ghost use Rattle.session_store.specs.Leaving.{MakesClient};
 
 use super::Store;
 use crate::side::{ClientEnd, Side};
@@ -31,14 +32,8 @@ impl Store {
         requires numbers { length self.old.clients < SESSION_NUMBERS }
         requires some { 1 ≤ credits }
         requires most { credits ≤ MOST_CREDITS }
-        ensures clients { OnOk result (self.new.clients ≡ self.old.clients
-            ++ opened_end (length self.old.clients) peer credits ∷ []) }
-        ensures servers { self.new.servers ≡ self.old.servers }
-        ensures queued { self.new.queued ≡ self.old.queued }
-        ensures size { self.new.size ≡ self.old.size }
-        ensures handed { OnOk result (self.new.handed ≡ self.old.handed ++ [] ∷ []) }
-        ensures places { self.new.places ≡ self.old.places }
-        ensures unchanged { OnErr result (self.new ≡ self.old) }
+        ensures { MakesClient (opened_end (length self.old.clients) peer credits) result self.old
+            self.new }
     {
         let shares = self.shares_with(credits);
         let number = SessionNo(self.sides.len() as u16);

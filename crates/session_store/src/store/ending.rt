@@ -1,10 +1,10 @@
 //! The end of a server session.
 ghost use Rattle.std.specs.Prelude.{◌≡◌, ◌<◌, length, option_map, slice_get, IfSome};
 ghost use Rattle.std.specs.List.{find};
-ghost use Rattle.rpc_base.specs.Tables.{without_first};
 ghost use Rattle.rpc_base.specs.declared.owner.Owner.TheVariants.{Reply};
-ghost use Rattle.rpc_laws.specs.Requests.{in_slot_of, is_server};
+ghost use Rattle.rpc_laws.specs.Requests.{in_slot_of};
 ghost use Rattle.session_store.specs.Changes.{IsDrained};
+ghost use Rattle.session_store.specs.Leaving.{EndsServer};
 
 use super::Store;
 use crate::ends::{code_at, place_in};
@@ -28,13 +28,7 @@ impl Store {
     pub fn end_server(&mut self, i: usize)
         requires known { i < length self.old.servers }
         requires drained { IfSome (slice_get self.old.servers i) (IsDrained self.old.queued) }
-        ensures servers { IfSome (slice_get self.old.servers i)
-            (λ v. self.new.servers ≡ without_first (is_server v.way.number) self.old.servers) }
-        ensures clients { self.new.clients ≡ self.old.clients }
-        ensures queued { self.new.queued ≡ self.old.queued }
-        ensures size { self.new.size ≡ self.old.size }
-        ensures places { self.new.places ≡ self.old.places }
-        ensures handed { self.new.handed ≡ self.old.handed }
+        ensures { EndsServer i self.old self.new }
     {
         self.shares -= u32::from(self.servers[i].credits());
         let server = &self.servers[i];

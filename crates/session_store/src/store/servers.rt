@@ -1,18 +1,17 @@
 //! The server sessions: packets and the answers of workers.
 ghost use Rattle.std.specs.Prelude.{◌≡◌, ◌<◌, ◌≤◌, ◌+◌, ◌*◌, ◌++◌, [], ◌∷◌, None, length, slice_get};
-ghost use Rattle.std.specs.Prelude.{IfSome, OnErr, OnOk};
+ghost use Rattle.std.specs.Prelude.{IfSome};
 ghost use Rattle.std.specs.List.{AllByRecursion, position};
 ghost use Rattle.rpc_outside.specs.Served.{StandsForSome};
 ghost use Rattle.message_buffer.specs.Buffer.{bytes_of};
 ghost use Rattle.packet_header.specs.Parts.{IsMessage};
 ghost use Rattle.rpc_laws.specs.ControlTable.{is_end_of};
 ghost use Rattle.rpc_laws.specs.Requests.{is_server, server_end};
-ghost use Rattle.session_store.specs.Changes.{FinishesAt};
 ghost use Rattle.server_core.specs.Steps.{IsAsking, UnlessRan};
 ghost use Rattle.session_store.specs.Serving.{AreServedAt, HandlesAt};
 ghost use Rattle.session_store.specs.Changes.{IsEnd};
-ghost use Rattle.session_store.specs.Joined.{put_listed};
 ghost use Rattle.session_store.specs.Sides.{HasRoom};
+ghost use Rattle.session_store.specs.Leaving.{FinishesServer, MakesServer};
 
 use super::Store;
 use crate::ends::{code_at, end_in, place_in};
@@ -85,14 +84,7 @@ impl Store {
         requires client { client < SESSION_NUMBERS }
         requires some { 1 ≤ credits }
         requires most { credits ≤ MOST_CREDITS }
-        ensures servers { OnOk result (self.new.servers ≡ self.old.servers
-            ++ server_end number peer client credits ∷ []) }
-        ensures clients { self.new.clients ≡ self.old.clients }
-        ensures queued { self.new.queued ≡ self.old.queued }
-        ensures size { self.new.size ≡ self.old.size }
-        ensures handed { self.new.handed ≡ self.old.handed }
-        ensures places { self.new.places ≡ self.old.places }
-        ensures unchanged { OnErr result (self.new ≡ self.old) }
+        ensures { MakesServer (server_end number peer client credits) result self.old self.new }
     {
         let shares = self.shares_with(credits);
         let session = ServerSession::new(number, client, peer, credits);
@@ -170,13 +162,7 @@ impl Store {
         requires answer { IsMessage parcel.out.len }
         requires ring { length self.old.queued < self.old.size }
         requires room { HasRoom self.old }
-        ensures servers { FinishesAt i parcel.request (bytes_of parcel.out) result self.old.servers
-            self.new.servers }
-        ensures clients { self.new.clients ≡ self.old.clients }
-        ensures queued { self.new.queued ≡ put_listed None result self.old.queued }
-        ensures size { self.new.size ≡ self.old.size }
-        ensures handed { self.new.handed ≡ self.old.handed }
-        ensures places { self.new.places ≡ self.old.places }
+        ensures { FinishesServer i parcel.request (bytes_of parcel.out) result self.old self.new }
     {
         let reply = finished_at(&mut self.servers, i, &mut self.pool, parcel);
         let Some(entry) = reply else {

@@ -1,5 +1,7 @@
 use Rattle.std.proofs.Common.{sym, ◌∙◌}
-use Rattle.session_store.proofs.ReplyGoneLemmas.{first-reply, first-spells, no-first}
+use Rattle.rpc_base.proofs.PlaceLemmas.{all-at}
+use Rattle.session_store.specs.Sides.{ServerKept}
+use Rattle.session_store.proofs.ReplyGoneLemmas.{first-at, first-reply, first-spells, no-first}
 use Rattle.session_store.proofs.server.reply_at.Goals as goal
 
 pub unreachable-requires : goal.unreachable-requires
@@ -7,10 +9,16 @@ unreachable-requires c =
     no-first c.args.session c.args.entry.now c.args.servers.now.items c.requires.stands
     (sym c.place_of.ensures ∙ c.in_default.is)
 
-pub packet-requires-clause-posted : goal.packet-requires-clause-posted
-packet-requires-clause-posted c =
-    first-reply c.args.session c.args.entry.now c.args.servers.now.items c.in-Some.place
-    c.index.result.now (sym c.place_of.ensures ∙ c.in-Some.is) c.index.ensures c.requires.stands
+pub packet-requires : goal.packet-requires
+packet-requires c =
+    let first = sym c.place_of.ensures ∙ c.in-Some.is in
+    record {
+      keeps_pool = all-at (ServerKept c.args.pool.now) c.args.servers.now.items c.in-Some.place
+          c.index.result.now c.requires.keeps (first-at c.args.session c.args.servers.now.items
+          c.in-Some.place c.index.result.now first c.index.ensures);
+      posted = first-reply c.args.session c.args.entry.now c.args.servers.now.items c.in-Some.place
+          c.index.result.now first c.index.ensures c.requires.stands;
+    }
 
 pub returns-clause-spells : goal.returns-clause-spells
 returns-clause-spells c =

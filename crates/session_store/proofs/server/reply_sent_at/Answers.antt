@@ -1,4 +1,6 @@
 use Rattle.std.proofs.Common.{refl, sym, ◌∙◌}
+use Rattle.rpc_base.proofs.PlaceLemmas.{all-at}
+use Rattle.session_store.specs.Sides.{ServerKept}
 use Rattle.session_store.proofs.ReplyGoneLemmas.{first-at, no-first}
 use Rattle.session_store.proofs.server.reply_sent_at.Goals as goal
 
@@ -6,6 +8,17 @@ pub unreachable-requires : goal.unreachable-requires
 unreachable-requires c =
     no-first c.args.session c.args.entry.now c.args.servers.now.items c.requires.stands
     (sym c.place_of.ensures ∙ c.in_default.is)
+
+pub sent-requires : goal.sent-requires
+sent-requires c =
+    let first = sym c.place_of.ensures ∙ c.in-Some.is in
+    record {
+      keeps_pool = all-at (ServerKept c.args.pool.now) c.args.servers.now.items c.in-Some.place
+          c.index_mut.result.now c.requires.keeps (first-at c.args.session
+          c.args.servers.now.items c.in-Some.place c.index_mut.result.now first
+          c.index_mut.ensures.value);
+      held = c.requires.held;
+    }
 
 pub returns : goal.returns
 returns c =

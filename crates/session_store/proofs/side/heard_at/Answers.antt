@@ -17,12 +17,12 @@ returns c =
         step = e.step;
         replies = e.replies;
         handed = e.handed;
-        leaves = e.others;
+        leaves = e.still.others;
         entries = e.entries;
-        counts = e.counts;
+        counts = e.still.counts;
         queued =
-            e.queued;
-        keeps = e.keeps_pool;
+            e.still.queued;
+        keeps = e.still.keeps_pool;
       };
       changed = refl;
     }

@@ -13,7 +13,7 @@ use Rattle.rpc_base.proofs.FirstLemmas.{found-holds}
 
 pub give_back-requires-clause-charged : goal.give_back-requires-clause-charged
 give_back-requires-clause-charged c =
-    let found = rw (← c.self.view_is) at c.requires.active in
+    let found = rw (← c.self.view_is) at c.requires.call.active in
     rw c.slot.ensures (omega (
       arith,
       own-unanswered _ (is_request c.args.call.request) c.args.call
@@ -24,22 +24,22 @@ give_back-requires-clause-charged c =
 pub write_part-requires-clause-kept : goal.write_part-requires-clause-kept
 write_part-requires-clause-kept c =
     found-holds (is_request c.args.call.request)
-    (IsKept c.args.pool.now) c.args.self.now.active c.args.call c.requires.keeps_pool.kept
-    c.requires.active
+    (IsKept c.args.pool.now) c.args.self.now.active c.args.call c.requires.call.keeps_pool.kept
+    c.requires.call.active
 
 pub write_part-requires-clause-part : goal.write_part-requires-clause-part
 write_part-requires-clause-part c =
-    let found = rw (← c.self.view_is) at c.requires.active in
+    let found = rw (← c.self.view_is) at c.requires.call.active in
     let kept = found-holds (is_request c.args.call.request)
-    (IsKept c.args.pool.now) c.args.self.now.active c.args.call c.requires.keeps_pool.kept
-    c.requires.active in
+    (IsKept c.args.pool.now) c.args.self.now.active c.args.call c.requires.call.keeps_pool.kept
+    c.requires.call.active in
     part-of c.args.pool.now c.args.call c.args.head.now _ kept
     (own-turn _ (is_request c.args.call.request) c.args.call c.self.invariant.1 found)
     c.requires.taken (goes-not-small _ _ c.requires.goes_on)
 
 pub invariant_of-self : goal.invariant_of-self
 invariant_of-self c =
-    let found = rw (← c.self.view_is) at c.requires.active in
+    let found = rw (← c.self.view_is) at c.requires.call.active in
     let turn = own-turn _ (is_request c.args.call.request) c.args.call c.self.invariant.1 found in
     let count = own-unanswered _ (is_request c.args.call.request) c.args.call c.self.invariant.1 found in
     let credits = c.give_back.ensures.given_back ∙ ap (λ n. given_back n c.self.inside.credits) c.slot.ensures in
@@ -57,7 +57,7 @@ invariant_of-self c =
 
 pub returns-clause-session : goal.returns-clause-session
 returns-clause-session c =
-    let found = rw (← c.self.view_is) at c.requires.active in
+    let found = rw (← c.self.view_is) at c.requires.call.active in
     let credits = c.give_back.ensures.given_back ∙ ap (λ n. given_back n c.self.inside.credits) c.slot.ensures in
     rw (
       ← c.self.view_is,
@@ -68,20 +68,19 @@ returns-clause-session c =
           (replied c.args.now c.args.head.now) c.self.inside.calls found,
     ) refl
 
-pub returns-clause-keeps_pool : goal.returns-clause-keeps_pool
-returns-clause-keeps_pool c =
-    let found = rw (← c.self.view_is) at c.requires.active in
-    let keeps = rw (← c.self.view_is) at c.requires.keeps_pool in
-    let kept = found-holds (is_request c.args.call.request)
-    (IsKept c.args.pool.now) c.self.inside.calls c.args.call keeps.kept found in
-    let part = part-of c.args.pool.now c.args.call c.args.head.now _ kept
-    (own-turn _ (is_request c.args.call.request) c.args.call c.self.invariant.1 found)
-    c.requires.taken (goes-not-small _ _ c.requires.goes_on) in
-    rw (c.write_part.ensures, c.replace.ensures, c.replied.ensures)
-    (keeps-replied c.args.pool.now c.args.now c.args.call c.args.head.now c.args.body.now
-    c.self.inside.calls found keeps part)
-
-pub returns-clause-counts : goal.returns-clause-counts
-returns-clause-counts c = λ entries counts.
-    rw c.write_part.ensures (counts-answered c.args.pool.now entries c.args.call c.args.head.now
-    c.args.body.now counts)
+pub returns-clause-still : goal.returns-clause-still
+returns-clause-still c = record {
+  counts = λ entries counts.
+      rw c.write_part.ensures (counts-answered c.args.pool.now entries c.args.call c.args.head.now
+      c.args.body.now counts);
+  keeps_pool = let found = rw (← c.self.view_is) at c.requires.call.active in
+      let keeps = rw (← c.self.view_is) at c.requires.call.keeps_pool in
+      let kept = found-holds (is_request c.args.call.request)
+      (IsKept c.args.pool.now) c.self.inside.calls c.args.call keeps.kept found in
+      let part = part-of c.args.pool.now c.args.call c.args.head.now _ kept
+      (own-turn _ (is_request c.args.call.request) c.args.call c.self.invariant.1 found)
+      c.requires.taken (goes-not-small _ _ c.requires.goes_on) in
+      rw (c.write_part.ensures, c.replace.ensures, c.replied.ensures)
+      (keeps-replied c.args.pool.now c.args.now c.args.call c.args.head.now c.args.body.now
+      c.self.inside.calls found keeps part);
+}

@@ -17,11 +17,11 @@ use Rattle.client_core.proofs.session.ClientSession.lose.Goals as goal
 use Rattle.rpc_base.proofs.FirstLemmas.{found-holds, all-left}
 use Rattle.rpc_base.proofs.BasicLemmas.{if-map}
 
-pub end-requires-clause-active : goal.end-requires-clause-active
-end-requires-clause-active c =
+pub end-requires-clause-call : goal.end-requires-clause-call
+end-requires-clause-call c =
     let (test, found) = least-found (is_after None) call_number c.self.inside.calls c.in-Some.call
     (sym c.in-Some.ensures) in
-    rw (← c.self.view_is) (by-request _ test c.in-Some.call c.self.invariant.1 found)
+    record { keeps_pool = c.requires.keeps_pool; active = rw (← c.self.view_is) (by-request _ test c.in-Some.call c.self.invariant.1 found) }
 
 pub end-requires-clause-unheld : goal.end-requires-clause-unheld
 end-requires-clause-unheld c =
@@ -115,3 +115,9 @@ returns-clause-handed c =
     rw (← c.in_default.ensures) (gives, refl) in
     lose-handed c.args.pool.now c.args.pool.now d (the_view c.self.inside)
     c.give_up.new.self c.self.invariant.1 keeps lost) given)
+
+pub returns-in-Some-clause-counts : goal.returns-in-Some-clause-counts
+returns-in-Some-clause-counts c = c.end.ensures.still.counts
+
+pub returns-in-Some-clause-keeps_pool : goal.returns-in-Some-clause-keeps_pool
+returns-in-Some-clause-keeps_pool c = c.end.ensures.still.keeps_pool

@@ -5,14 +5,17 @@ use Rattle.client_core.proofs.EndedLemmas.{outcome-step}
 use Rattle.client_core.proofs.OneCallLemmas.{by-request, own-request, own-turn}
 use Rattle.client_core.proofs.OutcomeLemmas.{facts-shown, row-shown}
 use Rattle.client_core.proofs.OthersLemmas.{reply-entries, reply-leaves}
+use Rattle.client_core.proofs.OthersLemmas.{same-still}
 use Rattle.client_core.proofs.QueuedLemmas.{reply-queued}
 use Rattle.client_core.proofs.HandingLemmas.{reply-handed}
 use Rattle.client_core.proofs.session.ClientSession.on_reply.Goals as goal
 
-pub take-requires-clause-active : goal.take-requires-clause-active
-take-requires-clause-active c =
-    rw (← c.self.view_is) (by-request _ (is_request c.args.head.now.request) c.in-Some.call
-    c.self.invariant.1 (sym c.in-Some.ensures))
+pub take-requires-clause-call : goal.take-requires-clause-call
+take-requires-clause-call c = record {
+  keeps_pool = c.requires.keeps_pool;
+  active = rw (← c.self.view_is) (by-request _ (is_request c.args.head.now.request) c.in-Some.call
+      c.self.invariant.1 (sym c.in-Some.ensures));
+}
 
 pub take-requires-clause-of_call : goal.take-requires-clause-of_call
 take-requires-clause-of_call c =
@@ -65,20 +68,10 @@ returns-in-Takes-clause-step c = λ alone peer.
     c.take.new.pool c.args.head.now c.args.body.now (the_view c.self.inside) c.take.new.self
     c.self.invariant.1 keeps session c.take.result row replies apart)
 
-pub returns-in-Takes-clause-others : goal.returns-in-Takes-clause-others
-returns-in-Takes-clause-others c =
-    reply-leaves c.args.now c.args.head.now c.args.body.now c.args.self.now c.take.new.self
-    c.args.pool.now c.take.new.pool c.take.result c.take.ensures.replies
-
 pub returns-in-Takes-clause-entries : goal.returns-in-Takes-clause-entries
 returns-in-Takes-clause-entries c =
     reply-entries c.args.now c.args.head.now c.args.body.now c.args.self.now c.take.new.self
     c.args.pool.now c.take.new.pool c.take.result c.take.ensures.replies
-
-pub returns-in-Takes-clause-queued : goal.returns-in-Takes-clause-queued
-returns-in-Takes-clause-queued c = λ entries all.
-    reply-queued c.args.now c.args.head.now c.args.body.now c.args.self.now c.take.new.self
-    c.args.pool.now c.take.new.pool entries c.take.result c.take.ensures.replies all
 
 pub returns-in-Takes-clause-handed : goal.returns-in-Takes-clause-handed
 returns-in-Takes-clause-handed c =
@@ -90,3 +83,20 @@ returns-in-Takes-clause-handed c =
     rw (← c.self.view_is) (reply-handed c.args.queued c.args.now c.args.pool.now
     c.take.new.pool c.args.head.now c.args.body.now (the_view c.self.inside) c.take.new.self
     c.self.invariant.1 keeps c.take.result row replies)
+
+pub returns-in-Takes-clause-still : goal.returns-in-Takes-clause-still
+returns-in-Takes-clause-still c = record {
+  others = reply-leaves c.args.now c.args.head.now c.args.body.now c.args.self.now c.take.new.self
+      c.args.pool.now c.take.new.pool c.take.result c.take.ensures.replies;
+  counts = c.take.ensures.still.counts;
+  queued = λ entries all.
+      reply-queued c.args.now c.args.head.now c.args.body.now c.args.self.now c.take.new.self
+      c.args.pool.now c.take.new.pool entries c.take.result c.take.ensures.replies all;
+  keeps_pool = c.take.ensures.still.keeps_pool;
+}
+
+pub returns-in_default-clause-still : goal.returns-in_default-clause-still
+returns-in_default-clause-still c = same-still c.args.self.now c.args.pool.now c.requires.keeps_pool
+
+pub returns-in-Drops-clause-still : goal.returns-in-Drops-clause-still
+returns-in-Drops-clause-still c = same-still c.args.self.now c.args.pool.now c.requires.keeps_pool

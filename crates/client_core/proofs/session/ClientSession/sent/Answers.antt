@@ -1,4 +1,5 @@
 use Rattle.std.proofs.Common.{ap}
+use Rattle.std.proofs.Common.{refl}
 use Rattle.packet_rings.specs.contracts.entry.Entry.{the_view as entry_view}
 use Rattle.client_core.specs.KeepsPool.{released_at}
 use Rattle.client_core.specs.contracts.session.ClientSession.{the_view}
@@ -16,51 +17,43 @@ use Rattle.buffer_pool.proofs.CountingLemmas.{counts-released}
 pub invariant_of-self : goal.invariant_of-self
 invariant_of-self c = rw c.mark.ensures (c.self.invariant.0, marked-session _ _ _ _ c.self.invariant.1)
 
-pub returns-clause-keeps_pool : goal.returns-clause-keeps_pool
-returns-clause-keeps_pool c =
-    let keeps = rw (← c.self.view_is) at c.requires.keeps_pool in
-    rw (c.release_at.ensures, ap (λ e. released_at e.place c.args.pool.now) c.entry.view_is, c.mark.ensures)
-    (keeps-marked _ (is_owner c.self.inside.number c.entry.inside.owner) c.entry.inside.number
-    c.args.now c.self.inside.calls (keeps-released c.args.pool.now c.args.entry.now.place
-    c.self.inside.calls c.requires.held keeps))
-
 pub returns-clause-step : goal.returns-clause-step
 returns-clause-step c = λ peer.
     rw (← c.self.view_is, ← c.entry.view_is, c.release_at.ensures, c.mark.ensures)
     (sent-step c.args.pool.now peer c.args.now c.entry.inside.place (the_view c.self.inside)
     (entry_view c.entry.inside))
 
-pub returns-clause-others : goal.returns-clause-others
-returns-clause-others c = rw (← c.self.view_is, ← c.entry.view_is, c.release_at.ensures, c.mark.ensures)
-    (gone-leaves c.args.pool.now (the_view c.self.inside) (entry_view c.entry.inside)
-    (is_owner c.self.inside.number c.entry.inside.owner)
-    (marked c.entry.inside.number c.args.now)
-    (λ p x. marked-own p c.entry.inside.number c.args.now x))
-
-pub returns-clause-entries : goal.returns-clause-entries
-returns-clause-entries c = rw (← c.self.view_is, c.mark.ensures)
-    (λ e was. stays c.self.inside.number (is_owner c.self.inside.number c.entry.inside.owner)
-    (marked c.entry.inside.number c.args.now)
-    (marking-keeps c.entry.inside.number c.args.now) e c.self.inside.calls was)
-
-pub returns-clause-counts : goal.returns-clause-counts
-returns-clause-counts c = λ passes old new out counts.
-    rw (c.release_at.ensures, ap (λ e. released_at e.place c.args.pool.now) c.entry.view_is)
-    (counts-released c.args.pool.now old counts passes c.args.entry.now new out c.requires.held)
-
-pub returns-clause-queued : goal.returns-clause-queued
-returns-clause-queued c = λ posted passes old new out all.
-    let before = rw (← c.self.view_is) at all in
-    let stands = rw (← c.self.view_is, ← c.entry.view_is) at posted in
-    let taken = rw (← c.entry.view_is) at out in
-    let number = c.entry.inside.number in
-    rw c.mark.ensures (left-queued (the_view c.self.inside) (entry_view c.entry.inside)
-    (marked number c.args.now) passes old new c.self.invariant.1 taken
-    (marked-request number c.args.now) (marked-less number c.args.now) stands before)
-
-pub returns-clause-handed : goal.returns-clause-handed
-returns-clause-handed c = rw (← c.self.view_is, c.release_at.ensures, c.mark.ensures)
-    (handed-released c.args.pool.now (is_owner c.self.inside.number c.entry.inside.owner)
-    (marked c.entry.inside.number c.args.now)
-    (λ x. marked-handed c.args.pool.now c.entry.inside.number c.args.now x)
-    c.self.inside.calls c.self.inside.slots.waiting c.entry.inside.place)
+pub returns-clause-leaves : goal.returns-clause-leaves
+returns-clause-leaves c = record {
+  pool = rw (c.release_at.ensures, ap (λ e. released_at e.place c.args.pool.now) c.entry.view_is) refl;
+  handed = rw (← c.self.view_is, c.release_at.ensures, c.mark.ensures)
+      (handed-released c.args.pool.now (is_owner c.self.inside.number c.entry.inside.owner)
+      (marked c.entry.inside.number c.args.now)
+      (λ x. marked-handed c.args.pool.now c.entry.inside.number c.args.now x)
+      c.self.inside.calls c.self.inside.slots.waiting c.entry.inside.place);
+  others = rw (← c.self.view_is, ← c.entry.view_is, c.release_at.ensures, c.mark.ensures)
+      (gone-leaves c.args.pool.now (the_view c.self.inside) (entry_view c.entry.inside)
+      (is_owner c.self.inside.number c.entry.inside.owner)
+      (marked c.entry.inside.number c.args.now)
+      (λ p x. marked-own p c.entry.inside.number c.args.now x));
+  entries = rw (← c.self.view_is, c.mark.ensures)
+      (λ e was. stays c.self.inside.number (is_owner c.self.inside.number c.entry.inside.owner)
+      (marked c.entry.inside.number c.args.now)
+      (marking-keeps c.entry.inside.number c.args.now) e c.self.inside.calls was);
+  counts = λ passes old new out counts.
+      rw (c.release_at.ensures, ap (λ e. released_at e.place c.args.pool.now) c.entry.view_is)
+      (counts-released c.args.pool.now old counts passes c.args.entry.now new out c.requires.held);
+  queued = λ posted passes old new out all.
+      let before = rw (← c.self.view_is) at all in
+      let stands = rw (← c.self.view_is, ← c.entry.view_is) at posted in
+      let taken = rw (← c.entry.view_is) at out in
+      let number = c.entry.inside.number in
+      rw c.mark.ensures (left-queued (the_view c.self.inside) (entry_view c.entry.inside)
+      (marked number c.args.now) passes old new c.self.invariant.1 taken
+      (marked-request number c.args.now) (marked-less number c.args.now) stands before);
+  keeps_pool = let keeps = rw (← c.self.view_is) at c.requires.keeps_pool in
+      rw (c.release_at.ensures, ap (λ e. released_at e.place c.args.pool.now) c.entry.view_is, c.mark.ensures)
+      (keeps-marked _ (is_owner c.self.inside.number c.entry.inside.owner) c.entry.inside.number
+      c.args.now c.self.inside.calls (keeps-released c.args.pool.now c.args.entry.now.place
+      c.self.inside.calls c.requires.held keeps));
+}

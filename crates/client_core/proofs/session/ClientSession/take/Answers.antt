@@ -12,26 +12,29 @@ use Rattle.rpc_base.proofs.FirstLemmas.{found-holds}
 pub write_part-requires-clause-kept : goal.write_part-requires-clause-kept
 write_part-requires-clause-kept c =
     found-holds (is_request c.args.call.request)
-    (IsKept c.args.pool.now) c.args.self.now.active c.args.call c.requires.keeps_pool.kept
-    c.requires.active
+    (IsKept c.args.pool.now) c.args.self.now.active c.args.call c.requires.call.keeps_pool.kept
+    c.requires.call.active
 
 pub write_part-requires-clause-part : goal.write_part-requires-clause-part
 write_part-requires-clause-part c =
     let kept = found-holds (is_request c.args.call.request)
-    (IsKept c.args.pool.now) c.args.self.now.active c.args.call c.requires.keeps_pool.kept
-    c.requires.active in
+    (IsKept c.args.pool.now) c.args.self.now.active c.args.call c.requires.call.keeps_pool.kept
+    c.requires.call.active in
     part-of c.args.pool.now c.args.call c.args.head.now _ kept c.requires.turn c.requires.taken
     (ok-not-small _ _ (sym c.in-EndsOk.ensures))
 
-pub end-done-requires-clause-keeps_pool : goal.end-done-requires-clause-keeps_pool
-end-done-requires-clause-keeps_pool c =
+pub end-done-requires-clause-call : goal.end-done-requires-clause-call
+end-done-requires-clause-call c =
     let kept = found-holds (is_request c.args.call.request)
-    (IsKept c.args.pool.now) c.args.self.now.active c.args.call c.requires.keeps_pool.kept
-    c.requires.active in
+    (IsKept c.args.pool.now) c.args.self.now.active c.args.call c.requires.call.keeps_pool.kept
+    c.requires.call.active in
     let part = part-of c.args.pool.now c.args.call c.args.head.now _ kept c.requires.turn
     c.requires.taken (ok-not-small _ _ (sym c.in-EndsOk.ensures)) in
-    rw c.write_part.ensures (keeps-written c.args.pool.now c.args.call c.args.head.now
-    c.args.body.now c.args.self.now.active c.requires.active c.requires.keeps_pool part)
+    record {
+      keeps_pool = rw c.write_part.ensures (keeps-written c.args.pool.now c.args.call c.args.head.now
+          c.args.body.now c.args.self.now.active c.requires.call.active c.requires.call.keeps_pool part);
+      active = c.requires.call.active;
+    }
 
 pub end-done-requires-clause-unheld : goal.end-done-requires-clause-unheld
 end-done-requires-clause-unheld c =
@@ -48,9 +51,9 @@ end-done-requires-in-EndsTooSmall-clause-unheld c =
 pub returns-in-EndsOk-clause-replies : goal.returns-in-EndsOk-clause-replies
 returns-in-EndsOk-clause-replies c =
     let apart = two-places (is_request c.args.call.request) c.args.call c.args.self.now.active
-    c.requires.active (c.requires.keeps_pool.apart c.args.call.ask) in
+    c.requires.call.active (c.requires.call.keeps_pool.apart c.args.call.ask) in
     let found : call_as c.args.head.now.request c.args.self.now ≡ Some c.args.call =
-    rw c.requires.of_call c.requires.active in (
+    rw c.requires.of_call c.requires.call.active in (
       c.args.call,
       record {
         found = found;
@@ -67,7 +70,7 @@ returns-in-EndsOk-clause-replies c =
 pub returns-in-EndsTooSmall-clause-replies : goal.returns-in-EndsTooSmall-clause-replies
 returns-in-EndsTooSmall-clause-replies c =
     let found : call_as c.args.head.now.request c.args.self.now ≡ Some c.args.call =
-    rw c.requires.of_call c.requires.active in (
+    rw c.requires.of_call c.requires.call.active in (
       c.args.call,
       record {
         found = found;
@@ -80,9 +83,18 @@ returns-in-EndsTooSmall-clause-replies c =
       },
     )
 
-pub returns-in-EndsOk-clause-counts : goal.returns-in-EndsOk-clause-counts
-returns-in-EndsOk-clause-counts c = λ entries counts.
-    let written : Counts c.write_part.new.pool entries =
-    rw c.write_part.ensures (counts-answered c.args.pool.now entries c.args.call
-    c.args.head.now c.args.body.now counts) in
-    c.end-done.ensures.counts entries written
+pub returns-in-EndsOk-clause-still : goal.returns-in-EndsOk-clause-still
+returns-in-EndsOk-clause-still c = record {
+  counts = λ entries counts.
+      let written : Counts c.write_part.new.pool entries =
+      rw c.write_part.ensures (counts-answered c.args.pool.now entries c.args.call
+      c.args.head.now c.args.body.now counts) in
+      c.end-done.ensures.still.counts entries written;
+  keeps_pool = c.end-done.ensures.still.keeps_pool;
+}
+
+pub returns-in-GoesOn-clause-still : goal.returns-in-GoesOn-clause-still
+returns-in-GoesOn-clause-still c = c.go_on.ensures.still
+
+pub returns-in-EndsTooSmall-clause-still : goal.returns-in-EndsTooSmall-clause-still
+returns-in-EndsTooSmall-clause-still c = c.end-done-in-EndsTooSmall.ensures.still

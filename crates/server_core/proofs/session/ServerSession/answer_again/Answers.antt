@@ -18,18 +18,18 @@ use Rattle.server_core.proofs.session.ServerSession.answer_again.Goals as goal
 pub serve_at-requires-clause-full : goal.serve_at-requires-clause-full
 serve_at-requires-clause-full g c =
     again-full c.args.pool.now c.args.self.now c.args.head.now c.args.size c.args.place
-    c.requires.reusable c.requires.keeps_pool
+    c.requires.reusable c.requires.whole.begins.keeps_pool
 
 pub get-requires : goal.get-requires
 get-requires g c = rw c.serve_at.ensures.rewritten.after_is
     (again-full c.args.pool.now c.args.self.now c.args.head.now c.args.size c.args.place
-    c.requires.reusable c.requires.keeps_pool)
+    c.requires.reusable c.requires.whole.begins.keeps_pool)
 
 pub begin_answered-requires-clause-full : goal.begin_answered-requires-clause-full
 begin_answered-requires-clause-full g c =
     rw c.serve_at.ensures.rewritten.after_is
     (again-full c.args.pool.now c.args.self.now c.args.head.now c.args.size c.args.place
-    c.requires.reusable c.requires.keeps_pool)
+    c.requires.reusable c.requires.whole.begins.keeps_pool)
 
 pub returns-clause-no_bytes : goal.returns-clause-no_bytes
 returns-clause-no_bytes g c =
@@ -37,20 +37,6 @@ returns-clause-no_bytes g c =
     let own : newest c.args.head.now.request (with_slots (begun d c.args.self.now.slots) c.args.self.now) ≡ Some d =
     begun-newest c.args.self.now d c.requires.session in
     rw (c.begin_answered.ensures.session, own) refl
-
-pub returns-clause-reply : goal.returns-clause-reply
-returns-clause-reply g c =
-    let re = c.serve_at.ensures.rewritten in
-    let turn = answered-turn c.args.head.now (record { place = c.args.place; size = c.args.size })
-    c.requires.size c.requires.one c.requires.answer in
-    rw (
-      c.begin_answered.ensures.reply,
-      c.begin_answered.ensures.session,
-      c.begin_answered.ensures.pool,
-      re.after_is,
-    )
-    (again-reply c.args.pool.now c.args.self.now c.args.head.now c.args.size c.args.place
-    c.requires.reusable c.requires.keeps_pool re.buf c.requires.session turn (omega (arith, c.requires.one)))
 
 pub returns-clause-answers : goal.returns-clause-answers
 returns-clause-answers g c =
@@ -64,7 +50,7 @@ returns-clause-answers g c =
       answer = bytes_of re.buf;
       shown_is = rw (c.begin_answered.ensures.session, c.begin_answered.ensures.pool, re.after_is)
           (again-shows c.args.pool.now c.args.self.now c.args.head.now c.args.size c.args.place
-          c.requires.reusable c.requires.keeps_pool re.buf (rw re.after_is at re.there) re.size_is)
+          c.requires.reusable c.requires.whole.begins.keeps_pool re.buf (rw re.after_is at re.there) re.size_is)
           ∙ answered-begun v c.args.head.now (bytes_of re.buf) none;
       by_service = λ served stands. (
         sym bytes ∙ c.serve_at.ensures.answer served stands,
@@ -73,8 +59,8 @@ returns-clause-answers g c =
       grew = rw (c.bytes.ensures.message, same) at c.note_ran.ensures;
     }
 
-pub returns-clause-begins : goal.returns-clause-begins
-returns-clause-begins g c =
+pub returns-clause-replies : goal.returns-clause-replies
+returns-clause-replies g c =
     let s = c.args.self.now in
     let head = c.args.head.now in
     let pool = c.args.pool.now in
@@ -82,29 +68,34 @@ returns-clause-begins g c =
     let e = c.begin_answered.result in
     let d = again_request head c.args.size c.args.place in
     let turn = answered-turn head (record { place = c.args.place; size = c.args.size })
-    c.requires.size c.requires.one c.requires.answer in
+    c.requires.whole.begins.size c.requires.whole.one c.requires.answer in
     let unheld = again-unheld pool s head c.args.size c.args.place c.requires.reusable
-    c.requires.keeps_pool (rw c.requires.reusable.newest_is at c.requires.unheld) in
+    c.requires.whole.begins.keeps_pool (rw c.requires.reusable.newest_is at c.requires.whole.begins.unheld) in
     let place = ap (λ x. x.place) c.begin_answered.ensures.reply
     ∙ late-placed d (record { place = c.args.place; size = c.args.size }) 0 refl
-    (omega (arith, c.requires.one)) in
+    (omega (arith, c.requires.whole.one)) in
     rw (c.begin_answered.ensures.session, c.begin_answered.ensures.pool, re.after_is) (record {
-      places = record {
-        spare = again-spare pool s head c.args.size c.args.place c.requires.reusable
-            c.requires.keeps_pool re.buf;
-        others = again-others pool s head c.args.size c.args.place c.requires.reusable re.buf;
-        keeps_pool = again-keeps pool s head c.args.size c.args.place c.requires.reusable
-            c.requires.keeps_pool re.buf (rw re.after_is at re.there) re.size_is;
+      reply = rw c.begin_answered.ensures.reply (again-reply pool s head c.args.size c.args.place
+          c.requires.reusable c.requires.whole.begins.keeps_pool re.buf c.requires.session turn
+          (omega (arith, c.requires.whole.one)));
+      begins = record {
+        places = record {
+          spare = again-spare pool s head c.args.size c.args.place c.requires.reusable
+              c.requires.whole.begins.keeps_pool re.buf;
+          others = again-others pool s head c.args.size c.args.place c.requires.reusable re.buf;
+          keeps_pool = again-keeps pool s head c.args.size c.args.place c.requires.reusable
+              c.requires.whole.begins.keeps_pool re.buf (rw re.after_is at re.there) re.size_is;
+        };
+        replies = λ es. record {
+          holds = λ all. rw c.begin_answered.ensures.reply (again-holds pool s head c.args.size
+              c.args.place c.requires.reusable c.requires.whole.begins.keeps_pool re.buf c.requires.session turn
+              (omega (arith, c.requires.whole.one)) es all unheld);
+          queued = λ all counted. first-counted pool s head.request c.requires.session
+              c.requires.whole.begins.keeps_pool d refl pool es all counted e refl
+              (ap (λ x. x.owner) c.begin_answered.ensures.reply);
+          counts = λ p. again-counts pool s head c.args.size c.args.place c.requires.reusable
+              c.requires.whole.begins.keeps_pool re.buf es e p place;
+        };
+        served = λ mode_of new all. begun-served mode_of s.slots d new all;
       };
-      replies = λ es. record {
-        holds = λ all. rw c.begin_answered.ensures.reply (again-holds pool s head c.args.size
-            c.args.place c.requires.reusable c.requires.keeps_pool re.buf c.requires.session turn
-            (omega (arith, c.requires.one)) es all unheld);
-        queued = λ all counted. first-counted pool s head.request c.requires.session
-            c.requires.keeps_pool d refl pool es all counted e refl
-            (ap (λ x. x.owner) c.begin_answered.ensures.reply);
-        counts = λ p. again-counts pool s head c.args.size c.args.place c.requires.reusable
-            c.requires.keeps_pool re.buf es e p place;
-      };
-      served = λ mode_of new all. begun-served mode_of s.slots d new all;
     })

@@ -12,19 +12,19 @@ use Rattle.server_core.proofs.StaysLemmas.{begins-then, places-then, replies-the
 
 pub make_message-requires-clause-first : goal.make_message-requires-clause-first
 make_message-requires-clause-first g c =
-    omega (arith, c.requires.beginning.long)
+    omega (arith, c.requires.ready.beginning.long)
 
 pub returns-then-count-gt1-clause-leaves : goal.returns-then-count-gt1-clause-leaves
 returns-then-count-gt1-clause-leaves g c =
     let v = shown c.args.pool.now c.args.self.now in
-    let none = none-shown c.args.pool.now c.args.self.now c.args.head.now.request c.requires.session
-    c.requires.beginning.newer in
+    let none = none-shown c.args.pool.now c.args.self.now c.args.head.now.request c.requires.ready.session
+    c.requires.ready.beginning.newer in
     record {
       handled = record {
         answer = [];
         steps = took-begun v c.args.head.now c.args.body.now none
             ∙ ap (λ x. begun_with x v ∷ []) (first-took c.args.head.now c.args.body.now c.in-Ok.ask
-            c.in-Ok.ensures c.requires.beginning.long)
+            c.in-Ok.ensures c.requires.ready.beginning.long)
             ∙ ap (λ w. w ∷ []) (sym (c.begin_first-reply.ensures.shown
             ∙ ap (begun_with _) c.flush_older.ensures.shown));
         by_service = tt;
@@ -32,27 +32,27 @@ returns-then-count-gt1-clause-leaves g c =
             c.flush_older.new.rec _ [] c.flush_older.ensures.noted
             (grew-none g.R.Recorder.log c.flush_older.new.rec);
       };
-      reply = rw c.requires.beginning.first c.begin_first-reply.ensures.reply;
+      reply = rw c.requires.ready.beginning.first c.begin_first-reply.ensures.replies.reply;
       give = tt;
       no_bytes = tt;
       service = refl;
       session = tt;
       pool = tt;
-      all_served = c.begin_first-reply.ensures.begins.served g.V.Service.mode_of
-          (rw c.requires.mode c.requires.served) c.requires.all_served;
-      places = places-then c.flush_older.ensures.places c.begin_first-reply.ensures.begins.places;
+      all_served = c.begin_first-reply.ensures.replies.begins.served g.V.Service.mode_of
+          (rw c.requires.serving.mode c.requires.served) c.requires.serving.all_served;
+      places = places-then c.flush_older.ensures.places c.begin_first-reply.ensures.replies.begins.places;
     }
 
 pub returns-then-count-gt1-clause-replies : goal.returns-then-count-gt1-clause-replies
 returns-then-count-gt1-clause-replies g c =
     replies-then c.flush_older.ensures.replies
-    (c.begin_first-reply.ensures.begins.replies c.flush_older.new.tx.items)
+    (c.begin_first-reply.ensures.replies.begins.replies c.flush_older.new.tx.items)
 
 pub returns-then-is_background-clause-leaves : goal.returns-then-is_background-clause-leaves
 returns-then-is_background-clause-leaves g c =
     let v = shown c.args.pool.now c.args.self.now in
-    let none = none-shown c.args.pool.now c.args.self.now c.args.head.now.request c.requires.session
-    c.requires.beginning.newer in
+    let none = none-shown c.args.pool.now c.args.self.now c.args.head.now.request c.requires.ready.session
+    c.requires.ready.beginning.newer in
     let one : packet_count c.args.head.now.size ≡ 1 =
     omega (
       arith,
@@ -61,7 +61,7 @@ returns-then-is_background-clause-leaves g c =
       packet_count_above c.args.head.now.size,
     ) in
     let own = whole-first c.args.head.now.size c.args.body.now c.in-Ok-make_message.ask
-    c.in-Ok-make_message.ensures c.requires.beginning.long one in
+    c.in-Ok-make_message.ensures c.requires.ready.beginning.long one in
     record {
       handled = record {
         answer = [];
@@ -88,7 +88,7 @@ returns-then-is_background-clause-leaves g c =
       session = tt;
       pool = tt;
       all_served = c.begin_working.ensures.begins.served g.V.Service.mode_of
-          (rw c.requires.mode c.requires.served) c.requires.all_served;
+          (rw c.requires.serving.mode c.requires.served) c.requires.serving.all_served;
       places = places-then c.flush_older-then-is_background.ensures.places
           c.begin_working.ensures.begins.places;
     }
@@ -101,8 +101,8 @@ returns-then-is_background-clause-replies g c =
 pub returns-in-Some-clause-leaves : goal.returns-in-Some-clause-leaves
 returns-in-Some-clause-leaves g c =
     let v = shown c.args.pool.now c.args.self.now in
-    let none = none-shown c.args.pool.now c.args.self.now c.args.head.now.request c.requires.session
-    c.requires.beginning.newer in
+    let none = none-shown c.args.pool.now c.args.self.now c.args.head.now.request c.requires.ready.session
+    c.requires.ready.beginning.newer in
     let answers = c.answer_again-reply.ensures.answers in
     let asked = asked-begun v c.args.head.now c.args.body.now none in
     record {
@@ -118,28 +118,28 @@ returns-in-Some-clause-leaves g c =
             c.flush_older-in-Some.new.rec c.answer_again-reply.new.rec _ _
             c.flush_older-in-Some.ensures.noted answers.grew);
       };
-      reply = rw c.requires.beginning.first c.answer_again-reply.ensures.reply;
+      reply = rw c.requires.ready.beginning.first c.answer_again-reply.ensures.replies.reply;
       give = tt;
       no_bytes = c.answer_again-reply.ensures.no_bytes;
       service = tt;
       session = tt;
       pool = tt;
-      all_served = c.answer_again-reply.ensures.begins.served g.V.Service.mode_of
-          (rw c.requires.mode c.requires.served) c.requires.all_served;
+      all_served = c.answer_again-reply.ensures.replies.begins.served g.V.Service.mode_of
+          (rw c.requires.serving.mode c.requires.served) c.requires.serving.all_served;
       places = places-then c.flush_older-in-Some.ensures.places
-          c.answer_again-reply.ensures.begins.places;
+          c.answer_again-reply.ensures.replies.begins.places;
     }
 
 pub returns-in-Some-clause-replies : goal.returns-in-Some-clause-replies
 returns-in-Some-clause-replies g c =
     replies-then c.flush_older-in-Some.ensures.replies
-    (c.answer_again-reply.ensures.begins.replies c.flush_older-in-Some.new.tx.items)
+    (c.answer_again-reply.ensures.replies.begins.replies c.flush_older-in-Some.new.tx.items)
 
 pub returns-clause-leaves : goal.returns-clause-leaves
 returns-clause-leaves g c =
     let v = shown c.args.pool.now c.args.self.now in
-    let none = none-shown c.args.pool.now c.args.self.now c.args.head.now.request c.requires.session
-    c.requires.beginning.newer in
+    let none = none-shown c.args.pool.now c.args.self.now c.args.head.now.request c.requires.ready.session
+    c.requires.ready.beginning.newer in
     let answers = c.answer_inline-reply.ensures.answers in
     let before : shown c.begin_working-2.new.pool c.begin_working-2.new.self
     ≡ begun_with (given (first_shown c.args.head.now [] None)) v =
@@ -157,20 +157,20 @@ returns-clause-leaves g c =
             c.flush_older-2.new.rec c.answer_inline-reply.new.rec _ _ c.flush_older-2.ensures.noted
             noted);
       };
-      reply = c.answer_inline-reply.ensures.reply;
+      reply = c.answer_inline-reply.ensures.replies.reply;
       give = tt;
       no_bytes = c.answer_inline-reply.ensures.no_bytes;
       service = tt;
       session = tt;
       pool = tt;
-      all_served = c.answer_inline-reply.ensures.stays.served g.V.Service.mode_of
+      all_served = c.answer_inline-reply.ensures.replies.stays.served g.V.Service.mode_of
           (c.begin_working-2.ensures.begins.served g.V.Service.mode_of
-          (rw c.requires.mode c.requires.served) c.requires.all_served);
+          (rw c.requires.serving.mode c.requires.served) c.requires.serving.all_served);
       places = places-then c.flush_older-2.ensures.places (places-then
-          c.begin_working-2.ensures.begins.places c.answer_inline-reply.ensures.stays.places);
+          c.begin_working-2.ensures.begins.places c.answer_inline-reply.ensures.replies.stays.places);
     }
 
 pub returns-clause-replies : goal.returns-clause-replies
 returns-clause-replies g c =
-    let both = begins-then c.begin_working-2.ensures.begins c.answer_inline-reply.ensures.stays in
+    let both = begins-then c.begin_working-2.ensures.begins c.answer_inline-reply.ensures.replies.stays in
     replies-then c.flush_older-2.ensures.replies (both.replies c.flush_older-2.new.tx.items)

@@ -30,7 +30,7 @@ put_message-ask-requires c =
       arith,
       spare-given c.args.pool.now
           (newest c.args.head.now.request (the_view c.self.inside)),
-      c.requires.spare,
+      c.requires.begins.spare,
     ))
 
 pub push-requires : goal.push-requires
@@ -42,11 +42,11 @@ invariant_of-self c =
     rw (c.push.ensures, c.give_up.ensures.slots, c.slot.ensures)
     (begun-session (the_view c.self.inside)
     (first_taken c.args.head.now c.put_message-ask.result.place) c.self.invariant
-    (first-turn c.args.head.now c.put_message-ask.result.place c.requires.size c.requires.many))
+    (first-turn c.args.head.now c.put_message-ask.result.place c.requires.begins.size c.requires.many))
 
 pub returns-clause-shown : goal.returns-clause-shown
 returns-clause-shown c =
-    let keeps = rw (← c.self.view_is) at c.requires.keeps_pool in
+    let keeps = rw (← c.self.view_is) at c.requires.begins.keeps_pool in
     let lowest = rw (c.give_up.ensures.pool, c.slot.ensures) at c.put_message-ask.ensures.place in
     let there = rw (c.put_message-ask.ensures.pool, c.give_up.ensures.pool, c.slot.ensures)
     at c.put_message-ask.ensures.there in
@@ -61,20 +61,8 @@ returns-clause-shown c =
     (first-shows c.args.pool.now (the_view c.self.inside) c.args.head.now keeps
     c.put_message-ask.result.place c.args.ask lowest there c.requires.len c.requires.room)
 
-pub returns-clause-reply : goal.returns-clause-reply
-returns-clause-reply c =
-    let d = first_taken c.args.head.now c.put_message-ask.result.place in
-    let whole = begun-session (the_view c.self.inside) d c.self.invariant
-    (first-turn c.args.head.now c.put_message-ask.result.place c.requires.size
-    c.requires.many) in
-    rw (c.entry-reply.ensures, c.push.ensures, c.give_up.ensures.slots, c.slot.ensures)
-    (is-reply c.put_message-ask.new.pool (with_slots (begun d c.self.inside.slots)
-    (the_view c.self.inside)) d 0 whole (begun-newest (the_view c.self.inside) d
-    c.self.invariant) (omega arith) (idle-reply d 0 refl)
-    (return-held c.put_message-ask.new.pool d 0 (lt-ltb 1 _ c.requires.many)))
-
-pub returns-clause-begins : goal.returns-clause-begins
-returns-clause-begins c =
+pub returns-clause-replies : goal.returns-clause-replies
+returns-clause-replies c =
     let s = the_view c.self.inside in
     let head = c.args.head.now in
     let pool = c.args.pool.now in
@@ -83,20 +71,17 @@ returns-clause-begins c =
     let d = first_taken head k in
     let given = given_up (newest head.request s) pool in
     let new = filled k c.args.ask given in
-    let keeps = rw (← c.self.view_is) at c.requires.keeps_pool in
-    let unheld = rw (← c.self.view_is) at c.requires.unheld in
+    let keeps = rw (← c.self.view_is) at c.requires.begins.keeps_pool in
+    let unheld = rw (← c.self.view_is) at c.requires.begins.unheld in
     let lowest : lowest_empty given ≡ Some k =
     rw (c.give_up.ensures.pool, c.slot.ensures) at c.put_message-ask.ensures.place in
     let there = rw (c.put_message-ask.ensures.pool, c.give_up.ensures.pool, c.slot.ensures)
     at c.put_message-ask.ensures.there in
+    let whole = begun-session s d c.self.invariant (first-turn head k c.requires.begins.size c.requires.many) in
     let reply : IsReply head.request 0 (with_slots (begun d s.slots) s) new e =
-    rw (
-      c.push.ensures,
-      c.give_up.ensures.slots,
-      c.put_message-ask.ensures.pool,
-      c.give_up.ensures.pool,
-      c.slot.ensures,
-    ) at (returns-clause-reply c) in
+    rw c.entry-reply.ensures (is-reply new (with_slots (begun d s.slots) s) d 0 whole
+    (begun-newest s d c.self.invariant) (omega arith) (idle-reply d 0 refl)
+    (return-held new d 0 (lt-ltb 1 _ c.requires.many))) in
     let mine : IsReplyIn d e =
     rw c.entry-reply.ensures (record {
       taken = omega arith;
@@ -113,25 +98,28 @@ returns-clause-begins c =
       ← c.self.view_is,
     )
     (record {
-      places = record {
-        spare = first-spare pool s head k c.args.ask keeps lowest;
-        others = first-others pool s head k c.args.ask lowest;
-        keeps_pool = first-keeps pool s head keeps k c.args.ask lowest there c.requires.len
-            c.requires.room;
+      reply = reply;
+      begins = record {
+        places = record {
+          spare = first-spare pool s head k c.args.ask keeps lowest;
+          others = first-others pool s head k c.args.ask lowest;
+          keeps_pool = first-keeps pool s head keeps k c.args.ask lowest there c.requires.len
+              c.requires.room;
+        };
+        replies = λ es. record {
+          holds = λ all. first-holds pool s head.request c.self.invariant keeps d refl new
+              (begun d (listed (newest head.request s))) (first-leaves pool s head k c.args.ask lowest)
+              es all 0 e refl reply mine;
+          queued = λ all counted. first-counted pool s head.request c.self.invariant keeps d refl pool
+              es all counted e refl (ap (λ x. x.owner) c.entry-reply.ensures);
+          counts = λ p. omega (
+            arith,
+            refs_filled given k p c.args.ask lowest,
+            given-refs (is_in_slot (head.request % 8)) pool s.slots p keeps unheld,
+            mentions-append p es (e ∷ []),
+            mentions-none p e place,
+          );
+        };
+        served = λ mode_of new all. begun-served mode_of s.slots d new all;
       };
-      replies = λ es. record {
-        holds = λ all. first-holds pool s head.request c.self.invariant keeps d refl new
-            (begun d (listed (newest head.request s))) (first-leaves pool s head k c.args.ask lowest)
-            es all 0 e refl reply mine;
-        queued = λ all counted. first-counted pool s head.request c.self.invariant keeps d refl pool
-            es all counted e refl (ap (λ x. x.owner) c.entry-reply.ensures);
-        counts = λ p. omega (
-          arith,
-          refs_filled given k p c.args.ask lowest,
-          given-refs (is_in_slot (head.request % 8)) pool s.slots p keeps unheld,
-          mentions-append p es (e ∷ []),
-          mentions-none p e place,
-        );
-      };
-      served = λ mode_of new all. begun-served mode_of s.slots d new all;
     })

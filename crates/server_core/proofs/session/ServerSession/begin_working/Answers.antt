@@ -26,11 +26,11 @@ invariant_of-self c =
     rw (c.push.ensures, c.given.ensures, c.give_up.ensures.slots, c.slot.ensures)
     (begun-session (the_view c.self.inside)
     (first_given c.args.head.now) c.self.invariant
-    (given-turn c.args.head.now c.requires.size c.requires.one))
+    (given-turn c.args.head.now c.requires.begins.size c.requires.one))
 
 pub returns-clause-shown : goal.returns-clause-shown
 returns-clause-shown c =
-    let keeps = rw (← c.self.view_is) at c.requires.keeps_pool in
+    let keeps = rw (← c.self.view_is) at c.requires.begins.keeps_pool in
     rw (
       c.push.ensures,
       c.given.ensures,
@@ -41,18 +41,29 @@ returns-clause-shown c =
     )
     (given-shows c.args.pool.now (the_view c.self.inside) c.args.head.now keeps)
 
-pub returns-clause-newest : goal.returns-clause-newest
-returns-clause-newest c =
-    rw (c.push.ensures, c.given.ensures, c.give_up.ensures.slots, c.slot.ensures)
-    (begun-newest (the_view c.self.inside) (first_given c.args.head.now) c.self.invariant)
-
-pub returns-clause-more : goal.returns-clause-more
-returns-clause-more c =
-    rw (c.give_up.ensures.pool, c.slot.ensures)
-    (spare-given c.args.pool.now (newest c.args.head.now.request (the_view c.self.inside)))
-
-pub returns-clause-sound : goal.returns-clause-sound
-returns-clause-sound c = invariant_of-self c
+pub returns-clause-awaited : goal.returns-clause-awaited
+returns-clause-awaited c =
+    let s = the_view c.self.inside in
+    let head = c.args.head.now in
+    let pool = c.args.pool.now in
+    let keeps = rw (← c.self.view_is) at c.requires.begins.keeps_pool in
+    let room = spare-given pool (newest head.request s) in
+    rw (
+      c.push.ensures,
+      c.given.ensures,
+      c.give_up.ensures.slots,
+      c.give_up.ensures.pool,
+      c.slot.ensures,
+    )
+    (record {
+      own = record {
+        keeps_pool = given-keeps-pool pool s head keeps;
+        found = begun-newest s (first_given head) c.self.invariant;
+      };
+      turn = given-turn head c.requires.begins.size c.requires.one;
+      working = refl;
+      spare = omega (arith, room, c.requires.begins.spare);
+    })
 
 pub returns-clause-begins : goal.returns-clause-begins
 returns-clause-begins c =
@@ -61,8 +72,8 @@ returns-clause-begins c =
     let pool = c.args.pool.now in
     let d = first_given head in
     let after = given_up (newest head.request s) pool in
-    let keeps = rw (← c.self.view_is) at c.requires.keeps_pool in
-    let unheld = rw (← c.self.view_is) at c.requires.unheld in
+    let keeps = rw (← c.self.view_is) at c.requires.begins.keeps_pool in
+    let unheld = rw (← c.self.view_is) at c.requires.begins.unheld in
     rw (
       c.push.ensures,
       c.given.ensures,

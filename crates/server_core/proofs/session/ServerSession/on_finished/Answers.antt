@@ -22,14 +22,24 @@ returns-in_default-clause-left c =
       pool = refl;
     }
 
-pub put_answer-reply-requires-clause-turn : goal.put_answer-reply-requires-clause-turn
-put_answer-reply-requires-clause-turn c =
-    found-holds (is_in_slot c.slot.result) IsInTurn c.self.inside.slots c.in-Some.request
-    c.self.invariant.in_turn (sym c.in-Some.ensures)
-
-pub put_answer-reply-requires-clause-working : goal.put_answer-reply-requires-clause-working
-put_answer-reply-requires-clause-working c =
-    at-work c.in-Some.request.state (sym c.is_working.ensures ∙ c.if-not-is_working.false)
+pub put_answer-reply-requires-clause-awaited : goal.put_answer-reply-requires-clause-awaited
+put_answer-reply-requires-clause-awaited c =
+    let s = the_view c.self.inside in
+    let q = c.in-Some.request in
+    let found : newest c.args.parcel.request s ≡ Some q =
+    rw c.slot.ensures at (sym c.in-Some.ensures) in
+    let same : q.number ≡ c.args.parcel.request =
+    sym c.get.ensures.value ∙ c.if-get.false ∙ c.get-2.ensures.value in
+    record {
+      own = record {
+        keeps_pool = c.requires.keeps_pool;
+        found = rw (← c.self.view_is) (ap (λ r. newest r s) same ∙ found);
+      };
+      turn = found-holds (is_in_slot c.slot.result) IsInTurn c.self.inside.slots q
+          c.self.invariant.in_turn (sym c.in-Some.ensures);
+      working = at-work q.state (sym c.is_working.ensures ∙ c.if-not-is_working.false);
+      spare = c.requires.spare;
+    }
 
 pub returns-then-get-clause-left : goal.returns-then-get-clause-left
 returns-then-get-clause-left c =
@@ -74,7 +84,7 @@ returns-clause-finished c =
           ∙ sym c.is_working.ensures ∙ c.if-not-is_working.false);
       shown_is = c.put_answer-reply.ensures.shown;
       last = rw own c.put_answer-reply.ensures.last;
-      reply = c.put_answer-reply.ensures.reply;
+      reply = c.put_answer-reply.ensures.replies.reply;
     })
 
 pub returns-in_default-clause-places : goal.returns-in_default-clause-places
@@ -86,10 +96,10 @@ returns-then-get-clause-places c =
     same-places c.args.self.now c.args.pool.now c.requires.keeps_pool
 
 pub returns-clause-places : goal.returns-clause-places
-returns-clause-places c = c.put_answer-reply.ensures.stays.places
+returns-clause-places c = c.put_answer-reply.ensures.replies.stays.places
 
 pub returns-clause-holds : goal.returns-clause-holds
-returns-clause-holds c = λ es all. (c.put_answer-reply.ensures.stays.replies es).holds all
+returns-clause-holds c = λ es all. (c.put_answer-reply.ensures.replies.stays.replies es).holds all
 
 pub returns-clause-queued : goal.returns-clause-queued
 returns-clause-queued c = c.put_answer-reply.ensures.queued
@@ -97,7 +107,7 @@ returns-clause-queued c = c.put_answer-reply.ensures.queued
 pub returns-clause-counts : goal.returns-clause-counts
 returns-clause-counts c = λ es counts.
     counts-behind c.args.pool.now c.put_answer-reply.new.pool es (c.put_answer-reply.result ∷ [])
-    (c.put_answer-reply.ensures.stays.replies es).counts counts
+    (c.put_answer-reply.ensures.replies.stays.replies es).counts counts
 
 pub returns-clause-all_served : goal.returns-clause-all_served
-returns-clause-all_served c = c.put_answer-reply.ensures.stays.served
+returns-clause-all_served c = c.put_answer-reply.ensures.replies.stays.served

@@ -1,10 +1,100 @@
-use Rattle.server_core.proofs.HandlingLemmas.{handles-noted}
+use Rattle.std.proofs.Common.{[], refl, sym}
+use Rattle.rpc_laws.specs.declared.rows.ServerRow.TheVariants.{Drops, Begins, Takes, Repeats}
+use Rattle.server_core.specs.Handling.{Handles}
+use Rattle.server_core.specs.Noting.{early_facts}
+use Rattle.server_core.specs.Scene.{at_desk, incoming}
+use Rattle.server_core.specs.Shown.{shown}
+use Rattle.server_core.specs.declared.step.Step.TheVariants.{Again, Dropped}
+use Rattle.server_core.specs.Steps.{asked_with}
+use Rattle.server_core.proofs.FlushLemmas.{grew-none}
+use Rattle.server_core.proofs.HandlingLemmas.{dropped-leaves, handles-by, handles-noted}
+use Rattle.server_core.proofs.StaysLemmas.{replies-still, same-places, same-replies}
+use Rattle.server_core.proofs.TableLemmas.{row-begins}
 use Rattle.server_core.proofs.session.ServerSession.on_packet.Goals as goal
+use Rattle.server_core.proofs.session.ServerSession.on_packet.Goals.{in-Drops, in-Begins}
+use Rattle.server_core.proofs.session.ServerSession.on_packet.Goals.{in-Takes, in-Repeats}
+
+pub begin-step-requires-clause-ready : goal.begin-step-requires-clause-ready
+begin-step-requires-clause-ready g c =
+    let row = rw c.mode-mode.ensures at (sym c.in-Begins.ensures.row) in
+    record {
+      session = c.in-Begins.ensures.sound;
+      keeps_pool = c.requires.ready.keeps_pool;
+      spare = c.requires.ready.spare;
+      queued = c.requires.ready.queued row;
+      counted = c.requires.ready.counted row;
+      beginning = (row-begins c.mode-mode.result c.args.jobs_full c.args.head.now _ c.args.self.now
+          c.requires.asking (sym c.in-Begins.ensures.row)).0;
+    }
 
 pub returns : goal.returns
 returns g c =
-    handles-noted g.V.Service g.R.Recorder.log c.args.jobs_full c.args.who c.args.head.now
-    c.args.body.now c.step-step.result c.args.self.now c.step-step.new.self c.args.pool.now
-    c.step-step.new.pool c.args.tx.now c.step-step.new.tx c.args.service.now
-    c.step-step.new.service c.args.rec.now c.step-step.new.rec c.step-step.ensures c.note.new.rec
-    c.note.ensures
+    let v = g.V.Service in
+    let log = g.R.Recorder.log in
+    let who = c.args.who in
+    let h = c.args.head.now in
+    let body = c.args.body.now in
+    let packet = incoming h body c.args.jobs_full in
+    let s = c.args.self.now in
+    let pool = c.args.pool.now in
+    let tx = c.args.tx.now in
+    let keeps = c.requires.ready.keeps_pool in
+    let asking = c.requires.asking in
+    let before = at_desk s pool tx c.args.service.now c.args.rec.now in
+    let m = c.match-row in
+    let after = at_desk m.self m.pool m.tx m.service m.rec in
+    let did : Handles v log early_facts who packet m.step before after =
+    elim m.branch [
+      | in-Drops w ↦ (rw (w.self-is, w.pool-is, w.tx-is, w.service-is, w.rec-is, w.step-is)
+          (handles-by v log who packet (Dropped w.in-Drops.reason) before before asking
+          w.in-Drops.ensures.sound keeps (Drops w.in-Drops.reason)
+          (rw c.mode-mode.ensures at (sym w.in-Drops.ensures.row)) refl refl
+          (dropped-leaves v log (λ answer. early_facts who s tx.items (Drops w.in-Drops.reason) h
+          (asked_with h body (shown pool s)) answer (Dropped w.in-Drops.reason)) h body
+          w.in-Drops.reason s pool pool c.args.service.now c.args.rec.now refl refl
+          c.requires.all_served (same-places s pool keeps) (refl, λ other. refl))
+          (replies-still (same-replies s pool tx.items))))
+      | in-Begins w ↦ (
+          let b = w.begin-step in
+          rw (w.self-is, w.pool-is, w.tx-is, w.service-is, w.rec-is, w.step-is)
+          (handles-by v log who packet b.result before
+          (at_desk b.new.self b.new.pool b.new.tx b.new.service b.new.rec) asking
+          w.in-Begins.ensures.sound keeps Begins
+          (rw c.mode-mode.ensures at (sym w.in-Begins.ensures.row))
+          (rw c.mode-mode.ensures at b.ensures.taken) b.ensures.ring b.ensures.leaves
+          b.ensures.replies))
+      | in-Takes w ↦ (
+          let t = w.take-step in
+          rw (w.self-is, w.pool-is, w.tx-is, w.service-is, w.rec-is, w.step-is)
+          (handles-by v log who packet t.result before
+          (at_desk t.new.self t.new.pool tx t.new.service t.new.rec) asking
+          w.in-Takes.ensures.sound keeps Takes
+          (rw c.mode-mode.ensures at (sym w.in-Takes.ensures.row))
+          (rw c.mode-mode.ensures at t.ensures.taken) refl t.ensures.leaves
+          (t.ensures.replies tx.items)))
+      | in-Repeats w ↦ (
+          let r = w.repeat-reply in
+          rw (w.self-is, w.pool-is, w.tx-is, w.service-is, w.rec-is, w.step-is)
+          (handles-by v log who packet (Again r.result) before
+          (at_desk r.new.self r.new.pool tx c.args.service.now c.args.rec.now) asking
+          w.in-Repeats.ensures.sound keeps Repeats
+          (rw c.mode-mode.ensures at (sym w.in-Repeats.ensures.row)) tt refl
+          (record {
+            handled = record {
+              answer = [];
+              steps = r.ensures.shown;
+              by_service = tt;
+              grew = grew-none log c.args.rec.now;
+            };
+            reply = r.ensures.replies.reply;
+            give = tt;
+            no_bytes = tt;
+            service = refl;
+            session = r.ensures.session;
+            pool = tt;
+            all_served = r.ensures.replies.stays.served v.mode_of c.requires.all_served;
+            places = r.ensures.replies.stays.places;
+          })
+          (r.ensures.replies.stays.replies tx.items)))
+    ] in
+    handles-noted v log who packet m.step before after did c.note.new.rec c.note.ensures

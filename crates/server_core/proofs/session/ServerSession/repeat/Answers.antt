@@ -28,15 +28,15 @@ hold_at-requires c =
     let found = sym c.in-Some.ensures in
     let kept = found-holds (is_in_slot (c.args.head.now.request % 8))
     (IsKept c.args.pool.now) c.args.self.now.slots c.in-Some.request
-    c.requires.keeps_pool.kept found in
+    c.requires.ready.keeps_pool.kept found in
     rw (ap (λ e. e.place) (c.reply.view_is ∙ c.entry-reply.ensures))
     (may-hold c.args.pool.now c.in-Some.request c.args.head.now.number kept
-    (rw found at c.requires.can_hold))
+    (rw found at c.requires.ready.can_hold))
 
 pub overflow_add-request : goal.overflow_add-request
 overflow_add-request c =
     let found = sym c.in-Some.ensures in
-    let few = rw found at c.requires.can_hold in
+    let few = rw found at c.requires.ready.can_hold in
     omega (arith, few.1)
 
 -- the session counts one reply more of the request
@@ -62,7 +62,7 @@ invariant_of-self c =
     let r = c.args.head.now.request in
     let found = sym c.in-Some.ensures in
     let slot : newest r s ≡ Some q = rw (← c.self.view_is) at found in
-    let few = rw found at c.requires.can_hold in
+    let few = rw found at c.requires.ready.can_hold in
     let again = rw found at c.requires.again in
     let same : gone_on (one_queued q) s.slots ≡ at_first (is_in_slot (r % 8)) one_queued s.slots =
     ap (λ m. at_first (is_in_slot (m % 8)) (λ x. one_queued q) s.slots) again.same
@@ -79,32 +79,8 @@ returns-clause-shown c =
     ∙ recount-shown (λ n. n + 1) (is_in_slot (c.args.head.now.request % 8)) c.args.self.now
     c.args.pool.now)
 
-pub returns-clause-reply : goal.returns-clause-reply
-returns-clause-reply c =
-    let s = c.args.self.now in
-    let q = c.in-Some.request in
-    let r = c.args.head.now.request in
-    let found = sym c.in-Some.ensures in
-    let kept = found-holds (is_in_slot (r % 8)) (IsKept c.args.pool.now) s.slots q c.requires.keeps_pool.kept found in
-    let again = rw found at c.requires.again in
-    let some = is-held-at c.args.pool.now q c.args.head.now.number kept in
-    let sound : IsSession (repeated r s) = subst IsSession (returns-clause-session c) (invariant_of-self c) in
-    let own : newest r (repeated r s) ≡ Some (one_queued q) =
-    found-changed (is_in_slot (r % 8)) one_queued s.slots (λ x. refl) ∙ rw found refl in
-    let entry : c.entry-reply.result ≡ entry_at s.number s.peer c.args.head.now.number
-    (one_queued q) = c.entry-reply.ensures
-    ∙ ap (λ x. entry_at x.number x.peer c.args.head.now.number q) c.self.view_is in
-    rw (
-      returns-clause-session c,
-      c.hold_at.ensures,
-      ap (λ e. held_at e.place c.args.pool.now) (c.reply.view_is ∙ c.entry-reply.ensures),
-      entry,
-    )
-    (is-reply-of _ (repeated r s) (one_queued q) r c.args.head.now.number sound own again.same
-    again.taken again.there some)
-
-pub returns-clause-stays : goal.returns-clause-stays
-returns-clause-stays c =
+pub returns-clause-replies : goal.returns-clause-replies
+returns-clause-replies c =
     let s = c.args.self.now in
     let q = c.in-Some.request in
     let k = c.args.head.now.number in
@@ -114,7 +90,7 @@ returns-clause-stays c =
     let test = is_in_slot (r % 8) in
     let found = sym c.in-Some.ensures in
     let sound : IsSession s = subst IsSession c.self.view_is c.self.invariant in
-    let kept = found-holds test (IsKept pool) s.slots q c.requires.keeps_pool.kept found in
+    let kept = found-holds test (IsKept pool) s.slots q c.requires.ready.keeps_pool.kept found in
     let again = rw found at c.requires.again in
     let own : newest q.number s ≡ Some q = ap (λ n. newest n s) again.same ∙ found in
     let entry : e ≡ entry_at s.number s.peer k q =
@@ -130,21 +106,31 @@ returns-clause-stays c =
     let same : gone_on (one_queued q) s.slots ≡ at_first test one_queued s.slots =
     ap (λ m. at_first (is_in_slot (m % 8)) (λ x. one_queued q) s.slots) again.same
     ∙ at_first-agree test (λ x. one_queued q) one_queued q s.slots refl found in
+    let counted : newest r (repeated r s) ≡ Some (one_queued q) =
+    found-changed test one_queued s.slots (λ x. refl) ∙ rw found refl in
+    let whole : IsSession (repeated r s) =
+    subst IsSession (returns-clause-session c) (invariant_of-self c) in
+    let given : IsReply r k (repeated r s) (held_at (place_of q k) pool) e =
+    rw entry (is-reply-of _ (repeated r s) (one_queued q) r k whole counted again.same again.taken
+    again.there (is-held-at pool q k kept)) in
     rw (returns-clause-session c, after) (record {
-      places = record {
-        spare = recount-spare (λ n. n + 1) test s pool (held_at (place_of q k) pool)
-            (held-spare pool s q r c.requires.keeps_pool found k);
-        others = recount-others (λ n. n + 1) test s _ _ (held-others pool s q r found k);
-        keeps_pool = recount-keeps (λ n. n + 1) test s _
-            (again-keeps pool s q sound own c.requires.keeps_pool k);
+      reply = given;
+      stays = record {
+        places = record {
+          spare = recount-spare (λ n. n + 1) test s pool (held_at (place_of q k) pool)
+              (held-spare pool s q r c.requires.ready.keeps_pool found k);
+          others = recount-others (λ n. n + 1) test s _ _ (held-others pool s q r found k);
+          keeps_pool = recount-keeps (λ n. n + 1) test s _
+              (again-keeps pool s q sound own c.requires.ready.keeps_pool k);
+        };
+        replies = λ es. record {
+          holds = λ all. recount-holds (λ n. n + 1) test s _ _
+              (again-holds pool s q sound own c.requires.ready.keeps_pool es all k e reply place mine);
+          queued = λ all counted. rw (← same) (gone-counted s q sound own (one_queued q) refl es e refl
+              reply.owner counted);
+          counts = λ p. held-behind pool e es p (place_of q k) place
+              (may-hold pool q k kept (rw found at c.requires.ready.can_hold));
+        };
+        served = λ mode_of all. recount-served (λ n. n + 1) test s mode_of all;
       };
-      replies = λ es. record {
-        holds = λ all. recount-holds (λ n. n + 1) test s _ _
-            (again-holds pool s q sound own c.requires.keeps_pool es all k e reply place mine);
-        queued = λ all counted. rw (← same) (gone-counted s q sound own (one_queued q) refl es e refl
-            reply.owner counted);
-        counts = λ p. held-behind pool e es p (place_of q k) place
-            (may-hold pool q k kept (rw found at c.requires.can_hold));
-      };
-      served = λ mode_of all. recount-served (λ n. n + 1) test s mode_of all;
     })

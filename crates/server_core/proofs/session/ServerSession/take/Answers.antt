@@ -5,14 +5,13 @@ use Rattle.rpc_outside.specs.declared.service.Mode.TheVariants.{Unserved}
 use Rattle.packet_header.specs.Parts.{packet_count}
 use Rattle.packet_header.proofs.PartsLemmas.{packet_count_most}
 use Rattle.server_core.specs.KeepsPool.{IsAsked, IsKept}
-use Rattle.server_core.specs.Session.{answer_of, IsInTurn, ask_of, is_in_slot}
+use Rattle.server_core.specs.Session.{IsInTurn, ask_of, is_in_slot}
 use Rattle.server_core.specs.Shown.{shown}
 use Rattle.server_core.specs.Steps.{bytes_with, gone_on_as, grown}
 use Rattle.server_core.proofs.FlushLemmas.{grew-none}
 use Rattle.server_core.proofs.StepLemmas.{asked-gone, gave-gone, is-inline, is-taking, last-inline}
 use Rattle.server_core.proofs.StepLemmas.{more-bytes, more-turn, part-turn, ran-gone, took-gone}
 use Rattle.server_core.proofs.StepLemmas.{taking-by, whole-bytes}
-use Rattle.server_core.proofs.TakeLemmas.{given-turn}
 use Rattle.server_core.proofs.session.ServerSession.take.Goals as goal
 use Rattle.server_core.proofs.StaysLemmas.{places-then, stays-then}
 use Rattle.rpc_base.proofs.FirstLemmas.{found-holds}
@@ -22,16 +21,16 @@ take_next-reply-requires-clause-turn g c =
     let found = sym c.in-Some.ensures in
     let next = rw found at c.requires.next in
     let turn = found-holds (is_in_slot (c.args.head.now.request % 8)) IsInTurn c.args.self.now.slots
-    c.in-Some.request c.requires.session.in_turn found in
+    c.in-Some.request c.requires.ready.session.in_turn found in
     let rfr : is_rfr c.args.head.now.kind ≡ true = sym c.is_rfr.ensures ∙ c.if-is_rfr.true in
-    more-turn c.in-Some.request turn (rw found at c.requires.can_hold).1 (rw next.in_turn at (next.more rfr).there)
+    more-turn c.in-Some.request turn (rw found at c.requires.ready.can_hold).1 (rw next.in_turn at (next.more rfr).there)
 
 pub take_next-reply-requires-then-from-count-clause-turn : goal.take_next-reply-requires-then-from-count-clause-turn
 take_next-reply-requires-then-from-count-clause-turn g c =
     let found = sym c.in-Some.ensures in
     let turn = found-holds (is_in_slot (c.args.head.now.request % 8)) IsInTurn c.args.self.now.slots
-    c.in-Some.request c.requires.session.in_turn found in
-    part-turn c.in-Some.request turn (rw found at c.requires.can_hold).1
+    c.in-Some.request c.requires.ready.session.in_turn found in
+    part-turn c.in-Some.request turn (rw found at c.requires.ready.can_hold).1
     (omega (arith, c.if-from-count.true, c.from.ensures, c.count.ensures))
 
 pub get-requires : goal.get-requires
@@ -50,7 +49,7 @@ unreachable-requires-in_default-ask g c =
     let next = rw found at c.requires.next in
     let part = next.part (sym c.is_rfr.ensures ∙ c.if-is_rfr.false) in
     let turn = found-holds (is_in_slot (c.args.head.now.request % 8)) IsInTurn c.args.self.now.slots
-    c.in-Some.request c.requires.session.in_turn found in
+    c.in-Some.request c.requires.ready.session.in_turn found in
     let (p, taking) = is-taking c.in-Some.request turn (omega (arith, part.within, next.in_turn)) in
     let none : None ≡ ask_of c.in-Some.request.state = c.in_default-ask.ensures in
     let some : ask_of c.in-Some.request.state ≡ Some p = ap ask_of taking in
@@ -60,7 +59,7 @@ pub make_room-requires-clause-message : goal.make_room-requires-clause-message
 make_room-requires-clause-message g c =
     let found = sym c.in-Some.ensures in
     let turn = found-holds (is_in_slot (c.args.head.now.request % 8)) IsInTurn c.args.self.now.slots
-    c.in-Some.request c.requires.session.in_turn found in
+    c.in-Some.request c.requires.ready.session.in_turn found in
     let kept = found-holds (is_in_slot (c.args.head.now.request % 8))
     (IsKept c.write_part.new.pool) c.args.self.now.slots c.in-Some.request
     c.write_part.ensures.stays.places.keeps_pool.kept found in
@@ -76,7 +75,7 @@ make_room-requires-clause-served g c =
     let part = next.part (sym c.is_rfr.ensures ∙ c.if-is_rfr.false) in
     rw part.req_type (found-holds (is_in_slot (c.args.head.now.request % 8))
     (λ q. g.V.Service.mode_of q.req_type ≢ Unserved) c.args.self.now.slots c.in-Some.request
-    c.requires.all_served found)
+    c.requires.serving.all_served found)
 
 pub take_working-ask-requires-clause-kept : goal.take_working-ask-requires-clause-kept
 take_working-ask-requires-clause-kept g c =
@@ -97,7 +96,7 @@ pub take_working-ask-requires-clause-size : goal.take_working-ask-requires-claus
 take_working-ask-requires-clause-size g c =
     let found = sym c.in-Some.ensures in
     let turn = found-holds (is_in_slot (c.args.head.now.request % 8)) IsInTurn c.args.self.now.slots
-    c.in-Some.request c.requires.session.in_turn found in
+    c.in-Some.request c.requires.ready.session.in_turn found in
     turn.size
 
 pub last_given-given-requires : goal.last_given-given-requires
@@ -106,47 +105,15 @@ last_given-given-requires g c =
     let next = rw found at c.requires.next in
     let part = next.part (sym c.is_rfr.ensures ∙ c.if-is_rfr.false) in
     let turn = found-holds (is_in_slot (c.args.head.now.request % 8)) IsInTurn c.args.self.now.slots
-    c.in-Some.request c.requires.session.in_turn found in
+    c.in-Some.request c.requires.ready.session.in_turn found in
     omega (arith, packet_count_most c.in-Some.request.size turn.size, part.within, next.in_turn)
 
-pub answer_inline-reply-requires-clause-turn : goal.answer_inline-reply-requires-clause-turn
-answer_inline-reply-requires-clause-turn g c =
-    let found = sym c.in-Some.ensures in
-    let next = rw found at c.requires.next in
-    let part = next.part (sym c.is_rfr.ensures ∙ c.if-is_rfr.false) in
-    let turn = found-holds (is_in_slot (c.args.head.now.request % 8)) IsInTurn c.args.self.now.slots
-    c.in-Some.request c.requires.session.in_turn found in
-    let last : c.in-Some.request.taken + 1 ≡ packet_count c.in-Some.request.size =
-    omega (
-      arith,
-      part.within,
-      next.in_turn,
-      c.if-from-count.false,
-      c.from.ensures,
-      c.count.ensures,
-    ) in
-    rw c.last_given-given.ensures (given-turn c.in-Some.request turn.size last
-    (turn.few (ap answer_of (taking-by c.in-Some.request.state c.in-Some-ask.place
-    c.in-Some-ask.ensures))))
+pub answer_inline-reply-requires-clause-awaited : goal.answer_inline-reply-requires-clause-awaited
+answer_inline-reply-requires-clause-awaited g c =
+    rw c.last_given-given.ensures c.take_working-ask.ensures.awaited
 
-pub answer_inline-reply-requires-clause-inline : goal.answer_inline-reply-requires-clause-inline
-answer_inline-reply-requires-clause-inline g c =
-    let found = sym c.in-Some.ensures in
-    let next = rw found at c.requires.next in
-    let part = next.part (sym c.is_rfr.ensures ∙ c.if-is_rfr.false) in
-    let served : g.V.Service.mode_of c.args.head.now.req_type ≢ Unserved =
-    rw part.req_type (found-holds (is_in_slot (c.args.head.now.request % 8))
-    (λ q. g.V.Service.mode_of q.req_type ≢ Unserved) c.args.self.now.slots c.in-Some.request
-    c.requires.all_served found) in
-    let known : c.args.mode ≢ Unserved = rw c.requires.mode at served in
-    rw c.requires.mode (is-inline c.args.mode known (sym c.is_background.ensures ∙ c.if-is_background.false))
-
-pub answer_inline-reply-requires-clause-found : goal.answer_inline-reply-requires-clause-found
-answer_inline-reply-requires-clause-found g c =
-    rw c.last_given-given.ensures c.take_working-ask.ensures.newest
-
-pub answer_inline-reply-requires-clause-room : goal.answer_inline-reply-requires-clause-room
-answer_inline-reply-requires-clause-room g c =
+pub answer_inline-reply-requires-clause-serves : goal.answer_inline-reply-requires-clause-serves
+answer_inline-reply-requires-clause-serves g c =
     let found = sym c.in-Some.ensures in
     let kept = found-holds (is_in_slot (c.args.head.now.request % 8))
     (IsKept c.write_part.new.pool) c.args.self.now.slots c.in-Some.request
@@ -159,7 +126,19 @@ answer_inline-reply-requires-clause-room g c =
     c.take_working-ask.result kept (sym c.in-Some-ask.ensures)
     c.take_working-ask.ensures.ask (omega
     (arith, c.if-from-count.false, c.from.ensures, c.count.ensures)) in
-    λ served stands. rw (c.bytes.ensures.message, own, ← ask_is) (c.in-Ok.ensures.room served stands)
+    let next = rw found at c.requires.next in
+    let part = next.part (sym c.is_rfr.ensures ∙ c.if-is_rfr.false) in
+    let served : g.V.Service.mode_of c.args.head.now.req_type ≢ Unserved =
+    rw part.req_type (found-holds (is_in_slot (c.args.head.now.request % 8))
+    (λ q. g.V.Service.mode_of q.req_type ≢ Unserved) c.args.self.now.slots c.in-Some.request
+    c.requires.serving.all_served found) in
+    let known : c.args.mode ≢ Unserved = rw c.requires.serving.mode at served in
+    record {
+      inline = rw c.requires.serving.mode (is-inline c.args.mode known
+          (sym c.is_background.ensures ∙ c.if-is_background.false));
+      room = λ served stands. rw (c.bytes.ensures.message, own, ← ask_is) (c.in-Ok.ensures.room served stands);
+      founded = c.requires.serving.founded;
+    }
 
 pub returns-clause-taken : goal.returns-clause-taken
 returns-clause-taken g c =
@@ -186,7 +165,7 @@ returns-then-is_rfr-clause-leaves g c =
     let next = rw found at c.requires.next in
     let kept = found-holds (is_in_slot (c.args.head.now.request % 8))
     (IsKept c.args.pool.now) c.args.self.now.slots c.in-Some.request
-    c.requires.keeps_pool.kept found in
+    c.requires.ready.keeps_pool.kept found in
     let rfr : is_rfr c.args.head.now.kind ≡ true = sym c.is_rfr.ensures ∙ c.if-is_rfr.true in
     let behind : packet_count c.in-Some.request.size ≤ c.in-Some.request.taken =
     omega (arith, (next.more rfr).behind, next.in_turn) in
@@ -195,24 +174,24 @@ returns-then-is_rfr-clause-leaves g c =
       handled = record {
         answer = [];
         steps = took-gone c.args.pool.now c.args.self.now c.in-Some.request c.args.head.now
-            c.requires.session found next.same c.args.body.now
+            c.requires.ready.session found next.same c.args.body.now
             (bytes_with c.args.pool.now c.in-Some.request) joined
             ∙ ap (λ w. w ∷ []) (sym c.take_next-reply.ensures.shown);
         by_service = tt;
         grew = grew-none g.R.Recorder.log c.args.rec.now;
       };
-      reply = rw (next.in_turn, ← next.same) c.take_next-reply.ensures.reply;
+      reply = rw (next.in_turn, ← next.same) c.take_next-reply.ensures.replies.reply;
       give = tt;
       no_bytes = tt;
       service = refl;
       session = tt;
       pool = tt;
-      all_served = c.take_next-reply.ensures.stays.served g.V.Service.mode_of c.requires.all_served;
-      places = c.take_next-reply.ensures.stays.places;
+      all_served = c.take_next-reply.ensures.replies.stays.served g.V.Service.mode_of c.requires.serving.all_served;
+      places = c.take_next-reply.ensures.replies.stays.places;
     }
 
 pub returns-then-is_rfr-clause-replies : goal.returns-then-is_rfr-clause-replies
-returns-then-is_rfr-clause-replies g c = c.take_next-reply.ensures.stays.replies
+returns-then-is_rfr-clause-replies g c = c.take_next-reply.ensures.replies.stays.replies
 
 pub returns-then-from-count-clause-leaves : goal.returns-then-from-count-clause-leaves
 returns-then-from-count-clause-leaves g c =
@@ -222,7 +201,7 @@ returns-then-from-count-clause-leaves g c =
       handled = record {
         answer = [];
         steps = took-gone c.args.pool.now c.args.self.now c.in-Some.request c.args.head.now
-            c.requires.session found next.same c.args.body.now
+            c.requires.ready.session found next.same c.args.body.now
             (bytes_with c.write_part.new.pool c.in-Some.request) (sym c.write_part.ensures.bytes)
             ∙ ap (λ w. w ∷ []) (sym (c.take_next-reply-then-from-count.ensures.shown
             ∙ ap (gone_on_as c.in-Some.request.number
@@ -231,22 +210,22 @@ returns-then-from-count-clause-leaves g c =
         by_service = tt;
         grew = grew-none g.R.Recorder.log c.args.rec.now;
       };
-      reply = rw (next.in_turn, ← next.same) c.take_next-reply-then-from-count.ensures.reply;
+      reply = rw (next.in_turn, ← next.same) c.take_next-reply-then-from-count.ensures.replies.reply;
       give = tt;
       no_bytes = tt;
       service = refl;
       session = tt;
       pool = tt;
-      all_served = c.take_next-reply-then-from-count.ensures.stays.served g.V.Service.mode_of
-          c.requires.all_served;
+      all_served = c.take_next-reply-then-from-count.ensures.replies.stays.served g.V.Service.mode_of
+          c.requires.serving.all_served;
       places = places-then c.write_part.ensures.stays.places
-          c.take_next-reply-then-from-count.ensures.stays.places;
+          c.take_next-reply-then-from-count.ensures.replies.stays.places;
     }
 
 pub returns-then-from-count-clause-replies : goal.returns-then-from-count-clause-replies
 returns-then-from-count-clause-replies g c =
     let both = stays-then c.write_part.ensures.stays
-    c.take_next-reply-then-from-count.ensures.stays in
+    c.take_next-reply-then-from-count.ensures.replies.stays in
     both.replies
 
 pub returns-then-is_background-clause-leaves : goal.returns-then-is_background-clause-leaves
@@ -259,7 +238,7 @@ returns-then-is_background-clause-leaves g c =
     c.write_part.ensures.stays.places.keeps_pool.kept found in
     let bytes = bytes_with c.write_part.new.pool c.in-Some.request in
     let asked = asked-gone c.args.pool.now c.args.self.now c.in-Some.request c.args.head.now
-    c.requires.session found next.same c.args.body.now bytes
+    c.requires.ready.session found next.same c.args.body.now bytes
     (sym c.write_part.ensures.bytes) in
     let ask_is = c.bytes-whole.ensures.message
     ∙ whole-bytes c.write_part.new.pool c.in-Some.request c.in-Some-ask.place
@@ -273,7 +252,7 @@ returns-then-is_background-clause-leaves g c =
       handled = record {
         answer = [];
         steps = gave-gone c.args.pool.now c.args.self.now c.in-Some.request c.args.head.now
-            c.requires.session found next.same c.args.body.now
+            c.requires.ready.session found next.same c.args.body.now
             (bytes_with c.write_part.new.pool c.in-Some.request) (sym c.write_part.ensures.bytes)
             ∙ ap (λ w. w ∷ []) (sym (c.take_working-ask.ensures.shown
             ∙ ap (gone_on_as c.in-Some.request.number (λ x. given (grown [] x)))
@@ -294,7 +273,7 @@ returns-then-is_background-clause-leaves g c =
       service = refl;
       session = tt;
       pool = tt;
-      all_served = c.take_working-ask.ensures.stays.served g.V.Service.mode_of c.requires.all_served;
+      all_served = c.take_working-ask.ensures.stays.served g.V.Service.mode_of c.requires.serving.all_served;
       places = places-then c.write_part.ensures.stays.places
           c.take_working-ask.ensures.stays.places;
     }
@@ -314,7 +293,7 @@ returns-clause-leaves g c =
     c.write_part.ensures.stays.places.keeps_pool.kept found in
     let bytes = bytes_with c.write_part.new.pool c.in-Some.request in
     let asked = asked-gone c.args.pool.now c.args.self.now c.in-Some.request c.args.head.now
-    c.requires.session found next.same c.args.body.now bytes
+    c.requires.ready.session found next.same c.args.body.now bytes
     (sym c.write_part.ensures.bytes) in
     let own = whole-bytes c.write_part.new.pool c.in-Some.request c.in-Some-ask.place
     c.take_working-ask.result kept (sym c.in-Some-ask.ensures)
@@ -332,27 +311,27 @@ returns-clause-leaves g c =
       handled = record {
         answer = answers.answer;
         steps = ran-gone c.args.pool.now c.args.self.now c.in-Some.request c.args.head.now
-            c.requires.session found next.same c.args.body.now bytes (sym c.write_part.ensures.bytes)
+            c.requires.ready.session found next.same c.args.body.now bytes (sym c.write_part.ensures.bytes)
             answers.answer ∙ ap (λ w. w ∷ []) (sym
             (answers.shown_is ∙ ap (gone_on_as c.args.head.now.request (answered answers.answer))
             before));
         by_service = rw same at answers.by_service;
         grew = rw (same, c.take_working-ask.ensures.number) at answers.grew;
       };
-      reply = c.answer_inline-reply.ensures.reply;
+      reply = c.answer_inline-reply.ensures.replies.reply;
       give = tt;
       no_bytes = c.answer_inline-reply.ensures.no_bytes;
       service = tt;
       session = tt;
       pool = tt;
-      all_served = c.answer_inline-reply.ensures.stays.served g.V.Service.mode_of
-          (c.take_working-ask.ensures.stays.served g.V.Service.mode_of c.requires.all_served);
+      all_served = c.answer_inline-reply.ensures.replies.stays.served g.V.Service.mode_of
+          (c.take_working-ask.ensures.stays.served g.V.Service.mode_of c.requires.serving.all_served);
       places = places-then c.write_part.ensures.stays.places (places-then
-          c.take_working-ask.ensures.stays.places c.answer_inline-reply.ensures.stays.places);
+          c.take_working-ask.ensures.stays.places c.answer_inline-reply.ensures.replies.stays.places);
     }
 
 pub returns-clause-replies : goal.returns-clause-replies
 returns-clause-replies g c =
     let all = stays-then c.write_part.ensures.stays
-    (stays-then c.take_working-ask.ensures.stays c.answer_inline-reply.ensures.stays) in
+    (stays-then c.take_working-ask.ensures.stays c.answer_inline-reply.ensures.replies.stays) in
     all.replies

@@ -19,8 +19,8 @@ use Rattle.server_core.proofs.StaysLemmas.{held-behind}
 
 pub hold_at-requires : goal.hold_at-requires
 hold_at-requires c =
-    let found = rw (← c.self.view_is) at c.requires.found in
-    let keeps = rw (← c.self.view_is) at c.requires.keeps_pool in
+    let found = rw (← c.self.view_is) at c.requires.newest.found in
+    let keeps = rw (← c.self.view_is) at c.requires.newest.keeps_pool in
     let beside = own-beside c.args.pool.now (the_view c.self.inside) c.args.request c.self.invariant found keeps in
     rw (ap (λ e. e.place) (c.reply.view_is ∙ c.entry-reply.ensures))
     (may-hold c.args.pool.now c.args.request c.args.request.taken beside.own
@@ -28,14 +28,14 @@ hold_at-requires c =
 
 pub invariant_of-self : goal.invariant_of-self
 invariant_of-self c =
-    let found = rw (← c.self.view_is) at c.requires.found in
+    let found = rw (← c.self.view_is) at c.requires.newest.found in
     rw c.replace.ensures (gone-session (the_view c.self.inside) c.args.request
     (next_taken c.args.request) c.self.invariant c.requires.turn refl found)
 
 pub returns-clause-shown : goal.returns-clause-shown
 returns-clause-shown c =
-    let found = rw (← c.self.view_is) at c.requires.found in
-    let keeps = rw (← c.self.view_is) at c.requires.keeps_pool in
+    let found = rw (← c.self.view_is) at c.requires.newest.found in
+    let keeps = rw (← c.self.view_is) at c.requires.newest.keeps_pool in
     rw (
       c.replace.ensures,
       c.hold_at.ensures,
@@ -45,67 +45,54 @@ returns-clause-shown c =
     )
     (next-shows c.args.pool.now (the_view c.self.inside) c.args.request c.self.invariant found keeps)
 
-pub returns-clause-reply : goal.returns-clause-reply
-returns-clause-reply c =
-    let found = rw (← c.self.view_is) at c.requires.found in
-    let keeps = rw (← c.self.view_is) at c.requires.keeps_pool in
-    let d = next_taken c.args.request in
-    let beside = own-beside c.args.pool.now (the_view c.self.inside) c.args.request c.self.invariant found keeps in
-    let whole = gone-session (the_view c.self.inside) c.args.request d c.self.invariant c.requires.turn refl found in
-    let below : c.args.request.taken < d.taken = omega arith in
-    rw (
-      c.entry-reply.ensures,
-      c.replace.ensures,
-      c.hold_at.ensures,
-      ap (λ e. held_at e.place c.args.pool.now) (c.reply.view_is ∙ c.entry-reply.ensures),
-    )
-    (is-reply _ (with_slots (gone_on d c.self.inside.slots) (the_view c.self.inside)) d
-    c.args.request.taken whole (gone-newest c.args.pool.now (the_view c.self.inside)
-    c.args.request c.self.invariant found keeps d refl) below
-    (idle-reply d c.args.request.taken (next-idle c.args.request
-    (found-holds (is_in_slot (c.args.request.number % 8)) IsInTurn c.self.inside.slots
-    c.args.request c.self.invariant.in_turn found) c.requires.turn))
-    (is-held-at c.args.pool.now c.args.request c.args.request.taken beside.own))
-
 pub overflow_add-request-2 : goal.overflow_add-request-2
 overflow_add-request-2 c = omega (arith, c.requires.can_hold.1)
 
-pub returns-clause-stays : goal.returns-clause-stays
-returns-clause-stays c =
+pub returns-clause-replies : goal.returns-clause-replies
+returns-clause-replies c =
     let s = the_view c.self.inside in
     let q = c.args.request in
     let pool = c.args.pool.now in
     let d = next_taken q in
     let e = c.entry-reply.result in
-    let found = rw (← c.self.view_is) at c.requires.found in
-    let keeps = rw (← c.self.view_is) at c.requires.keeps_pool in
+    let found = rw (← c.self.view_is) at c.requires.newest.found in
+    let keeps = rw (← c.self.view_is) at c.requires.newest.keeps_pool in
     let beside = own-beside pool s q c.self.invariant found keeps in
     let after : c.hold_at.new.self ≡ held_at (place_of q q.taken) pool =
     c.hold_at.ensures ∙ ap (λ x. held_at x.place pool) (c.reply.view_is ∙ c.entry-reply.ensures) in
+    let idle = idle-reply d q.taken (next-idle q
+    (found-holds (is_in_slot (q.number % 8)) IsInTurn s.slots q c.self.invariant.in_turn found)
+    c.requires.turn) in
+    let below : q.taken < d.taken = omega arith in
     let reply : IsReply q.number q.taken (with_slots (gone_on d s.slots) s)
-    (held_at (place_of q q.taken) pool) e = rw (c.replace.ensures, after) at (returns-clause-reply c) in
+    (held_at (place_of q q.taken) pool) e =
+    rw c.entry-reply.ensures (is-reply _ (with_slots (gone_on d s.slots) s) d q.taken
+    (gone-session s q d c.self.invariant c.requires.turn refl found)
+    (gone-newest pool s q c.self.invariant found keeps d refl) below idle
+    (is-held-at pool q q.taken beside.own)) in
     let mine : IsReplyIn d e =
     rw c.entry-reply.ensures (record {
       taken = omega arith;
-      there = idle-reply d q.taken (next-idle q
-          (found-holds (is_in_slot (q.number % 8)) IsInTurn s.slots q c.self.invariant.in_turn
-          found) c.requires.turn);
+      there = idle;
       place_is = refl;
     }) in
     let place : e.place ≡ place_of q q.taken = ap (λ x. x.place) c.entry-reply.ensures in
     rw (c.replace.ensures, after, ← c.self.view_is) (record {
-      places = record {
-        spare = next-spare pool s q q.number keeps found refl q.taken;
-        others = next-others pool s q q.number found refl q.taken;
-        keeps_pool = next-keeps pool s q c.self.invariant found keeps;
+      reply = reply;
+      stays = record {
+        places = record {
+          spare = next-spare pool s q q.number keeps found refl q.taken;
+          others = next-others pool s q q.number found refl q.taken;
+          keeps_pool = next-keeps pool s q c.self.invariant found keeps;
+        };
+        replies = λ es. record {
+          holds = λ all. next-holds pool s q c.self.invariant found keeps es all e reply place mine;
+          queued = λ all counted. gone-counted s q c.self.invariant found d refl es e refl
+              (ap (λ x. x.owner) c.entry-reply.ensures) counted;
+          counts = λ p. held-behind pool e es p (place_of q q.taken) place
+              (may-hold pool q q.taken beside.own c.requires.can_hold);
+        };
+        served = λ mode_of all. gone-served pool s q c.self.invariant found keeps mode_of d refl refl
+            all;
       };
-      replies = λ es. record {
-        holds = λ all. next-holds pool s q c.self.invariant found keeps es all e reply place mine;
-        queued = λ all counted. gone-counted s q c.self.invariant found d refl es e refl
-            (ap (λ x. x.owner) c.entry-reply.ensures) counted;
-        counts = λ p. held-behind pool e es p (place_of q q.taken) place
-            (may-hold pool q q.taken beside.own c.requires.can_hold);
-      };
-      served = λ mode_of all. gone-served pool s q c.self.invariant found keeps mode_of d refl refl
-          all;
     })

@@ -32,7 +32,7 @@ unreachable-requires c =
 
 pub invariant_of-self : goal.invariant_of-self
 invariant_of-self c =
-    let found = rw (← c.self.view_is) at c.requires.found in
+    let found = rw (← c.self.view_is) at c.requires.newest.found in
     rw (c.replace.ensures, c.last_given.ensures)
     (gone-session (the_view c.self.inside) c.args.request (last_given c.args.request)
     c.self.invariant (given-turn c.args.request c.requires.size c.requires.last
@@ -42,25 +42,33 @@ invariant_of-self c =
 
 pub returns-clause-shown : goal.returns-clause-shown
 returns-clause-shown c =
-    let found = rw (← c.self.view_is) at c.requires.found in
-    let keeps = rw (← c.self.view_is) at c.requires.keeps_pool in
+    let found = rw (← c.self.view_is) at c.requires.newest.found in
+    let keeps = rw (← c.self.view_is) at c.requires.newest.keeps_pool in
     rw (c.replace.ensures, c.last_given.ensures, c.in-Ok.ensures.taken.2, ← c.self.view_is)
     (given-shows c.args.pool.now (the_view c.self.inside) c.args.request c.self.invariant found
     keeps c.args.place (ap ask_of c.requires.taking) (ap answer_of c.requires.taking))
 
-pub returns-clause-newest : goal.returns-clause-newest
-returns-clause-newest c =
-    let found = rw (← c.self.view_is) at c.requires.found in
-    let keeps = rw (← c.self.view_is) at c.requires.keeps_pool in
-    rw (c.replace.ensures, c.last_given.ensures)
-    (gone-newest c.args.pool.now (the_view c.self.inside) c.args.request c.self.invariant found
-    keeps (last_given c.args.request) refl)
-
-pub returns-clause-more : goal.returns-clause-more
-returns-clause-more c = rw c.in-Ok.ensures.taken.2 (spare-emptied c.args.pool.now c.args.place c.requires.kept.full)
-
-pub returns-clause-sound : goal.returns-clause-sound
-returns-clause-sound c = invariant_of-self c
+pub returns-clause-awaited : goal.returns-clause-awaited
+returns-clause-awaited c =
+    let s = the_view c.self.inside in
+    let q = c.args.request in
+    let pool = c.args.pool.now in
+    let asked = ap ask_of c.requires.taking in
+    let none = ap answer_of c.requires.taking in
+    let found = rw (← c.self.view_is) at c.requires.newest.found in
+    let keeps = rw (← c.self.view_is) at c.requires.newest.keeps_pool in
+    let room = spare-emptied pool c.args.place c.requires.kept.full in
+    rw (c.replace.ensures, c.last_given.ensures, c.in-Ok.ensures.taken.2) (record {
+      own = record {
+        keeps_pool = given-keeps pool s q c.self.invariant found keeps c.args.place asked none;
+        found = gone-newest pool s q c.self.invariant found keeps (last_given q) refl;
+      };
+      turn = given-turn q c.requires.size c.requires.last
+          ((found-holds (is_in_slot (q.number % 8)) IsInTurn s.slots q c.self.invariant.in_turn
+          found).few none);
+      working = refl;
+      spare = omega (arith, room);
+    })
 
 pub last_given-requires : goal.last_given-requires
 last_given-requires c = omega (arith, packet_count_most c.args.request.size c.requires.size, c.requires.last)
@@ -72,8 +80,8 @@ returns-clause-stays c =
     let pool = c.args.pool.now in
     let asked = ap ask_of c.requires.taking in
     let none = ap answer_of c.requires.taking in
-    let found = rw (← c.self.view_is) at c.requires.found in
-    let keeps = rw (← c.self.view_is) at c.requires.keeps_pool in
+    let found = rw (← c.self.view_is) at c.requires.newest.found in
+    let keeps = rw (← c.self.view_is) at c.requires.newest.keeps_pool in
     rw (c.replace.ensures, c.last_given.ensures, c.in-Ok.ensures.taken.2, ← c.self.view_is) (record {
       places = record {
         spare = last-given-spare pool s q q.number keeps found refl none c.args.place asked

@@ -1,4 +1,4 @@
-use Rattle.std.proofs.Common.{◌≡◌, length, ap, ◌∙◌, arith}
+use Rattle.std.proofs.Common.{◌≡◌, length, refl, ap, ◌∙◌, arith}
 use Rattle.std.proofs.lemmas.List.{length-map}
 use Rattle.server_core.specs.Session.{Session as Serving}
 use Rattle.server_core.specs.Shown.{shown}
@@ -77,34 +77,17 @@ invariant_of-self c =
           c.place_in-place.ensures.parts),
     )
 
-pub returns-clause-servers : goal.returns-clause-servers
-returns-clause-servers c =
+pub returns : goal.returns
+returns c =
     let s = c.self.inside in
     let h = ended s.pool s.sides.items s.servers.items s.tx s.pacer c.self.invariant.0 c.args.self.now
     c.self.view_is c.args.i c.requires.drained c.end_at.new.pool c.end_at.new.servers.items
     c.end_at.ensures in
-    h.left
-
-pub returns-clause-clients : goal.returns-clause-clients
-returns-clause-clients c =
-    let s = c.self.inside in
-    let h = ended s.pool s.sides.items s.servers.items s.tx s.pacer c.self.invariant.0 c.args.self.now
-    c.self.view_is c.args.i c.requires.drained c.end_at.new.pool c.end_at.new.servers.items
-    c.end_at.ensures in
-    rw (← c.self.view_is) h.clients
-
-pub returns-clause-places : goal.returns-clause-places
-returns-clause-places c =
-    let s = c.self.inside in
-    let h = ended s.pool s.sides.items s.servers.items s.tx s.pacer c.self.invariant.0 c.args.self.now
-    c.self.view_is c.args.i c.requires.drained c.end_at.new.pool c.end_at.new.servers.items
-    c.end_at.ensures in
-    rw (← c.self.view_is) h.places
-
-pub returns-clause-handed : goal.returns-clause-handed
-returns-clause-handed c =
-    let s = c.self.inside in
-    let h = ended s.pool s.sides.items s.servers.items s.tx s.pacer c.self.invariant.0 c.args.self.now
-    c.self.view_is c.args.i c.requires.drained c.end_at.new.pool c.end_at.new.servers.items
-    c.end_at.ensures in
-    rw (← c.self.view_is) h.handed
+    record {
+      servers = h.left;
+      clients = rw (← c.self.view_is) h.clients;
+      queued = rw (← c.self.view_is) refl;
+      size = rw (← c.self.view_is) refl;
+      places = rw (← c.self.view_is) h.places;
+      handed = rw (← c.self.view_is) h.handed;
+    }

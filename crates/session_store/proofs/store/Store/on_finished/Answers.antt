@@ -40,21 +40,6 @@ invariant_of-self c =
           c.self.invariant.3,
     )
 
-pub returns-in_default-clause-servers : goal.returns-in_default-clause-servers
-returns-in_default-clause-servers c =
-    let s = c.self.inside in
-    let h = rw c.in_default.is at c.finished_at-reply.ensures in
-    rw (← c.self.view_is) (left-at s.pool c.finished_at-reply.new.pool s.sides.items s.servers.items
-    c.finished_at-reply.new.servers.items (joined s.tx s.pacer) c.args.i c.args.parcel.request _ h)
-
-pub returns-in_default-clause-places : goal.returns-in_default-clause-places
-returns-in_default-clause-places c =
-    let s = c.self.inside in
-    let h = rw c.in_default.is at c.finished_at-reply.ensures in
-    rw (← c.self.view_is) (left-places s.pool c.finished_at-reply.new.pool s.sides.items
-    s.servers.items c.finished_at-reply.new.servers.items (joined s.tx s.pacer) c.args.i c.args.parcel.request _
-    h)
-
 pub invariant_of-self-2 : goal.invariant_of-self-2
 invariant_of-self-2 c =
     let s = c.self.inside in
@@ -82,42 +67,6 @@ invariant_of-self-2 c =
           c.self.invariant.3,
     )
 
-pub returns-clause-servers : goal.returns-clause-servers
-returns-clause-servers c =
-    let s = c.self.inside in
-    let h = rw c.in-Some.is at c.finished_at-reply.ensures in
-    let room = ring-room s.pool s.sides.items s.servers.items (joined s.tx s.pacer)
-    (undue c.args.self.now) (flat c.self.inside.pool c.self.inside.sides.items
-    c.self.inside.servers.items c.self.inside.tx c.self.inside.pacer c.args.self.now
-    c.self.view_is) (less-undue c.args.self.now c.requires.ring) in
-    rw (← c.self.view_is) (finish-at s.pool c.finished_at-reply.new.pool s.sides.items
-    s.servers.items c.finished_at-reply.new.servers.items (joined s.tx s.pacer) c.args.i c.args.parcel.request _
-    c.in-Some.entry c.self.invariant.0 h room h.step.was_sound)
-
-pub returns-clause-clients : goal.returns-clause-clients
-returns-clause-clients c =
-    let s = c.self.inside in
-    let h = rw c.in-Some.is at c.finished_at-reply.ensures in
-    let room = ring-room s.pool s.sides.items s.servers.items (joined s.tx s.pacer)
-    (undue c.args.self.now) (flat c.self.inside.pool c.self.inside.sides.items
-    c.self.inside.servers.items c.self.inside.tx c.self.inside.pacer c.args.self.now
-    c.self.view_is) (less-undue c.args.self.now c.requires.ring) in
-    rw (← c.self.view_is) (finish-clients s.pool c.finished_at-reply.new.pool s.sides.items
-    s.servers.items c.finished_at-reply.new.servers.items (joined s.tx s.pacer) c.args.i c.args.parcel.request _
-    c.in-Some.entry c.self.invariant.0 h room)
-
-pub returns-clause-places : goal.returns-clause-places
-returns-clause-places c =
-    let s = c.self.inside in
-    let h = rw c.in-Some.is at c.finished_at-reply.ensures in
-    let room = ring-room s.pool s.sides.items s.servers.items (joined s.tx s.pacer)
-    (undue c.args.self.now) (flat c.self.inside.pool c.self.inside.sides.items
-    c.self.inside.servers.items c.self.inside.tx c.self.inside.pacer c.args.self.now
-    c.self.view_is) (less-undue c.args.self.now c.requires.ring) in
-    rw (← c.self.view_is) (finish-places s.pool c.finished_at-reply.new.pool s.sides.items
-    s.servers.items c.finished_at-reply.new.servers.items (joined s.tx s.pacer) c.args.i c.args.parcel.request _
-    c.in-Some.entry c.self.invariant.0 h room)
-
 pub push-requires : goal.push-requires
 push-requires c =
     let s = c.self.inside in
@@ -126,27 +75,45 @@ push-requires c =
     c.args.self.now c.self.view_is) (less-undue c.args.self.now c.requires.ring) in
     record { room = omega (arith, room, joined-length s.tx s.pacer) }
 
-pub returns-clause-queued : goal.returns-clause-queued
-returns-clause-queued c =
-    let s = c.self.inside in
-    rw (← c.self.view_is, c.push.ensures) (queue-behind s.tx.items s.pacer.items c.in-Some.entry)
-
-pub returns-in_default-clause-handed : goal.returns-in_default-clause-handed
-returns-in_default-clause-handed c =
+pub returns-in_default : goal.returns-in_default
+returns-in_default c =
     let s = c.self.inside in
     let h = rw c.in_default.is at c.finished_at-reply.ensures in
-    rw (← c.self.view_is) (left-handed s.pool c.finished_at-reply.new.pool s.sides.items
-    s.servers.items c.finished_at-reply.new.servers.items (joined s.tx s.pacer) c.args.i c.args.parcel.request _
-    h)
+    record {
+      servers = rw (← c.self.view_is) (left-at s.pool c.finished_at-reply.new.pool s.sides.items s.servers.items
+          c.finished_at-reply.new.servers.items (joined s.tx s.pacer) c.args.i c.args.parcel.request _ h);
+      clients = rw (← c.self.view_is, h.step.left.pool) refl;
+      queued = rw (← c.self.view_is) refl;
+      size = rw (← c.self.view_is) refl;
+      handed = rw (← c.self.view_is) (left-handed s.pool c.finished_at-reply.new.pool s.sides.items
+          s.servers.items c.finished_at-reply.new.servers.items (joined s.tx s.pacer) c.args.i c.args.parcel.request _
+          h);
+      places = rw (← c.self.view_is) (left-places s.pool c.finished_at-reply.new.pool s.sides.items
+          s.servers.items c.finished_at-reply.new.servers.items (joined s.tx s.pacer) c.args.i c.args.parcel.request _
+          h);
+    }
 
-pub returns-clause-handed : goal.returns-clause-handed
-returns-clause-handed c =
+pub returns : goal.returns
+returns c =
     let s = c.self.inside in
     let h = rw c.in-Some.is at c.finished_at-reply.ensures in
     let room = ring-room s.pool s.sides.items s.servers.items (joined s.tx s.pacer)
     (undue c.args.self.now) (flat c.self.inside.pool c.self.inside.sides.items
     c.self.inside.servers.items c.self.inside.tx c.self.inside.pacer c.args.self.now
     c.self.view_is) (less-undue c.args.self.now c.requires.ring) in
-    rw (← c.self.view_is) (finish-handed s.pool c.finished_at-reply.new.pool s.sides.items
-    s.servers.items c.finished_at-reply.new.servers.items (joined s.tx s.pacer) c.args.i c.args.parcel.request _
-    c.in-Some.entry c.self.invariant.0 h room)
+    record {
+      servers = rw (← c.self.view_is) (finish-at s.pool c.finished_at-reply.new.pool s.sides.items
+          s.servers.items c.finished_at-reply.new.servers.items (joined s.tx s.pacer) c.args.i c.args.parcel.request _
+          c.in-Some.entry c.self.invariant.0 h room h.step.was_sound);
+      clients = rw (← c.self.view_is) (finish-clients s.pool c.finished_at-reply.new.pool s.sides.items
+          s.servers.items c.finished_at-reply.new.servers.items (joined s.tx s.pacer) c.args.i c.args.parcel.request _
+          c.in-Some.entry c.self.invariant.0 h room);
+      queued = rw (← c.self.view_is, c.push.ensures) (queue-behind s.tx.items s.pacer.items c.in-Some.entry);
+      size = rw (← c.self.view_is, c.push.ensures) refl;
+      handed = rw (← c.self.view_is) (finish-handed s.pool c.finished_at-reply.new.pool s.sides.items
+          s.servers.items c.finished_at-reply.new.servers.items (joined s.tx s.pacer) c.args.i c.args.parcel.request _
+          c.in-Some.entry c.self.invariant.0 h room);
+      places = rw (← c.self.view_is) (finish-places s.pool c.finished_at-reply.new.pool s.sides.items
+          s.servers.items c.finished_at-reply.new.servers.items (joined s.tx s.pacer) c.args.i c.args.parcel.request _
+          c.in-Some.entry c.self.invariant.0 h room);
+    }
