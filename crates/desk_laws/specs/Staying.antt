@@ -3,8 +3,8 @@ use Rattle.std.specs.Prelude.{ℕ, List, Some, None}
 use Rattle.std.specs.List.{AllByRecursion}
 use Rattle.deferred_calls.specs.Desks.{Jobs, open_of, out_of}
 use Rattle.deferred_calls.specs.Law.{Call, Runs, gives, hands, answers, takes}
-use Rattle.endpoint_loop.specs.Running.{Running}
-use Rattle.endpoint_loop.specs.Standing.{StandsFor}
+use Rattle.endpoint_loop.specs.Endpoints.{Running}
+use Rattle.endpoint_loop.specs.Stands.{StandsFor}
 use Rattle.rpc_base.specs.declared.fact.Fact.{Fact}
 use Rattle.rpc_base.specs.declared.limits.Limits.{Limits}
 use Rattle.rpc_outside.specs.declared.service.Service as Service

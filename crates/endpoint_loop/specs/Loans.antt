@@ -4,8 +4,8 @@ use Rattle.rpc_base.specs.declared.fact.Fact.{Fact}
 use Rattle.rpc_base.specs.declared.limits.Limits.{Limits}
 use Rattle.rpc_outside.specs.declared.service.Service as Service
 use Rattle.worker_crew.specs.declared.workers.Workers as Workers
-use Rattle.endpoint_loop.specs.Running.{Running}
-use Rattle.endpoint_loop.specs.Standing.{StandsFor}
+use Rattle.endpoint_loop.specs.Endpoints.{Running}
+use Rattle.endpoint_loop.specs.Stands.{StandsFor}
 
 -- workers take as many jobs as before, were given as many, and have the same out
 pub record KeepsJobs {W : Type 0} (workers : Workers.Ghosts W) (before later : W) : Type 0 where

@@ -8,25 +8,40 @@ ghost use Rattle.rpc_base.specs.Limits.{Fits as InRange};
 ghost use Rattle.rpc_laws.specs.Groups.{state_of};
 ghost use Rattle.rpc_laws.specs.NodeLists.{new_node};
 ghost use Rattle.rpc_laws.specs.Sessions.{is_client};
-ghost use Rattle.endpoint_loop.specs.Handling.{WorksFor};
-ghost use Rattle.endpoint_loop.specs.Standing.{StandsFor};
+ghost use Rattle.endpoint_node.specs.Packets.{WorksFor};
+ghost use Rattle.endpoint_loop.specs.Stands.{StandsFor};
 ghost use Rattle.session_store.specs.Handing.{AreOfCalls};
 
-use crate::node::Node;
+mod calls;
+mod poll;
+mod senders;
+mod sessions;
+mod status;
+mod strangers;
+mod turn;
+
+use endpoint_node::Node;
+pub use poll::{LinkFault, Turn};
 use rpc_base::{Limits, NodeId, SessionNo, SessionState};
 use rpc_outside::Service;
 use std::alloc::Global;
 use std::marker::Model;
+pub use turn::MOST_ARRIVALS;
 use worker_crew::Workers;
+
+/// So many numbers name peers.
+const PEERS: usize = 256;
 
 /// An endpoint of an application: its sessions, the service that answers requests, and the workers
 /// that answer those in the background. Contracts see its lists and its clock as the definitions
 /// over histories have them, with its service and its workers.
 pub struct Endpoint<V: Service, W: Workers> {
-    pub(crate) alloc: Global,
-    pub(crate) node: Node,
-    pub(crate) service: V,
-    pub(crate) workers: W,
+    alloc: Global,
+    node: Node,
+    service: V,
+    workers: W,
+    /// Where a session with each peer stood last.
+    homes: [usize; PEERS],
 }
 
 // Written by hand, so that whoever lets an endpoint go makes a call, and proves nothing of its
@@ -38,13 +53,14 @@ impl<V: Service + Drop, W: Workers + Drop> Drop for Endpoint<V, W> {
             node: _node,
             service: _service,
             workers: _workers,
+            homes: _,
         } = self;
     }
 }
 
 impl<V: Service, W: Workers> Model for Endpoint<V, W> {
-    ghost use Rattle.endpoint_loop.specs.Handing.{timed_of};
-    ghost use Rattle.endpoint_loop.specs.Running.{IsServing, Running};
+    ghost use Rattle.endpoint_node.specs.Handed.{timed_of};
+    ghost use Rattle.endpoint_loop.specs.Endpoints.{IsServing, Running};
     ghost use Rattle.rpc_laws.specs.Service.{rules_of};
 
     ghost Value = { Running V W };
@@ -97,32 +113,33 @@ impl<V: Service, W: Workers> Endpoint<V, W> {
             node,
             service,
             workers,
+            homes: [0; PEERS],
         })
     }
 }
 
 impl<V: Service, W: Workers> Endpoint<V, W> {
-    ghost use Rattle.endpoint_loop.specs.Lending.{lends_workers};
+    ghost use Rattle.endpoint_loop.specs.WorkersLoan.{lends_workers};
 
     /// The number of its node.
     pub fn me(&self) -> NodeId
         ensures { result ≡ self.now.timed.lists.me }
     {
-        self.node.me
+        self.node.me()
     }
 
     /// How many numbers of client sessions were used: the number of the next one.
     pub fn next_client(&self) -> u32
         ensures { result ≡ length self.now.timed.lists.clients }
     {
-        self.node.store.clients() as u32
+        self.node.clients()
     }
 
     /// How many numbers of server sessions were used: the number of the next one.
     pub fn next_server(&self) -> u64
         ensures { result ≡ self.now.timed.lists.server_numbers }
     {
-        self.node.server_numbers
+        self.node.server_numbers()
     }
 
     /// What always holds of its lists, and that what was handed in is of the calls in them.
@@ -160,6 +177,7 @@ impl<V: Service, W: Workers> Endpoint<V, W> {
             node: _node,
             service: _service,
             workers,
+            homes: _,
         } = self;
         workers
     }

@@ -6,9 +6,9 @@ use Rattle.rpc_outside.specs.Recording.{Log}
 use Rattle.rpc_outside.specs.declared.service.Service as Service
 use Rattle.worker_crew.specs.declared.workers.Workers as Workers
 use Rattle.session_store.specs.Handing.{HandsInAt}
-use Rattle.endpoint_loop.specs.Running.{Running}
-use Rattle.endpoint_loop.specs.Standing.{GoesOn}
-use Rattle.endpoint_loop.proofs.StandingLemmas.{goes-nowhere}
+use Rattle.endpoint_loop.specs.Endpoints.{Running}
+use Rattle.endpoint_loop.specs.Stands.{GoesOn}
+use Rattle.endpoint_loop.proofs.StandingLaw.{goes-nowhere}
 use Rattle.fan_calls.specs.Asking.{HandsInBytes, handed_with}
 
 -- an endpoint that isn't asked goes on

@@ -1,10 +1,10 @@
 //! A call that asks a fan's bytes.
 ghost use Rattle.std.specs.Prelude.{◌≡◌, ◌≤◌, ◌↔◌, None, IfOk, OnErr, length};
 ghost use Rattle.std.specs.List.{find};
-ghost use Rattle.endpoint_loop.specs.Asking.{refusal_of};
-ghost use Rattle.endpoint_loop.specs.Noting.{Makes};
-ghost use Rattle.endpoint_loop.specs.Applying.{Leaves};
-ghost use Rattle.endpoint_loop.specs.Standing.{GoesOn};
+ghost use Rattle.endpoint_node.specs.Asks.{refusal_of};
+ghost use Rattle.endpoint_node.specs.Notes.{Makes};
+ghost use Rattle.endpoint_loop.specs.Endpoints.{Leaves};
+ghost use Rattle.endpoint_loop.specs.Stands.{GoesOn};
 ghost use Rattle.message_buffer.specs.Buffer.{bytes_of, capacity_of};
 ghost use Rattle.message_buffer.specs.declared.block.TheConstants.{MOST_CAPACITY};
 ghost use Rattle.rpc_laws.specs.Groups.{Asks, state_of};

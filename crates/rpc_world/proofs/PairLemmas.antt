@@ -5,9 +5,10 @@ use Rattle.std.proofs.Common.{ap, map, subst, ◌∙◌, append_assoc, arith}
 use Rattle.std.specs.Prelude.{option_map}
 use Rattle.std.specs.List.{slice_get, slice_set}
 use Rattle.std.proofs.lemmas.Option.{slice_get-map}
-use Rattle.endpoint_loop.specs.Applying.{Leaves, PairsClient, PairsServer, or_refused}
-use Rattle.endpoint_loop.specs.Running.{asks_of}
-use Rattle.endpoint_loop.specs.Seen.{Asks, asking}
+use Rattle.endpoint_loop.specs.Endpoints.{Leaves}
+use Rattle.endpoint_node.specs.Pairs.{PairsClient, PairsServer, or_refused}
+use Rattle.endpoint_loop.specs.Endpoints.{asks_of}
+use Rattle.endpoint_node.specs.Seen.{Asks, asking}
 use Rattle.ring_laws.proofs.Frames.{map-set, set-same}
 use Rattle.rpc_base.specs.declared.event.Event.{Event}
 use Rattle.rpc_base.specs.declared.event.Event.TheVariants.{PairedClient, PairedServer, NconnectNumbers, NconnectRing}

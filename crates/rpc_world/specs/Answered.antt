@@ -2,7 +2,7 @@
 use Rattle.std.specs.Prelude.{ℕ, ◌≡◌, false, List, get_or, map}
 use Rattle.std.specs.List.{filter, list_any}
 use Rattle.rpc_base.specs.declared.fact.Fact.{Fact}
-use Rattle.endpoint_loop.specs.Running.{Running, told}
+use Rattle.endpoint_loop.specs.Endpoints.{Running, told}
 use Rattle.network_model.specs.declared.stage.Stage.{Stage}
 use Rattle.rpc_laws.specs.declared.tables.InFlight.{InFlight}
 use Rattle.rpc_laws.specs.declared.tables.Timed.{Timed}

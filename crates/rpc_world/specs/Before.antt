@@ -1,8 +1,8 @@
 -- What the world has before each command of a script, and what that command may name.
 use Rattle.std.specs.Prelude.{ℕ, ◌≡◌, ◌<◌, ◌≤◌, List, None, Some, length, slice_get}
 use Rattle.std.specs.List.{AllByRecursion}
-use Rattle.endpoint_loop.specs.Finishing.{staff_of}
-use Rattle.endpoint_loop.specs.Running.{IsStaffed}
+use Rattle.endpoint_node.specs.Jobs.{staff_of}
+use Rattle.endpoint_loop.specs.Endpoints.{IsStaffed}
 use Rattle.rpc_laws.specs.declared.tables.WorkedJob.{WorkedJob}
 use Rattle.rpc_outside.specs.PlainAnswer.{background_answer}
 use Rattle.rpc_world.specs.Answered.{End, Play, told_end}

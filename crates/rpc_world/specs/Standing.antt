@@ -1,7 +1,7 @@
 -- The endpoints that a script left: each stands for its node's facts.
 use Rattle.std.specs.Prelude.{◌≡◌, ℕ, Option, Some, None, List, [], ◌∷◌, slice_get}
 use Rattle.endpoint_loop.specs.PlainMembers.{plain_members}
-use Rattle.endpoint_loop.specs.Standing.{StandsFor}
+use Rattle.endpoint_loop.specs.Stands.{StandsFor}
 use Rattle.rpc_base.specs.declared.event.Event.TheVariants.{Made}
 use Rattle.rpc_base.specs.declared.fact.Fact.{Fact}
 use Rattle.rpc_laws.specs.Facts.{plain}

@@ -5,9 +5,9 @@ use Rattle.rpc_laws.specs.declared.tables.Timed.{Timed}
 use Rattle.rpc_outside.specs.declared.service.Mode.{Mode}
 use Rattle.node_laws.specs.NodeRun.{asks, connects, disconnects, sets_rate}
 use Rattle.end_laws.specs.JointRun.{AloneGroup}
-use Rattle.endpoint_loop.proofs.OpeningLemmas.{connect-still, disconnect-still}
-use Rattle.endpoint_loop.proofs.StandingLemmas.{ask-still, is_labour, rate-still}
-use Rattle.endpoint_loop.proofs.StillLemmas.{Stills}
+use Rattle.endpoint_loop.proofs.StandingSessions.{connect-still, disconnect-still}
+use Rattle.endpoint_loop.proofs.StandingLaw.{ask-still, is_labour, rate-still}
+use Rattle.endpoint_node.proofs.NoteStill.{Stills}
 use Rattle.turn_laws.specs.Endpoints.{Call, CallDoes, MayCall, ask, connect, disconnect, set_rate}
 
 pub call-still : (call : Call) → Stills is_labour (CallDoes call)

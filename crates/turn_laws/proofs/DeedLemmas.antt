@@ -9,7 +9,7 @@ use Rattle.rpc_laws.specs.declared.tables.Timed.{Timed}
 use Rattle.rpc_laws.specs.Service.{Answers, Serving}
 use Rattle.node_laws.specs.NodeRun.{delivers}
 use Rattle.end_laws.specs.JointRun.{Party, at_node}
-use Rattle.endpoint_loop.specs.Turning.{DeliversAll}
+use Rattle.endpoint_loop.specs.Turns.{DeliversAll}
 use Rattle.turn_laws.specs.Deeds.{Deed, Does, DoesAll, MayAct, acts, rests, noted_in}
 use Rattle.world_laws.proofs.FactLemmas.{AllAt, facts-grow, facts-other, facts-stay}
 use Rattle.world_laws.proofs.JointNodes.{Keeps, group-keeps}

@@ -19,20 +19,20 @@ use Rattle.rpc_laws.specs.Steps.{Rel}
 use Rattle.rpc_laws.proofs.AnswerLemmas.{answers-append, served-append}
 use Rattle.node_laws.specs.NodeRun.{polls}
 use Rattle.end_laws.specs.JointRun.{AloneGroup}
-use Rattle.endpoint_loop.specs.Applying.{Leaves}
-use Rattle.endpoint_loop.specs.Finishing.{staff_of}
-use Rattle.endpoint_loop.specs.Noting.{Makes}
-use Rattle.endpoint_loop.specs.Polling.{FinishesBack, LinkTells, MakesPoll, SendsUntil, is_stopped}
-use Rattle.endpoint_loop.specs.Running.{IsStaffed, Running, asks_of, crew_of, told}
-use Rattle.endpoint_loop.specs.Turning.{DeliversAll}
-use Rattle.endpoint_loop.specs.declared.polling.Turn.{Turn}
-use Rattle.endpoint_loop.proofs.GivingLemmas.{staffed-still}
-use Rattle.endpoint_loop.proofs.PollLemmas.{still-answers, these-still}
-use Rattle.endpoint_loop.proofs.StandingLemmas.{is_labour, none-ran, none-worked, poll-as}
-use Rattle.endpoint_loop.proofs.StandingLemmas.{poll-unworked}
-use Rattle.endpoint_loop.proofs.StandingLemmas.{delivery-still, sends-some, these-some, unworked}
-use Rattle.endpoint_loop.proofs.StillLemmas.{AllStill, Stills, sends-still, still-append}
-use Rattle.endpoint_loop.proofs.TurnLemmas.{is_work, many-append, many-none}
+use Rattle.endpoint_loop.specs.Endpoints.{Leaves}
+use Rattle.endpoint_node.specs.Jobs.{staff_of}
+use Rattle.endpoint_node.specs.Notes.{Makes}
+use Rattle.endpoint_loop.specs.Polls.{FinishesBack, LinkTells, MakesPoll, SendsUntil, is_stopped}
+use Rattle.endpoint_loop.specs.Endpoints.{IsStaffed, Running, asks_of, crew_of, told}
+use Rattle.endpoint_loop.specs.Turns.{DeliversAll}
+use Rattle.endpoint_loop.specs.declared.endpoint.poll.Turn.{Turn}
+use Rattle.endpoint_node.proofs.PacketCrew.{staffed-still}
+use Rattle.endpoint_loop.proofs.PollLaw.{still-answers, these-still}
+use Rattle.endpoint_loop.proofs.StandingLaw.{is_labour, none-ran, none-worked, poll-as}
+use Rattle.endpoint_loop.proofs.StandingLaw.{poll-unworked}
+use Rattle.endpoint_loop.proofs.StandingLaw.{delivery-still, sends-some, these-some, unworked}
+use Rattle.endpoint_node.proofs.NoteStill.{AllStill, Stills, sends-still, still-append}
+use Rattle.endpoint_node.proofs.NoteCounts.{is_work, many-append, many-none}
 use Rattle.turn_laws.specs.Deeds.{Deed, Does, NodeDid, acts, noted_in, rests}
 use Rattle.turn_laws.specs.Endpoints.{EndpointDid, seen}
 use Rattle.turn_laws.proofs.DeedLemmas.{deed-keeps, does-more, noted-more}

@@ -15,7 +15,7 @@ use Rattle.end_laws.proofs.ListLemmas.{add-last}
 use Rattle.end_laws.proofs.WireJoins.{wires-join}
 use Rattle.end_laws.specs.JointRun.{Joint, Party, at_node, limits_of}
 use Rattle.end_laws.specs.WireRun.{WireRun, WireStep, makes, more}
-use Rattle.endpoint_loop.specs.Running.{Running, told}
+use Rattle.endpoint_loop.specs.Endpoints.{Running, told}
 use Rattle.turn_laws.specs.Endpoints.{seen}
 use Rattle.turn_laws.specs.Joining.{EndpointsStay, NewEndpointsJoin}
 use Rattle.turn_laws.proofs.DeedLemmas.{OwnPart, parts-grow}

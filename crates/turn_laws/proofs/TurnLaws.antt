@@ -9,9 +9,9 @@ use Rattle.rpc_laws.specs.declared.tables.Timed.{Timed}
 use Rattle.rpc_laws.specs.Deliveries.{Delivers}
 use Rattle.rpc_laws.specs.NodeLists.{new_node}
 use Rattle.rpc_laws.specs.PollOrder.{Poll}
-use Rattle.endpoint_loop.specs.Running.{Running}
-use Rattle.endpoint_loop.specs.Turning.{DeliversAll}
-use Rattle.endpoint_loop.proofs.StandingLemmas.{delivery-still}
+use Rattle.endpoint_loop.specs.Endpoints.{Running}
+use Rattle.endpoint_loop.specs.Turns.{DeliversAll}
+use Rattle.endpoint_loop.proofs.StandingLaw.{delivery-still}
 use Rattle.server_core.proofs.FlushLemmas.{grew-then}
 use Rattle.turn_laws.specs.Endpoints.{CallDoes, CallsAreDeeds, DeliveriesAreDeeds}
 use Rattle.turn_laws.specs.Endpoints.{NewDidNothing}

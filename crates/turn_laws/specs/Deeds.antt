@@ -10,7 +10,7 @@ use Rattle.rpc_laws.specs.NodeLists.{new_node}
 use Rattle.rpc_laws.specs.Service.{Serving, Answers}
 use Rattle.rpc_laws.specs.Steps.{Then}
 use Rattle.end_laws.specs.JointRun.{AloneGroup}
-use Rattle.endpoint_loop.specs.Turning.{DeliversAll}
+use Rattle.endpoint_loop.specs.Turns.{DeliversAll}
 
 -- what a node did in a turn or in a call: its number, the datagrams that came in it, in order, each
 -- with the peer that it is said to be from, and what it noted

@@ -18,13 +18,13 @@ use Rattle.rpc_laws.specs.Steps.{Rel}
 use Rattle.node_laws.specs.NodeRun.{IsCredits}
 use Rattle.end_laws.specs.JointRun.{Party, Joint, at_node}
 use Rattle.end_laws.specs.WireRun.{WireRun}
-use Rattle.endpoint_loop.specs.Applying.{Leaves}
-use Rattle.endpoint_loop.specs.Finishing.{staff_of}
-use Rattle.endpoint_loop.specs.Noting.{Makes, sent_of}
-use Rattle.endpoint_loop.specs.Polling.{LinkTells, MakesPoll}
-use Rattle.endpoint_loop.specs.Running.{IsStaffed, Running, told}
-use Rattle.endpoint_loop.specs.Turning.{MakesTurn}
-use Rattle.endpoint_loop.specs.declared.polling.Turn.{Turn}
+use Rattle.endpoint_loop.specs.Endpoints.{Leaves}
+use Rattle.endpoint_node.specs.Jobs.{staff_of}
+use Rattle.endpoint_node.specs.Notes.{Makes, sent_of}
+use Rattle.endpoint_loop.specs.Polls.{LinkTells, MakesPoll}
+use Rattle.endpoint_loop.specs.Endpoints.{IsStaffed, Running, told}
+use Rattle.endpoint_loop.specs.Turns.{MakesTurn}
+use Rattle.endpoint_loop.specs.declared.endpoint.poll.Turn.{Turn}
 use Rattle.turn_laws.specs.Deeds.{Deed, NodeDid, noted_in}
 use Rattle.turn_laws.specs.Wires.{AreOnWire, on_wire}
 use Rattle.worker_crew.specs.declared.workers.Workers as Workers

@@ -8,9 +8,10 @@ use Rattle.rpc_laws.specs.Service.{rules_of}
 use Rattle.node_laws.specs.NodeRun.{IsCredits}
 use Rattle.end_laws.specs.JointRun.{Party, Joint}
 use Rattle.end_laws.specs.WireRun.{WireRun}
-use Rattle.endpoint_loop.specs.Applying.{Leaves, PairsClient, PairsServer}
-use Rattle.endpoint_loop.specs.Noting.{Makes}
-use Rattle.endpoint_loop.specs.Running.{Running}
+use Rattle.endpoint_loop.specs.Endpoints.{Leaves}
+use Rattle.endpoint_node.specs.Pairs.{PairsClient, PairsServer}
+use Rattle.endpoint_node.specs.Notes.{Makes}
+use Rattle.endpoint_loop.specs.Endpoints.{Running}
 use Rattle.turn_laws.specs.Endpoints.{IsEndpoint, Stays}
 use Rattle.worker_crew.specs.declared.workers.Workers as Workers
 

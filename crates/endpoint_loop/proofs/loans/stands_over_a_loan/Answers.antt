@@ -1,4 +1,4 @@
-use Rattle.endpoint_loop.proofs.LoanLemmas.{stands-over}
+use Rattle.endpoint_loop.proofs.StandingLoan.{stands-over}
 use Rattle.endpoint_loop.proofs.loans.stands_over_a_loan.Goals as goal
 
 pub returns : goal.returns

@@ -6,7 +6,7 @@ use Rattle.rpc_world.proofs.rating.rate_on.Goals as goal
 
 pub land-requires : goal.land-requires
 land-requires c =
-    let makes = c.set_rate-answer.ensures.makes in
+    let makes = c.set_rate-answer.ensures.call.makes in
     grew-since _ _ _ _ _ _ makes.grew (ap length c.facts-before.ensures)
 
 pub returns : goal.returns
@@ -14,11 +14,11 @@ returns c =
     let is_n : c.from.result ≡ c.args.node = c.from.ensures ∙ c.node.view_is in
     let land = c.in_ok-land.ensures in
     let P = SetsRate c.args.session c.args.rate in
-    let makes = c.set_rate-answer.ensures.makes in
+    let makes = c.set_rate-answer.ensures.call.makes in
     stepped P c.args.node c.args.stage.now _
     c.at_mut-rating.result.now _ _ _ _ _ _ c.stage.view_is c.requires.numbered.playing
     (rw is_n at c.at_mut-rating.ensures.value)
     (leaving-step P c.args.node c.args.stage.now.worked c.at_mut-rating.result.now _ makes.noted
-    c.set_rate-answer.ensures.leaves
+    c.set_rate-answer.ensures.call.leaves
     (λ s t h. rates-still c.args.session c.args.rate s makes.noted t h) makes.step)
     (grew-facts _ _ _ _ _ makes.grew land.whole) (ap length c.facts-before.ensures) (rw is_n at land.stage)

@@ -6,7 +6,7 @@ use Rattle.rpc_laws.specs.InFlight.{flight_after_all}
 use Rattle.rpc_laws.specs.PollOrder.{PollBy, SendsAll}
 use Rattle.rpc_laws.specs.Working.{FinishesWorked}
 use Rattle.rpc_outside.specs.PlainAnswer.{plain_mode}
-use Rattle.endpoint_loop.specs.Noting.{sent_of}
+use Rattle.endpoint_node.specs.Notes.{sent_of}
 use Rattle.rpc_world.specs.Answered.{Play, Whole}
 use Rattle.rpc_world.proofs.PollingLemmas.{at-polls, landed, mine, never-busy, poll-step, sent-all}
 use Rattle.rpc_world.proofs.PollingLemmas.{sent-flight}

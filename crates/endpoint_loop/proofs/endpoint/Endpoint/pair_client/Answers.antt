@@ -1,24 +1,33 @@
-use Rattle.std.proofs.Common.{refl, ap}
-use Rattle.endpoint_loop.specs.Applying.{PairsClient}
-use Rattle.endpoint_loop.specs.Handing.{timed_of}
-use Rattle.endpoint_loop.proofs.StandingLemmas.{client-group, client-still, goes-nowhere, goes-on}
-use Rattle.endpoint_loop.proofs.StandingLemmas.{paired-or}
+use Rattle.std.proofs.Common.{refl, ap, rules}
+use Rattle.endpoint_node.specs.Pairs.{PairsClient}
+use Rattle.endpoint_node.specs.Handed.{timed_of}
+use Rattle.endpoint_loop.proofs.StandingLaw.{client-group, client-still, goes-nowhere, goes-on}
+use Rattle.endpoint_loop.proofs.StandingLaw.{paired-or}
 use Rattle.endpoint_loop.proofs.endpoint.Endpoint.pair_client.Goals as goal
 
-pub returns-clause-goes_on : goal.returns-clause-goes_on
-returns-clause-goes_on g c =
-    rw (← c.self.view_is) (paired-or _ _ _ _
-    (λ makes. goes-on g.R.Recorder.log
-    g.V.Service g.W.Workers (PairsClient c.args.peer c.args.server c.args.credits) _ _ _ _ makes
-    (client-group g.V.Service.mode_of c.args.peer c.args.server c.args.credits
-    (record { some = c.requires.some; few = c.requires.most }) c.requires.server)
-    (client-still c.args.peer c.args.server c.args.credits)
-    (record { service = refl; workers = refl; jobs = c.pair_client.ensures.jobs }))
-    (λ still same. goes-nowhere g.R.Recorder.log
-    g.V.Service g.W.Workers _ _ _ _ (ap (λ n. record {
-      timed = timed_of n;
-      handed = n.handed;
-      service = c.self.inside.service;
-      workers = c.self.inside.workers;
-    }) same) still)
-    c.pair_client.result c.pair_client.ensures.makes c.pair_client.ensures.wanting c.pair_client.ensures.unchanged)
+pub returns : goal.returns
+returns g c = record {
+  number = rw (← c.self.view_is) c.pair_client.ensures.number;
+  makes = rw (← c.self.view_is) c.pair_client.ensures.makes;
+  accepted = rw (← c.self.view_is) c.pair_client.ensures.accepted;
+  refused = rw (← c.self.view_is) c.pair_client.ensures.refused;
+  leaves = rw (← c.self.view_is) (record { service = refl; workers = refl; jobs = c.pair_client.ensures.jobs });
+  goes_on = rw (← c.self.view_is) (paired-or _ _ _ _
+      (λ makes. goes-on g.R.Recorder.log
+      g.V.Service g.W.Workers (PairsClient c.args.peer c.args.server c.args.credits) _ _ _ _ makes
+      (client-group g.V.Service.mode_of c.args.peer c.args.server c.args.credits
+      (record { some = c.requires.some; few = c.requires.most }) c.requires.server)
+      (client-still c.args.peer c.args.server c.args.credits)
+      (record { service = refl; workers = refl; jobs = c.pair_client.ensures.jobs }))
+      (λ still same. goes-nowhere g.R.Recorder.log
+      g.V.Service g.W.Workers _ _ _ _ (ap (λ n. record {
+        timed = timed_of n;
+        handed = n.handed;
+        service = c.self.inside.service;
+        workers = c.self.inside.workers;
+      }) same) still)
+      c.pair_client.result c.pair_client.ensures.makes c.pair_client.ensures.wanting c.pair_client.ensures.unchanged);
+  unchanged = search rules;
+  wanting = c.pair_client.ensures.wanting;
+  handed = rw (← c.self.view_is) c.pair_client.ensures.handed;
+}

@@ -1,8 +1,8 @@
-use Rattle.std.proofs.Common.{refl, ap}
-use Rattle.endpoint_loop.specs.Applying.{PairsServer}
-use Rattle.endpoint_loop.specs.Handing.{timed_of}
-use Rattle.endpoint_loop.proofs.StandingLemmas.{server-group, server-still, goes-nowhere, goes-on}
-use Rattle.endpoint_loop.proofs.StandingLemmas.{paired-or}
+use Rattle.std.proofs.Common.{refl, ap, rules}
+use Rattle.endpoint_node.specs.Pairs.{PairsServer}
+use Rattle.endpoint_node.specs.Handed.{timed_of}
+use Rattle.endpoint_loop.proofs.StandingLaw.{server-group, server-still, goes-nowhere, goes-on}
+use Rattle.endpoint_loop.proofs.StandingLaw.{paired-or}
 use Rattle.endpoint_loop.proofs.endpoint.Endpoint.pair_server.Goals as goal
 
 pub invariant_of-self : goal.invariant_of-self
@@ -13,20 +13,29 @@ invariant_of-self g c = record {
   background = rw (c.pair_server.ensures.jobs) c.self.invariant.background;
 }
 
-pub returns-clause-goes_on : goal.returns-clause-goes_on
-returns-clause-goes_on g c =
-    rw (← c.self.view_is) (paired-or _ _ _ _
-    (λ makes. goes-on g.R.Recorder.log
-    g.V.Service g.W.Workers (PairsServer c.args.peer c.args.client c.args.credits) _ _ _ _ makes
-    (server-group g.V.Service.mode_of c.args.peer c.args.client c.args.credits
-    (record { some = c.requires.some; few = c.requires.most }) c.requires.client)
-    (server-still c.args.peer c.args.client c.args.credits)
-    (record { service = refl; workers = refl; jobs = c.pair_server.ensures.jobs }))
-    (λ still same. goes-nowhere g.R.Recorder.log
-    g.V.Service g.W.Workers _ _ _ _ (ap (λ n. record {
-      timed = timed_of n;
-      handed = n.handed;
-      service = c.self.inside.service;
-      workers = c.self.inside.workers;
-    }) same) still)
-    c.pair_server.result c.pair_server.ensures.makes c.pair_server.ensures.wanting c.pair_server.ensures.unchanged)
+pub returns : goal.returns
+returns g c = record {
+  number = rw (← c.self.view_is) c.pair_server.ensures.number;
+  makes = rw (← c.self.view_is) c.pair_server.ensures.makes;
+  accepted = rw (← c.self.view_is) c.pair_server.ensures.accepted;
+  refused = rw (← c.self.view_is) c.pair_server.ensures.refused;
+  leaves = rw (← c.self.view_is) (record { service = refl; workers = refl; jobs = c.pair_server.ensures.jobs });
+  goes_on = rw (← c.self.view_is) (paired-or _ _ _ _
+      (λ makes. goes-on g.R.Recorder.log
+      g.V.Service g.W.Workers (PairsServer c.args.peer c.args.client c.args.credits) _ _ _ _ makes
+      (server-group g.V.Service.mode_of c.args.peer c.args.client c.args.credits
+      (record { some = c.requires.some; few = c.requires.most }) c.requires.client)
+      (server-still c.args.peer c.args.client c.args.credits)
+      (record { service = refl; workers = refl; jobs = c.pair_server.ensures.jobs }))
+      (λ still same. goes-nowhere g.R.Recorder.log
+      g.V.Service g.W.Workers _ _ _ _ (ap (λ n. record {
+        timed = timed_of n;
+        handed = n.handed;
+        service = c.self.inside.service;
+        workers = c.self.inside.workers;
+      }) same) still)
+      c.pair_server.result c.pair_server.ensures.makes c.pair_server.ensures.wanting c.pair_server.ensures.unchanged);
+  unchanged = search rules;
+  wanting = c.pair_server.ensures.wanting;
+  handed = rw (← c.self.view_is) c.pair_server.ensures.handed;
+}

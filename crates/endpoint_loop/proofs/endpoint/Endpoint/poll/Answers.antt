@@ -1,33 +1,35 @@
 use Rattle.std.proofs.Common.{◌≡◌, false, [], ap, ◌∙◌, refl, IfSome}
-use Rattle.endpoint_loop.specs.Handing.{timed_of}
-use Rattle.endpoint_loop.specs.Polling.{is_stopped, turn_of}
-use Rattle.endpoint_loop.proofs.HandingLemmas.{gives-more, gives-same}
-use Rattle.endpoint_loop.proofs.PollLemmas.{IsCounted, makes-poll, still-serving, turn-busy}
-use Rattle.endpoint_loop.proofs.PollLemmas.{turn-cause, turn-counted, turn-sent}
-use Rattle.endpoint_loop.proofs.StandingLemmas.{goes-polled}
+use Rattle.endpoint_node.specs.Handed.{timed_of}
+use Rattle.endpoint_loop.specs.Polls.{is_stopped, turn_of}
+use Rattle.endpoint_node.proofs.HandedBack.{gives-more, gives-same}
+use Rattle.endpoint_loop.proofs.PollLaw.{IsCounted, makes-poll, still-serving, turn-busy}
+use Rattle.endpoint_loop.proofs.PollLaw.{turn-cause, turn-counted, turn-sent}
+use Rattle.endpoint_loop.proofs.StandingLaw.{goes-polled}
 use Rattle.rpc_laws.specs.Pacing.{line}
 use Rattle.endpoint_loop.proofs.endpoint.Endpoint.poll.Goals as goal
 
-pub handle_all-handled-requires-clause-served : goal.handle_all-handled-requires-clause-served
-handle_all-handled-requires-clause-served g c =
-    c.hear_all-heard.ensures.served g.V.Service.mode_of
-    (c.finish_all.ensures.served g.V.Service.mode_of
-    (rw (c.raise_clock.ensures) c.self.invariant.served))
+pub handle_all-handled-requires-clause-serving : goal.handle_all-handled-requires-clause-serving
+handle_all-handled-requires-clause-serving g c = record {
+  served = c.hear_all-heard.ensures.step.rest.served g.V.Service.mode_of
+      (c.finish_all.ensures.step.rest.served g.V.Service.mode_of
+      (rw (c.raise_clock.ensures) c.self.invariant.served));
+  founded = c.self.invariant.founded;
+}
 
 pub invariant_of-self : goal.invariant_of-self
 invariant_of-self g c =
     let h = c.handle_all-handled.ensures.handles in
-    let heard = c.hear_all-heard.ensures.jobs in
+    let heard = c.hear_all-heard.ensures.step.rest.jobs in
     still-serving _ _ _ (timed_of c.hear_all-heard.new.self)
     (timed_of c.handle_all-handled.new.self) (timed_of c.close.new.self) h.gave
-    c.handle_all-handled.ensures.founded c.self.invariant.works c.handle_all-handled.ensures.served
+    c.handle_all-handled.ensures.rest.founded c.self.invariant.works c.handle_all-handled.ensures.rest.served
     (c.close.ensures.rest.servers ∙ c.send_all-sent.ensures.rest.servers
-    ∙ c.serve_sessions.ensures.rest.servers ∙ c.watch-asked.ensures.rest.servers)
-    (rw heard (c.finish_all.ensures.background g.V.Service.mode_of (rw (c.raise_clock.ensures)
+    ∙ c.post_sessions.ensures.rest.servers ∙ c.watch-asked.ensures.step.rest.servers)
+    (rw heard (c.finish_all.ensures.step.rest.background g.V.Service.mode_of (rw (c.raise_clock.ensures)
     c.self.invariant.background))) h.background
     h.jobs
     (c.close.ensures.rest.jobs ∙ c.send_all-sent.ensures.rest.jobs
-    ∙ c.serve_sessions.ensures.rest.jobs ∙ c.watch-asked.ensures.rest.jobs)
+    ∙ c.post_sessions.ensures.rest.jobs ∙ c.watch-asked.ensures.step.rest.jobs)
 
 pub returns-clause-polls : goal.returns-clause-polls
 returns-clause-polls g c =
@@ -36,24 +38,24 @@ returns-clause-polls g c =
     g.V.Service g.W.Workers c.self.invariant.works c.args.now (timed_of c.self.inside.node)
     (timed_of c.finish_all.new.self) (timed_of c.hear_all-heard.new.self)
     (timed_of c.handle_all-handled.new.self) (timed_of c.watch-asked.new.self)
-    (timed_of c.serve_sessions.new.self) (timed_of c.send_all-sent.new.self)
+    (timed_of c.post_sessions.new.self) (timed_of c.send_all-sent.new.self)
     (timed_of c.close.new.self) c.self.inside.workers c.finish_all.new.workers c.handle_all-handled.new.workers
     c.self.inside.service c.handle_all-handled.new.service c.args.rec.now c.finish_all.new.rec
     c.hear_all-heard.new.rec c.handle_all-handled.new.rec c.watch-asked.new.rec
-    c.serve_sessions.new.rec c.send_all-sent.new.rec c.close.new.rec c.args.k.now
+    c.post_sessions.new.rec c.send_all-sent.new.rec c.close.new.rec c.args.k.now
     c.handle_all-handled.new.k c.watch-asked.new.k c.args.link.now c.hear_all-heard.new.link
     c.watch-asked.new.link c.send_all-sent.new.link c.self.invariant.background
-    (rw (c.raise_clock.ensures) at c.finish_all.ensures.makes) c.finish_all.ensures.over
-    c.finish_all.ensures.limit c.finish_all.ensures.given c.finish_all.ensures.waiting
+    (rw (c.raise_clock.ensures) at c.finish_all.ensures.step.makes) c.finish_all.ensures.over
+    c.finish_all.ensures.step.limit c.finish_all.ensures.step.given c.finish_all.ensures.step.waiting
     c.hear_all-heard.result c.watch-asked.result
-    c.hear_all-heard.ensures.listens c.hear_all-heard.ensures.jobs c.hear_all-heard.ensures.me
+    c.hear_all-heard.ensures.step.listens c.hear_all-heard.ensures.step.rest.jobs c.hear_all-heard.ensures.step.rest.me
     c.hear_all-heard.ensures.inbox c.handle_all-handled.ensures.handles
-    c.handle_all-handled.ensures.worked c.handle_all-handled.ensures.looks
-    c.handle_all-handled.ensures.me c.watch-asked.ensures.timed
-    c.serve_sessions.ensures.makes c.send_all-sent.ensures.sent c.send_all-sent.ensures.held
+    c.handle_all-handled.ensures.rest.worked c.handle_all-handled.ensures.rest.looks
+    c.handle_all-handled.ensures.rest.me c.watch-asked.ensures.step.timed
+    c.post_sessions.ensures.makes c.send_all-sent.ensures.sent c.send_all-sent.ensures.held
     c.close.ensures.makes (turn_of c.turn_by.result) all
     (c.close.ensures.rest.jobs ∙ c.send_all-sent.ensures.rest.jobs
-    ∙ c.serve_sessions.ensures.rest.jobs ∙ c.watch-asked.ensures.rest.jobs) c.sound.ensures.kept counted
+    ∙ c.post_sessions.ensures.rest.jobs ∙ c.watch-asked.ensures.step.rest.jobs) c.sound.ensures.kept counted
     c.self.inside.node.handed c.close.new.self.handed)
   where
     all : is_stopped (turn_of c.turn_by.result) ≡ false → line c.send_all-sent.new.self.clock
@@ -63,27 +65,27 @@ returns-clause-polls g c =
 
     counted : IfSome (turn_of c.turn_by.result) (IsCounted c.hear_all-heard.result
         c.watch-asked.result (timed_of c.hear_all-heard.new.self)
-        (timed_of c.handle_all-handled.new.self) (timed_of c.serve_sessions.new.self)
+        (timed_of c.handle_all-handled.new.self) (timed_of c.post_sessions.new.self)
         (timed_of c.send_all-sent.new.self))
     counted = rw c.turn_by.ensures (turn-counted c.handle_all-handled.result
         c.hear_all-heard.result c.watch-asked.result c.send_all-sent.result
         (timed_of c.hear_all-heard.new.self)
-        (timed_of c.handle_all-handled.new.self) (timed_of c.serve_sessions.new.self)
+        (timed_of c.handle_all-handled.new.self) (timed_of c.post_sessions.new.self)
         (timed_of c.send_all-sent.new.self) c.handle_all-handled.ensures.count
         c.send_all-sent.ensures.count)
 
 pub returns-clause-busy : goal.returns-clause-busy
 returns-clause-busy g c =
     turn-busy c.handle_all-handled.result c.hear_all-heard.result c.watch-asked.result
-    c.send_all-sent.result _ _ _ _ c.hear_all-heard.ensures.listens.counts.held.busies.no_less
-    c.watch-asked.ensures.timed.link.counts.held.busies.no_less c.send_all-sent.ensures.busy
+    c.send_all-sent.result _ _ _ _ c.hear_all-heard.ensures.step.listens.counts.held.busies.no_less
+    c.watch-asked.ensures.step.timed.link.counts.held.busies.no_less c.send_all-sent.ensures.busy
     c.turn_by.result c.turn_by.ensures
 
 pub returns-clause-cause : goal.returns-clause-cause
 returns-clause-cause g c =
     turn-cause c.handle_all-handled.result c.hear_all-heard.result c.watch-asked.result
-    c.send_all-sent.result _ _ _ _ c.hear_all-heard.ensures.listens.counts.cause
-    c.watch-asked.ensures.timed.link.counts.cause c.send_all-sent.ensures.cause
+    c.send_all-sent.result _ _ _ _ c.hear_all-heard.ensures.step.listens.counts.cause
+    c.watch-asked.ensures.step.timed.link.counts.cause c.send_all-sent.ensures.cause
     c.turn_by.result c.turn_by.ensures
 
 pub returns-clause-goes_on : goal.returns-clause-goes_on
@@ -95,12 +97,12 @@ returns-clause-handed g c =
     let raised = ap (λ v. v.handed) c.raise_clock.ensures in
     let before = gives-same g.K.Continuation.given c.self.inside.node.handed
     c.hear_all-heard.new.self.handed c.args.k.now c.args.k.now
-    (c.hear_all-heard.ensures.handed ∙ c.finish_all.ensures.handed ∙ raised) refl in
+    (c.hear_all-heard.ensures.step.rest.handed ∙ c.finish_all.ensures.step.rest.handed ∙ raised) refl in
     let after = gives-same g.K.Continuation.given c.watch-asked.new.self.handed
     c.close.new.self.handed c.watch-asked.new.k c.watch-asked.new.k
     (c.close.ensures.rest.handed ∙ c.send_all-sent.ensures.rest.handed
-    ∙ c.serve_sessions.ensures.rest.handed)
+    ∙ c.post_sessions.ensures.rest.handed)
     refl in
     rw (← c.self.view_is) (gives-more g.K.Continuation.given _ _ _ _ _ _ before
-    (gives-more g.K.Continuation.given _ _ _ _ _ _ c.handle_all-handled.ensures.handed
-    (gives-more g.K.Continuation.given _ _ _ _ _ _ c.watch-asked.ensures.rest.handed after)))
+    (gives-more g.K.Continuation.given _ _ _ _ _ _ c.handle_all-handled.ensures.rest.handed
+    (gives-more g.K.Continuation.given _ _ _ _ _ _ c.watch-asked.ensures.step.rest.handed after)))

@@ -1,8 +1,8 @@
 use Rattle.std.proofs.Common.{◌++◌, ◌∷◌, [], ◌∙◌, take, refl, arith, length-append}
 use Rattle.rpc_outside.specs.Linking.{Carried}
-use Rattle.endpoint_loop.proofs.StandingLemmas.{goes-nowhere}
-use Rattle.endpoint_loop.proofs.TurningLemmas.{came-more, came-none, goes-further}
-use Rattle.endpoint_loop.proofs.TurningLemmas.{takes-more, takes-none}
+use Rattle.endpoint_loop.proofs.StandingLaw.{goes-nowhere}
+use Rattle.endpoint_loop.proofs.TurnLaw.{came-more, came-none, goes-further}
+use Rattle.endpoint_loop.proofs.TurnLaw.{takes-more, takes-none}
 use Rattle.endpoint_loop.proofs.endpoint.Endpoint.receive.Goals as goal
 
 pub datagrams-init : goal.datagrams-init
@@ -29,11 +29,11 @@ datagrams-preserved g c =
           c.in-Packet.peer c.in-Packet.len (omega (arith, i.count, c.datagrams-test.true)) i.comes
           (rw c.in-Packet.is at c.in_ok-recv.ensures.packet);
       takes = takes-more g.R.Recorder.log i.came d _ _ _ _ _ _ i.takes
-          c.deliver-delivery.ensures.makes c.deliver-delivery.ensures.leaves
-          c.deliver-delivery.ensures.handed;
+          c.deliver-delivery.ensures.call.makes c.deliver-delivery.ensures.call.leaves
+          c.deliver-delivery.ensures.call.handed;
       goes_on = goes-further g.R.Recorder.log
           g.V.Service g.W.Workers _ _ _ _ _ _ i.goes_on
-          c.deliver-delivery.ensures.goes_on;
+          c.deliver-delivery.ensures.call.goes_on;
       sent = c.in_ok-recv.ensures.sent ∙ i.sent;
       busies = c.in_ok-recv.ensures.busies ∙ i.busies;
       faults = c.in_ok-recv.ensures.cause ∙ i.faults;

@@ -1,7 +1,7 @@
 use Rattle.std.proofs.Common.{◌≡◌, List, length}
 use Rattle.rpc_outside.specs.Linking.{Carried}
-use Rattle.endpoint_loop.specs.Standing.{GoesOn}
-use Rattle.endpoint_loop.specs.Turning.{Came, TakesIn}
+use Rattle.endpoint_loop.specs.Stands.{GoesOn}
+use Rattle.endpoint_loop.specs.Turns.{Came, TakesIn}
 use Rattle.endpoint_loop.proofs.endpoint.Endpoint.receive.Given as goal
 
 abbrev pub invariant-datagrams : goal.invariant-datagrams

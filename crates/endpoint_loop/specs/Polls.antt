@@ -1,0 +1,128 @@
+-- A poll of an endpoint.
+use Rattle.std.specs.Prelude.{count_by, ◌≡◌, ℕ, ◌+◌, ◌≤◌, ◌⊎◌, ◌||◌, if◌then◌else◌, Bool, true}
+use Rattle.std.specs.Prelude.{false, Option, Some, None, option_map, IfSome, List, ◌++◌, length}
+use Rattle.std.specs.Prelude.{map, Result, Ok, Err}
+use Rattle.endpoint_node.specs.Counts.{is_handled, is_sent}
+use Rattle.endpoint_node.specs.Links.{left_one, HeldBack, Troubles, unsent_in, troubles_of}
+use Rattle.std.specs.List.{filter}
+use Rattle.client_core.specs.Shown.{done_fact}
+use Rattle.client_core.specs.declared.outcome.Done.{Done}
+use Rattle.rpc_base.specs.declared.fact.Fact.{Fact}
+use Rattle.rpc_laws.specs.declared.tables.Timed.{Timed}
+use Rattle.rpc_laws.specs.Pacing.{line}
+use Rattle.rpc_laws.specs.PollOrder.{PollBy, SendsAll, SendsSome}
+use Rattle.rpc_laws.specs.Queues.{replies}
+use Rattle.rpc_laws.specs.Service.{Answers, Serving, served_after_all, rules_of}
+use Rattle.rpc_laws.specs.Steps.{Rel}
+use Rattle.rpc_outside.specs.Linking.{Carried}
+use Rattle.rpc_outside.specs.Recording.{Grew, Log}
+use Rattle.rpc_outside.specs.Served.{Served}
+use Rattle.worker_board.specs.declared.Parcel.{Parcel}
+use Rattle.endpoint_node.specs.Given.{Gave}
+use Rattle.endpoint_node.specs.declared.node.poll.control.Listening.{Listening}
+use Rattle.endpoint_loop.specs.declared.endpoint.poll.Turn.{Turn}
+use Rattle.endpoint_node.specs.declared.node.poll.timers.retries.Asking.{Asking}
+use Rattle.endpoint_node.specs.declared.node.poll.sends.Sending.{Sending}
+use Rattle.endpoint_node.specs.Jobs.{FinishesThese, NoneBack, jobs_left, staff_of}
+use Rattle.endpoint_node.specs.Notes.{is_end, sent_of}
+use Rattle.endpoint_loop.specs.Endpoints.{Crew, IsStaffed, Running, told, crew_of}
+use Rattle.endpoint_node.specs.Requests.{job_named}
+use Rattle.rpc_outside.specs.declared.link.Link as Link
+use Rattle.rpc_outside.specs.declared.service.Service as Service
+use Rattle.worker_crew.specs.declared.workers.Workers as Workers
+
+-- the jobs of these parcels are finished; then no more came back, or as many replies are queued as
+-- the ring is long
+pub record FinishesBack (answer : ℕ → List ℕ → List ℕ) (parcels : List Parcel) (before now : Crew)
+    (s : Timed) (x : List Fact) (t : Timed) : Type 0 where
+  pub finishes : FinishesThese answer parcels s x t
+  pub over : (t.lists.room ≤ replies t.lists.queued)
+      ⊎ NoneBack now.worked (length t.lists.jobs.out) before.looks now.looks
+
+-- what a poll told, where the link didn't fail
+abbrev pub turn_of : {E : Type 0} → Result Turn E → Option Turn
+turn_of (Ok turn) = Some turn
+turn_of (Err fault) = None
+
+-- what it tells by what its steps handed to the link: the answers of control packets, the requests of
+-- its sessions, and packets of calls. Where one met a fault it tells nothing
+abbrev pub turn_told : {E : Type 0} → (handled : ℕ) → Listening → Asking → Result Sending E
+    → Option Turn
+turn_told handled heard asked (Ok sending) =
+    if heard.failed || asked.failed then None
+    else Some (record {
+      handled = heard.heard + handled;
+      sent = heard.sent + asked.sent + sending.sent;
+      busy = sending.busy;
+    })
+turn_told handled heard asked (Err fault) = None
+
+-- whether the link stopped the sending: it was busy, or failed
+abbrev pub is_stopped : Option Turn → Bool
+is_stopped (Some turn) = turn.busy
+is_stopped None = true
+
+-- packets are sent until none is ready, unless the link stopped it
+abbrev pub SendsUntil : (stopped : Bool) → Rel
+SendsUntil true = SendsSome
+SendsUntil false = SendsAll
+
+-- how many packets the link didn't take: each that is Unsent, and the first of the line, where one
+-- is left at the end
+abbrev pub held_in : List Fact → Timed → ℕ
+held_in x t = unsent_in x + left_one (line t.clock t.lists.queued)
+
+-- what a poll does where the workers have exactly the jobs of the node, as they do after it: these
+-- parcels came back, the first that were worked where that is told, and those were given
+pub record PollsWith (v : Serving) (answer : ℕ → List ℕ → List ℕ) (stopped : Bool) (now : ℕ)
+    (before later : Crew) (s : Timed) (x : List Fact) (t : Timed) : Type 0 where
+  pub parcels : List Parcel
+  pub gave : List Parcel
+  pub first : before.worked ≡ option_map (λ ps. parcels ++ ps) later.worked
+  pub waits : later.staff.waiting ≡ option_map (λ ps. ps ++ gave) before.staff.waiting
+  pub jobs : t.lists.jobs.out ≡ jobs_left parcels s.lists.jobs.out ++ map job_named gave
+  pub staffed : IsStaffed answer later.staff t
+  pub polls : PollBy (FinishesBack answer parcels before later) (SendsUntil stopped) v.mode
+      now (told before.staff.out s) x (told later.staff.out t)
+
+-- a turn tells how many packets were handled, and how many were sent
+pub record CountsTurn (x : List Fact) (turn : Turn) : Type 0 where
+  pub handled : turn.handled ≡ count_by (λ f. is_handled f.event) x
+  pub sent : turn.sent ≡ count_by (λ f. is_sent f.event) x
+
+-- what a link tells of what it was handed: what it sent, where it tells that, and its counts
+pub record LinkTells : Type 0 where
+  pub sent : Option (List Carried)
+  pub troubles : Troubles
+
+abbrev pub wire_of : {L : Type 0} → Link.Ghosts L → L → LinkTells
+wire_of l link = record { sent = l.sent link; troubles = troubles_of l link }
+
+-- what a poll tells besides: each handler that ran has its answer, the calls that the continuation
+-- was given are those whose ends were noted, in order, and the turn counts its facts. The link,
+-- where it tells what it sent, sent exactly the datagrams of the Sent facts, and failed or was busy
+-- for each packet that it didn't take
+pub record TellsOfPoll {K : Type 0} (given : K → List Done → Type 0) (v : Serving)
+    (stands then_stands : Served → Type 0) (told : Option Turn) (link then_link : LinkTells)
+    (me : ℕ) (x : List Fact) (t : Timed) (from to : K) : Type 0 where
+  pub answers : (served : Served) → stands served
+      → Answers v served x × then_stands (served_after_all v.mode served x)
+  pub dones : List Done
+  pub ends : filter is_end x ≡ map (done_fact me) dones
+  pub gave : Gave given from to dones
+  pub counts : IfSome told (CountsTurn x)
+  pub took : then_link.sent ≡ option_map (λ ds. ds ++ sent_of x) link.sent
+  pub held : HeldBack (held_in x t) link.troubles then_link.troubles
+
+-- the recorder grew by the facts of a poll
+pub record MakesPoll {R K V W : Type 0} (log : R → Log) (given : K → List Done → Type 0)
+    (service : Service.Ghosts V) (workers : Workers.Ghosts W) (told : Option Turn) (now : ℕ)
+    (link then_link : LinkTells) (old new : Running V W) (before later : R) (from to : K)
+    : Type 0 where
+  pub noted : List Fact
+  pub grew : Grew (log before) (log later) noted
+  pub does : IsStaffed workers.answer (staff_of workers old.workers) old.timed
+      → PollsWith (rules_of service) workers.answer (is_stopped told) now
+      (crew_of workers old.workers) (crew_of workers new.workers) old.timed noted new.timed
+      × TellsOfPoll given (rules_of service) (service.stands old.service)
+      (service.stands new.service) told link then_link old.timed.lists.me noted new.timed from to

@@ -1,0 +1,109 @@
+//! A poll, step by step.
+ghost use Rattle.endpoint_node.specs.Handed.{GivesBackTo};
+ghost use Rattle.std.specs.Prelude.{◌≡◌, ◌≤◌, ◌*◌, true, IfOk};
+ghost use Rattle.endpoint_loop.specs.Polls.{MakesPoll, turn_of, turn_told, wire_of};
+ghost use Rattle.endpoint_loop.specs.Stands.{GoesOn};
+ghost use Rattle.rpc_laws.specs.Deliveries.{inbox_room};
+ghost use Rattle.rpc_outside.specs.Faults.{HasCause, HasRisen};
+ghost use Rattle.rpc_outside.specs.Linking.{NoneComes};
+
+use crate::endpoint::Endpoint;
+use endpoint_node::{Asking, Continuation, Listening, Sending};
+use rpc_base::{MOST_RING, SESSION_NUMBERS};
+use rpc_outside::{Failed, Link, Recorder, Service};
+use std::error::Error;
+use std::fmt;
+use worker_crew::Workers;
+
+/// A fault of the link.
+#[derive(Clone, Copy, Debug, PartialEq, Eq)]
+pub struct LinkFault;
+
+impl fmt::Display for LinkFault {
+    fn fmt<W: fmt::Write>(&self, f: &mut fmt::Formatter<W>) -> fmt::Result {
+        f.write_str("the link failed")
+    }
+}
+
+impl Error for LinkFault {}
+
+/// What a poll did.
+#[derive(Clone, Copy, Debug, PartialEq, Eq)]
+pub struct Turn {
+    /// How many packets were handled: those of session control, and those of calls that were
+    /// taken, answered again or dropped.
+    pub handled: u32,
+    /// How many packets were sent, those of session control among them.
+    pub sent: u32,
+    /// Whether packets that may be sent are left, since the link was busy.
+    pub busy: bool,
+}
+
+// What a poll tells, which handled so many packets of calls, by what its steps handed to the link:
+// the answers of control packets, the requests of its sessions, and packets of calls.
+fn turn_by(
+    handled: u32,
+    heard: Listening,
+    asked: Asking,
+    sent: Result<Sending, Failed>,
+) -> Result<Turn, LinkFault>
+    requires handled { handled ≤ MOST_RING }
+    requires heard { heard.heard ≤ inbox_room }
+    requires answers { heard.sent ≤ heard.heard }
+    requires asked { asked.sent ≤ SESSION_NUMBERS }
+    requires sent { IfOk sent (λ s. s.sent ≤ 2 * MOST_RING) }
+    ensures { turn_of result ≡ turn_told handled heard asked sent }
+{
+    if heard.failed || asked.failed {
+        return Err(LinkFault);
+    }
+    match sent {
+        Ok(sending) => Ok(Turn {
+            handled: heard.heard + handled,
+            sent: heard.sent + asked.sent + sending.sent,
+            busy: sending.busy,
+        }),
+        Err(_) => Err(LinkFault),
+    }
+}
+
+impl<V: Service, W: Workers> Endpoint<V, W> {
+    /// Polls the endpoint at the moment `now`, in microseconds: finishes the jobs that workers
+    /// finished, handles the control packets of the inbox and the packets of the receive ring,
+    /// looks at the timers, begins and posts what its sessions may, sends what is queued, and ends
+    /// with a Polled. Its clock doesn't fall. Calls that end go to `k`. A busy link stops the
+    /// sending of what is queued. So does a fault of the link; the packet that met it stays in front
+    /// of the queue. A control packet that the link doesn't take is gone. `LinkFault` comes at the
+    /// end of the poll, exactly where a fault of the link came in it.
+    pub fn poll<L: Link, K: Continuation, R: Recorder>(
+        &mut self,
+        now: u64,
+        link: &mut L,
+        k: &mut K,
+        rec: &mut R,
+    ) -> Result<Turn, LinkFault>
+        ensures polls { MakesPoll R.log K.given V.Service W.Workers (turn_of result) now
+            (wire_of L.Link link.old) (wire_of L.Link link.new) self.old self.new rec.old rec.new
+            k.old k.new }
+        ensures goes_on { GoesOn R.log V.Service W.Workers self.old self.new rec.old rec.new }
+        ensures busy { IfOk result (λ turn. turn.busy ≡ true →
+            HasRisen (L.busies link.old) (L.busies link.new)) }
+        ensures team { W.team self.new.workers ≡ W.team self.old.workers }
+        ensures lists { NoneComes L.waiting L.received link.old link.new }
+        ensures cause { HasCause (L.faults link.old) (L.faults link.new) result }
+        ensures handed { GivesBackTo K.given self.old.handed self.new.handed k.old k.new }
+    {
+        self.node.raise_clock(now);
+        self.node.finish_all(&mut self.workers, rec);
+        let heard = self.node.hear_all(link, rec);
+        let handled = self
+            .node
+            .handle_all(self.alloc, &mut self.service, &mut self.workers, k, rec);
+        let asked = self.node.watch(link, k, rec);
+        self.node.post_sessions(rec);
+        let sent = self.node.send_all(link, rec);
+        self.node.close(rec);
+        self.node.sound();
+        turn_by(handled, heard, asked, sent)
+    }
+}

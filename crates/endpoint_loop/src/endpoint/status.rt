@@ -1,0 +1,69 @@
+//! What an endpoint tells of itself.
+ghost use Rattle.std.specs.Prelude.{◌≡◌, false, ◌≤◌, ◌↔◌, None, IfErr, IsSome, IsTrue, OnOk};
+ghost use Rattle.std.specs.List.{find};
+ghost use Rattle.endpoint_node.specs.Status.{HasNoTimers, IsQuiet, free_told, pending_told};
+ghost use Rattle.rpc_laws.specs.Groups.{pair_refusal};
+ghost use Rattle.rpc_laws.specs.Sessions.{is_client};
+ghost use Rattle.session_mgmt.specs.Refusals.{refused};
+
+use crate::endpoint::Endpoint;
+use rpc_base::{MOST_CREDITS, SessionNo};
+use rpc_laws::Counted;
+use rpc_outside::Service;
+use session_mgmt::ConnectError;
+use worker_crew::Workers;
+
+impl<V: Service, W: Workers> Endpoint<V, W> {
+    /// Whether there are a number of either kind and room for a session with so many credits, 1 to
+    /// 256. `NumbersSpent` comes exactly where 65,535 numbers of a kind were used, and then
+    /// `RingFull` exactly where the credits of the live sessions and these are more than the ring
+    /// is long. It is never `NoMemory`.
+    pub fn pair_room(&self, credits: u16) -> Result<(), ConnectError>
+        requires some { 1 ≤ credits }
+        requires most { credits ≤ MOST_CREDITS }
+        ensures accepted { OnOk result (pair_refusal credits self.now.timed.lists ≡ None) }
+        ensures refused { IfErr result
+            (λ why. refused why ≡ pair_refusal credits self.now.timed.lists) }
+        ensures never_memory { IfErr result (λ why. IsSome (refused why)) }
+    {
+        self.node.pair_room(credits)
+    }
+
+    /// The free credits of a client session. `None` comes exactly where it is neither Connected,
+    /// Spent nor Closing.
+    pub fn free_credits(&self, session: SessionNo) -> Option<u16>
+        ensures { result ≡ free_told (find (is_client session) self.now.timed.lists.clients) }
+    {
+        self.node.free_credits(session)
+    }
+
+    /// How many calls of a client session are active or wait: none where its number was never used.
+    pub fn pending(&self, session: SessionNo) -> u64
+        ensures { result ≡ pending_told (find (is_client session) self.now.timed.lists.clients) }
+    {
+        self.node.pending(session)
+    }
+
+    /// How many handlers ran, how many jobs were given, and how many datagrams were dropped and
+    /// overflowed, since it was made. Each count stops at 2^64 - 1.
+    pub fn counts(&self) -> Counted
+        ensures { result ≡ self.now.timed.lists.counts }
+    {
+        self.node.counts()
+    }
+
+    /// Whether a timer may run: where a client session has calls or a request of its own, or a
+    /// packet is queued. Where none does a poll without datagrams does nothing, at whatever moment.
+    pub fn has_timers(&self) -> bool
+        ensures { result ≡ false → HasNoTimers self.now.timed.lists }
+    {
+        self.node.has_timers()
+    }
+
+    /// Whether its rings and its inbox are empty, no packet is queued, and no job is out.
+    pub fn quiet(&self) -> bool
+        ensures { IsTrue result ↔ IsQuiet self.now.timed.lists }
+    {
+        self.node.quiet()
+    }
+}

@@ -1,0 +1,553 @@
+-- What a row of the control table leaves as it was, and what the packet is that answers it.
+use Rattle.std.proofs.Common.{◌≡◌, ℕ, ◌+◌, ◌<◌, ◌≤◌, Bool, true, false, not, ◌||◌, cond, Option}
+use Rattle.std.proofs.Common.{Some, None, List, [], ◌∷◌, ◌++◌, inl, inr, refl, sym, ap, ◌∙◌, arith}
+use Rattle.std.specs.Prelude.{◌==◌, IfSome, flat_map, nat_le}
+use Rattle.std.specs.List.{AllByRecursion, find}
+use Rattle.std.proofs.lemmas.Bool.{eq-eqb, eqb-true, leb-false}
+use Rattle.packet_header.specs.Header.{ControlInRange, IsServer}
+use Rattle.packet_header.specs.Ranges.{Within, sessions}
+use Rattle.packet_header.specs.declared.packet.ControlHeader.{ControlHeader}
+use Rattle.packet_header.specs.declared.packet.ControlKind.{ControlKind}
+use Rattle.packet_header.specs.declared.packet.ControlKind.TheVariants.{ConnectRequest}
+use Rattle.packet_header.specs.declared.packet.ControlKind.TheVariants.{ConnectReply}
+use Rattle.packet_header.specs.declared.packet.ControlKind.TheVariants.{DisconnectRequest}
+use Rattle.packet_header.specs.declared.packet.ControlKind.TheVariants.{DisconnectReply}
+use Rattle.rpc_base.specs.Tables.{at_first}
+use Rattle.rpc_base.specs.declared.event.Event.{Event}
+use Rattle.rpc_base.specs.declared.event.Event.TheVariants.{Accepted, ClosedHeard, Declined, Ended}
+use Rattle.rpc_base.specs.declared.event.Event.TheVariants.{Connected as IsConnected, FailedNoRoom}
+use Rattle.rpc_base.specs.declared.event.Event.TheVariants.{Flushed, Starved}
+use Rattle.rpc_base.specs.declared.fact.Fact.{Fact}
+use Rattle.rpc_base.specs.declared.limits.TheConstants.{SESSION_NUMBERS}
+use Rattle.rpc_base.specs.declared.owner.Owner.{Owner}
+use Rattle.rpc_base.specs.declared.state.SessionState.{SessionState}
+use Rattle.rpc_base.specs.declared.state.SessionState.TheVariants.{Broken, Closed, Closing}
+use Rattle.rpc_base.specs.declared.state.SessionState.TheVariants.{Connected, Connecting, Failed}
+use Rattle.rpc_base.specs.declared.state.SessionState.TheVariants.{Spent, Unknown}
+use Rattle.rpc_base.proofs.FirstLemmas.{all-left, all-push, found-holds}
+use Rattle.rpc_laws.specs.declared.rows.ControlRow.{ControlRow}
+use Rattle.rpc_laws.specs.declared.rows.ControlRow.TheVariants.{Accepts, Closes, Confirms, Connects}
+use Rattle.rpc_laws.specs.declared.rows.ControlRow.TheVariants.{Declines, Disowns, Ends, Fails}
+use Rattle.rpc_laws.specs.declared.rows.ControlRow.TheVariants.{Ignores, Misses, Starves}
+use Rattle.rpc_laws.specs.declared.tables.Arrival.{Arrival}
+use Rattle.rpc_laws.specs.declared.tables.Client.{Client}
+use Rattle.rpc_laws.specs.declared.tables.Lists.{Lists}
+use Rattle.rpc_laws.specs.declared.tables.Queued.{Queued}
+use Rattle.rpc_laws.specs.declared.tables.Server.{Server}
+use Rattle.rpc_laws.specs.ControlTable.{closed_row, confirm_row, control_facts, control_reply}
+use Rattle.rpc_laws.specs.ControlTable.{control_row, control_row_of, end_row, is_end_of, joined_row}
+use Rattle.rpc_laws.specs.ControlTable.{named_end, opened_row, over_row, refused_row, reply_row}
+use Rattle.rpc_laws.specs.ControlTable.{session_end, session_flushes}
+use Rattle.rpc_laws.specs.Facts.{plain}
+use Rattle.rpc_laws.specs.Groups.{has_no_room, servers_spent}
+use Rattle.rpc_laws.specs.NodeLists.{after, after_all}
+use Rattle.rpc_laws.specs.Requests.{in_slot_of, is_server, server_end}
+use Rattle.rpc_laws.specs.ServerTable.{flushes}
+use Rattle.rpc_laws.specs.Sessions.{clients_told, is_client, is_request_of, requests}
+use Rattle.rpc_laws.proofs.RunLemmas.{after_all-append}
+use Rattle.node_laws.proofs.FlushLemmas.{no-more-same, slots-flushed}
+use Rattle.node_laws.proofs.ControlLemmas.{unless-disowns}
+use Rattle.rpc_outside.specs.declared.service.Mode.{Mode}
+use Rattle.endpoint_node.specs.Fits.{HasCredit, IsCredit}
+use Rattle.endpoint_node.specs.Requests.{AllServed, SlotsServed}
+use Rattle.endpoint_node.proofs.NoteStill.{AllStill, still-append}
+use Rattle.endpoint_node.proofs.NoteCounts.{flushes-none}
+
+-- the inbox doesn't matter
+module _ (lacks : Bool) (peer : ℕ) (h : ControlHeader) (s : Lists) (inbox : List Arrival) where
+  row-by : (kind : ControlKind) → control_row_of kind lacks peer h (record s { inbox = inbox })
+      ≡ control_row_of kind lacks peer h s
+  row-by ConnectRequest = refl
+  row-by ConnectReply = refl
+  row-by DisconnectRequest = refl
+  row-by DisconnectReply = refl
+
+  pub row-same : control_row lacks peer h (record s { inbox = inbox })
+      ≡ control_row lacks peer h s
+  row-same = row-by h.kind
+
+  pub facts-same : (row : ControlRow) → control_facts (record s { inbox = inbox }) peer h row
+      ≡ control_facts s peer h row
+  facts-same Ignores = refl
+  facts-same (Confirms t credits) = refl
+  facts-same Declines = refl
+  facts-same Starves = refl
+  facts-same (Accepts t) = refl
+  facts-same Ends = refl
+  facts-same Misses = refl
+  facts-same (Connects t) = refl
+  facts-same Disowns = refl
+  facts-same Fails = refl
+  facts-same Closes = refl
+
+-- each slot of a session
+abbrev slots : List ℕ
+slots = 0 ∷ 1 ∷ 2 ∷ 3 ∷ 4 ∷ 5 ∷ 6 ∷ 7 ∷ []
+
+-- an event that no row notes
+pub record IsSilent (q : Event → Bool) : Type 0 where
+  pub flushed : (o : Owner) (k : ℕ) → q (Flushed o k) ≡ false
+  pub ended : (t : ℕ) → q (Ended t) ≡ false
+  pub declined : (peer client credits : ℕ) → q (Declined peer client credits) ≡ false
+  pub starved : (peer client credits : ℕ) → q (Starved peer client credits) ≡ false
+  pub accepted : (t peer client credits : ℕ) → q (Accepted t peer client credits) ≡ false
+  pub connected : (client t : ℕ) → q (IsConnected client t) ≡ false
+  pub failed : (client : ℕ) → q (FailedNoRoom client) ≡ false
+  pub closed : (client : ℕ) → q (ClosedHeard client) ≡ false
+
+module _ (q : Event → Bool) (silent : IsSilent q) where
+  slots-still : (me : ℕ) (queued : List Queued) (v : Server) (ns : List ℕ)
+      → AllStill q (flat_map (λ n. flushes me queued v.way.number (find (in_slot_of n) v.slots)) ns)
+  slots-still me queued v [] = tt
+  slots-still me queued v (n ∷ ns) =
+      still-append q (flushes me queued v.way.number (find (in_slot_of n) v.slots))
+      (flat_map (λ m. flushes me queued v.way.number (find (in_slot_of m) v.slots)) ns)
+      (flushes-none q silent.flushed me queued v.way.number (find (in_slot_of n) v.slots))
+      (slots-still me queued v ns)
+
+  end-still : (me : ℕ) (queued : List Queued) (o : Option Server)
+      → AllStill q (session_end me queued o)
+  end-still me queued None = tt
+  end-still me queued (Some v) =
+      still-append q (session_flushes me queued v) (plain me (Ended v.way.number) ∷ [])
+      (slots-still me queued v slots) (silent.ended v.way.number, tt)
+
+  pub row-still : (s : Lists) (peer : ℕ) (h : ControlHeader) (row : ControlRow)
+      → AllStill q (control_facts s peer h row)
+  row-still s peer h Ignores = tt
+  row-still s peer h (Confirms t credits) = tt
+  row-still s peer h Declines = (silent.declined peer h.client h.credits, tt)
+  row-still s peer h Starves = (silent.starved peer h.client h.credits, tt)
+  row-still s peer h (Accepts t) = (silent.accepted t peer h.client h.credits, tt)
+  row-still s peer h Ends = end-still s.me s.queued (named_end peer h.client h.server s.servers)
+  row-still s peer h Misses = tt
+  row-still s peer h (Connects t) = (silent.connected h.client t, tt)
+  row-still s peer h Disowns = tt
+  row-still s peer h Fails = (silent.failed h.client, tt)
+  row-still s peer h Closes = (silent.closed h.client, tt)
+
+-- the receive ring stays, and so do the requests of the server sessions that are left
+pub record StaysBut (s t : Lists) : Type 0 where
+  pub ring : t.ring ≡ s.ring
+  pub served : (mode : ℕ → Mode) → AllServed mode s.servers → AllServed mode t.servers
+
+end-stays : (clock : ℕ) (s : Lists) (me : ℕ) (o : Option Server)
+    → StaysBut s (after_all clock s (session_end me s.queued o))
+end-stays clock s me None = record { ring = refl; served = λ mode all. all }
+end-stays clock s me (Some v) =
+    let all = slots-flushed clock s me s.queued v slots (no-more-same s.queued) in
+    let end : Fact = plain me (Ended v.way.number) in
+    let same : after_all clock s (session_flushes me s.queued v ++ end ∷ [])
+    ≡ after clock (record s { queued = all.flushes.queue }) end =
+    after_all-append clock s (session_flushes me s.queued v) (end ∷ [])
+    ∙ ap (λ (l : Lists). after clock l end) all.flushes.same in
+    record {
+      ring = ap (λ (l : Lists). l.ring) same;
+      served = λ mode each. rw (ap (λ (l : Lists). l.servers) same)
+          (all-left (is_server v.way.number) (SlotsServed mode) s.servers each);
+    }
+
+pub row-stays : (clock : ℕ) (s : Lists) (peer : ℕ) (h : ControlHeader) (row : ControlRow)
+    → StaysBut s (after_all clock s (control_facts s peer h row))
+row-stays clock s peer h Ignores = record { ring = refl; served = λ mode all. all }
+row-stays clock s peer h (Confirms t credits) = record { ring = refl; served = λ mode all. all }
+row-stays clock s peer h Declines = record { ring = refl; served = λ mode all. all }
+row-stays clock s peer h Starves = record { ring = refl; served = λ mode all. all }
+row-stays clock s peer h (Accepts t) = record {
+  ring = refl;
+  served = λ mode all. all-push (SlotsServed mode) s.servers (server_end t peer h.client h.credits)
+      all tt;
+}
+row-stays clock s peer h Ends =
+    end-stays clock s s.me (named_end peer h.client h.server s.servers)
+row-stays clock s peer h Misses = record { ring = refl; served = λ mode all. all }
+row-stays clock s peer h (Connects t) = record { ring = refl; served = λ mode all. all }
+row-stays clock s peer h Disowns = record { ring = refl; served = λ mode all. all }
+row-stays clock s peer h Fails = record { ring = refl; served = λ mode all. all }
+row-stays clock s peer h Closes = record { ring = refl; served = λ mode all. all }
+
+-- what the fields of an answer are taken from is in range
+abbrev RowInRange : ControlHeader → ControlRow → Type 0
+RowInRange h (Confirms t credits) = (t < SESSION_NUMBERS) × IsCredit credits
+RowInRange h (Accepts t) = (t < SESSION_NUMBERS) × IsCredit h.credits
+RowInRange h Declines = IsCredit h.credits
+RowInRange h Ends = IsServer true h.server
+RowInRange h Misses = IsServer true h.server
+RowInRange h Disowns = IsServer true h.server
+RowInRange h _ = Unit {0}
+
+some-same : {A : Type 0} (a b : A) → Some a ≡ Some b → a ≡ b
+some-same a b e = cc
+
+is-session : (t : ℕ) → t < SESSION_NUMBERS → Within sessions t
+is-session t below = (omega arith, omega (arith, below))
+
+reply-in-range : (h r : ControlHeader) (row : ControlRow) → Within sessions h.client
+    → RowInRange h row → Some r ≡ control_reply h row → ControlInRange r
+reply-in-range h r Ignores client range e = cc
+reply-in-range h r (Confirms t credits) client range e = rw (some-same r _ e) (record {
+  client = client;
+  server = is-session t range.0;
+  credits = range.1;
+  status = inl refl;
+})
+reply-in-range h r Declines client range e = rw (some-same r _ e) (record {
+  client = client;
+  server = tt;
+  credits = range;
+  status = inr refl;
+})
+reply-in-range h r Starves client range e = cc
+reply-in-range h r (Accepts t) client range e = rw (some-same r _ e) (record {
+  client = client;
+  server = is-session t range.0;
+  credits = range.1;
+  status = inl refl;
+})
+reply-in-range h r Ends client range e = rw (some-same r _ e) (record {
+  client = client;
+  server = range;
+  credits = (omega arith, omega arith);
+  status = inl refl;
+})
+reply-in-range h r Misses client range e = rw (some-same r _ e) (record {
+  client = client;
+  server = range;
+  credits = (omega arith, omega arith);
+  status = inr refl;
+})
+reply-in-range h r (Connects t) client range e = cc
+reply-in-range h r Disowns client range e = rw (some-same r _ e) (record {
+  client = client;
+  server = range;
+  credits = (omega arith, omega arith);
+  status = inl refl;
+})
+reply-in-range h r Fails client range e = cc
+reply-in-range h r Closes client range e = cc
+
+-- the number and the credits of a server session are in range
+abbrev IsNamed : Server → Type 0
+IsNamed v = (v.way.number < SESSION_NUMBERS) × IsCredit v.credits
+
+new-in-range : (h : ControlHeader) (n : ℕ) (full spent lacks : Bool)
+    → nat_le SESSION_NUMBERS n ≡ spent → IsCredit h.credits
+    → RowInRange h (cond (full || spent) Declines (cond lacks Starves (Accepts n)))
+new-in-range h n true spent lacks e range = range
+new-in-range h n false true lacks e range = range
+new-in-range h n false false true e range = tt
+new-in-range h n false false false e range = (leb-false SESSION_NUMBERS n e, range)
+
+confirm-in-range : (lacks : Bool) (h : ControlHeader) (s : Lists) (o : Option Server)
+    → IfSome o IsNamed → IsCredit h.credits → RowInRange h (confirm_row lacks h s o)
+confirm-in-range lacks h s None named range =
+    new-in-range h s.server_numbers (has_no_room h.credits s) (servers_spent s) lacks refl range
+confirm-in-range lacks h s (Some v) named range = named
+
+end-in-range : (h : ControlHeader) (o : Option Server) → IsServer true h.server
+    → RowInRange h (end_row o)
+end-in-range h None range = range
+end-in-range h (Some v) range = range
+
+-- a server session that a reply names
+is-server : (b : Bool) (t : ℕ) → IsServer b (Some t) → IsServer true (Some t)
+is-server true t range = range
+is-server false t range = absurd range
+
+unless-in-range : (h : ControlHeader) (b : Bool) → IsServer true h.server
+    → RowInRange h (cond b Ignores Disowns)
+unless-in-range h true range = tt
+unless-in-range h false range = range
+
+connects-in-range : (h : ControlHeader) (b : Bool) (t : ℕ)
+    → RowInRange h (cond b (Connects t) Ignores)
+connects-in-range h true t = tt
+connects-in-range h false t = tt
+
+joined-in-range : (h : ControlHeader) (state : SessionState) (limit other t credits : ℕ)
+    → IsServer true h.server → RowInRange h (joined_row state limit other t credits)
+joined-in-range h Connecting limit other t credits range =
+    connects-in-range h (credits == limit) t
+joined-in-range h Connected limit other t credits range = unless-in-range h (other == t) range
+joined-in-range h Spent limit other t credits range = unless-in-range h (other == t) range
+joined-in-range h Closing limit other t credits range = unless-in-range h (other == t) range
+joined-in-range h Unknown limit other t credits range = range
+joined-in-range h Closed limit other t credits range = range
+joined-in-range h Failed limit other t credits range = range
+joined-in-range h Broken limit other t credits range = range
+
+refused-in-range : (h : ControlHeader) (state : SessionState) → RowInRange h (refused_row state)
+refused-in-range h Connecting = tt
+refused-in-range h Unknown = tt
+refused-in-range h Connected = tt
+refused-in-range h Closing = tt
+refused-in-range h Closed = tt
+refused-in-range h Failed = tt
+refused-in-range h Broken = tt
+refused-in-range h Spent = tt
+
+reply-row-in-range : (h : ControlHeader) (b : Bool) (server : Option ℕ) (x : Client)
+    → h.server ≡ server → IsServer b server → RowInRange h (reply_row server h.credits x)
+reply-row-in-range h b None x e range = refused-in-range h x.state
+reply-row-in-range h b (Some t) x e range =
+    joined-in-range h x.state x.limit x.way.other t h.credits (rw e (is-server b t range))
+
+closes-in-range : (h : ControlHeader) (b : Bool) → RowInRange h (cond b Closes Ignores)
+closes-in-range h true = tt
+closes-in-range h false = tt
+
+over-in-range : (h : ControlHeader) (state : SessionState) (other : ℕ) (o : Option ℕ)
+    → RowInRange h (over_row state other o)
+over-in-range h Closing other (Some t) = closes-in-range h (other == t)
+over-in-range h Closing other None = tt
+over-in-range h Unknown other o = tt
+over-in-range h Connecting other o = tt
+over-in-range h Connected other o = tt
+over-in-range h Closed other o = tt
+over-in-range h Failed other o = tt
+over-in-range h Broken other o = tt
+over-in-range h Spent other o = tt
+
+opened-in-range : (h : ControlHeader) (row : Client → ControlRow) (peer : ℕ) (o : Option Client)
+    → ((x : Client) → RowInRange h (row x)) → RowInRange h (opened_row row peer o)
+opened-in-range h row peer None each = tt
+opened-in-range h row peer (Some x) each = by (not (x.way.peer == peer))
+  where
+    by : (b : Bool) → RowInRange h (cond b Ignores (row x))
+    by true = tt
+    by false = each x
+
+-- each kind of packet
+abbrev HasRange : ControlKind → ControlHeader → Type 0
+HasRange ConnectRequest h = IsCredit h.credits
+HasRange ConnectReply h = IsServer (not (h.status == 1)) h.server
+HasRange DisconnectRequest h = IsServer true h.server
+HasRange DisconnectReply h = Unit {0}
+
+has-range : (kind : ControlKind) (h : ControlHeader) → h.kind ≡ kind → ControlInRange h
+    → HasRange kind h
+has-range ConnectRequest h e range = let own = rw e at range.credits in own
+has-range ConnectReply h e range = let own = rw e at range.server in own
+has-range DisconnectRequest h e range = let own = rw e at range.server in own
+has-range DisconnectReply h e range = tt
+
+found-if : (p : Server → Bool) (vs : List Server) → AllByRecursion IsNamed vs
+    → IfSome (find p vs) IsNamed
+found-if p vs all = by (find p vs) refl
+  where
+    by : (o : Option Server) → find p vs ≡ o → IfSome o IsNamed
+    by None e = tt
+    by (Some v) e = found-holds p IsNamed vs v all e
+
+module _ (lacks : Bool) (peer : ℕ) (h : ControlHeader) (s : Lists)
+    (all : AllByRecursion IsNamed s.servers) where
+  kind-in-range : (kind : ControlKind) → HasRange kind h
+      → RowInRange h (control_row_of kind lacks peer h s)
+  kind-in-range ConnectRequest range =
+      confirm-in-range lacks h s (find (is_end_of peer h.client) s.servers)
+      (found-if (is_end_of peer h.client) s.servers all) range
+  kind-in-range ConnectReply range =
+      opened-in-range h (reply_row h.server h.credits) peer (find (is_client h.client) s.clients)
+      (λ x. reply-row-in-range h (not (h.status == 1)) h.server x refl range)
+  kind-in-range DisconnectRequest range =
+      end-in-range h (named_end peer h.client h.server s.servers) range
+  kind-in-range DisconnectReply range =
+      opened-in-range h (closed_row h.server) peer (find (is_client h.client) s.clients)
+      (λ x. over-in-range h x.state x.way.other h.server)
+
+  -- the packet that answers one in range is in range
+  pub answer-in-range : (r : ControlHeader) → ControlInRange h
+      → Some r ≡ control_reply h (control_row lacks peer h s) → ControlInRange r
+  answer-in-range r range e =
+      reply-in-range h r (control_row lacks peer h s) range.client
+      (kind-in-range h.kind (has-range h.kind h refl range)) e
+
+-- no answer is a client session's own request
+at_first-same : {A : Type 0} (p : A → Bool) (f : A → A) (xs : List A)
+    → IfSome (find p xs) (λ x. f x ≡ x) → at_first p f xs ≡ xs
+at_first-same p f [] h = refl
+at_first-same p f (x ∷ xs) h = by (p x) h (λ g. at_first-same p f xs g)
+  where
+    by : (b : Bool) → IfSome (cond b (Some x) (find p xs)) (λ y. f y ≡ y)
+        → (IfSome (find p xs) (λ y. f y ≡ y) → at_first p f xs ≡ xs)
+        → cond b (f x ∷ xs) (x ∷ at_first p f xs) ≡ x ∷ xs
+    by true g rest = ap (λ y. y ∷ xs) g
+    by false g rest = ap (λ ys. x ∷ ys) (rest g)
+
+each-if : {A : Type 0} (P : A → Type 0) (o : Option A) → ((x : A) → P x) → IfSome o P
+each-if P None each = tt
+each-if P (Some x) each = each x
+
+connects-never : (b : Bool) (t : ℕ) → cond b (Connects t) Ignores ≡ Disowns → ⊥
+connects-never true t e = cc
+connects-never false t e = cc
+
+other-way : (a b : ℕ) → (a == b) ≡ false → (b == a) ≡ false
+other-way a b e = by (b == a) refl
+  where
+    by : (c : Bool) → (b == a) ≡ c → c ≡ false
+    by false f = refl
+    by true f =
+        let same : (a == b) ≡ true = eq-eqb a b (sym (eqb-true b a f)) in cc
+
+-- a session that disowns a server session isn't Closing with it
+joined-disowns : (state : SessionState) (limit other t credits : ℕ)
+    → joined_row state limit other t credits ≡ Disowns
+    → is_request_of DisconnectRequest (Some t) state other ≡ false
+joined-disowns Connecting limit other t credits e = absurd (connects-never (credits == limit) t e)
+joined-disowns Connected limit other t credits e = refl
+joined-disowns Spent limit other t credits e = refl
+joined-disowns Closing limit other t credits e =
+    other-way other t (unless-disowns (other == t) e)
+joined-disowns Unknown limit other t credits e = refl
+joined-disowns Closed limit other t credits e = refl
+joined-disowns Failed limit other t credits e = refl
+joined-disowns Broken limit other t credits e = refl
+
+none-asked : (state : SessionState) (other : ℕ)
+    → is_request_of DisconnectRequest None state other ≡ false
+none-asked Connecting other = refl
+none-asked Connected other = refl
+none-asked Spent other = refl
+none-asked Closing other = refl
+none-asked Unknown other = refl
+none-asked Closed other = refl
+none-asked Failed other = refl
+none-asked Broken other = refl
+
+reply-disowns : (server : Option ℕ) (credits : ℕ) (x : Client)
+    → reply_row server credits x ≡ Disowns
+    → is_request_of DisconnectRequest server x.state x.way.other ≡ false
+reply-disowns None credits x e = none-asked x.state x.way.other
+reply-disowns (Some t) credits x e =
+    joined-disowns x.state x.limit x.way.other t credits e
+
+over-never : (state : SessionState) (other : ℕ) (o : Option ℕ) → over_row state other o ≡ Disowns
+    → ⊥
+over-never Closing other (Some t) e = by (other == t) e
+  where
+    by : (b : Bool) → cond b Closes Ignores ≡ Disowns → ⊥
+    by true f = cc
+    by false f = cc
+over-never Closing other None e = cc
+over-never Unknown other o e = cc
+over-never Connecting other o e = cc
+over-never Connected other o e = cc
+over-never Closed other o e = cc
+over-never Failed other o e = cc
+over-never Broken other o e = cc
+over-never Spent other o e = cc
+
+confirm-never : (lacks : Bool) (h : ControlHeader) (s : Lists) (o : Option Server)
+    → confirm_row lacks h s o ≡ Disowns → ⊥
+confirm-never lacks h s (Some v) e = cc
+confirm-never lacks h s None e = by (has_no_room h.credits s || servers_spent s) lacks e
+  where
+    by : (b c : Bool) → cond b Declines (cond c Starves (Accepts s.server_numbers)) ≡ Disowns → ⊥
+    by true c f = cc
+    by false true f = cc
+    by false false f = cc
+
+end-never : (o : Option Server) → end_row o ≡ Disowns → ⊥
+end-never None e = cc
+end-never (Some v) e = cc
+
+-- where a packet is disowned, its session has no such request of its own
+abbrev NotOwn : ControlHeader → Client → Type 0
+NotOwn h x = is_request_of DisconnectRequest h.server x.state x.way.other ≡ false
+
+opened-disowns : (h : ControlHeader) (row : Client → ControlRow) (peer : ℕ) (o : Option Client)
+    → ((x : Client) → row x ≡ Disowns → NotOwn h x) → opened_row row peer o ≡ Disowns
+    → IfSome o (NotOwn h)
+opened-disowns h row peer None each e = tt
+opened-disowns h row peer (Some x) each e = by (not (x.way.peer == peer)) e
+  where
+    by : (b : Bool) → cond b Ignores (row x) ≡ Disowns → NotOwn h x
+    by true f = cc
+    by false f = each x f
+
+kind-disowns : (lacks : Bool) (peer : ℕ) (h : ControlHeader) (s : Lists) (kind : ControlKind)
+    → control_row_of kind lacks peer h s ≡ Disowns
+    → IfSome (find (is_client h.client) s.clients) (NotOwn h)
+kind-disowns lacks peer h s ConnectRequest e =
+    absurd (confirm-never lacks h s (find (is_end_of peer h.client) s.servers) e)
+kind-disowns lacks peer h s DisconnectRequest e =
+    absurd (end-never (named_end peer h.client h.server s.servers) e)
+kind-disowns lacks peer h s ConnectReply e =
+    opened-disowns h (reply_row h.server h.credits) peer (find (is_client h.client) s.clients)
+    (λ x. reply-disowns h.server h.credits x) e
+kind-disowns lacks peer h s DisconnectReply e =
+    opened-disowns h (closed_row h.server) peer (find (is_client h.client) s.clients)
+    (λ x f. absurd (over-never x.state x.way.other h.server f)) e
+
+-- so the client sessions stay where the answer is sent
+requests-none : (clock : ℕ) (r : ControlHeader) (x : Client)
+    → is_request_of r.kind r.server x.state x.way.other ≡ false → requests clock r x ≡ x
+requests-none clock r x e = rw e refl
+
+reply-told : (clock : ℕ) (r : ControlHeader) (xs : List Client) → r.kind ≡ ConnectReply
+    → clients_told clock (Some r) xs ≡ xs
+reply-told clock r xs e =
+    at_first-same (is_client r.client) (requests clock r) xs
+    (each-if (λ x. requests clock r x ≡ x) (find (is_client r.client) xs)
+    (λ x. requests-none clock r x (rw e refl)))
+
+over-told : (clock : ℕ) (r : ControlHeader) (xs : List Client) → r.kind ≡ DisconnectReply
+    → clients_told clock (Some r) xs ≡ xs
+over-told clock r xs e =
+    at_first-same (is_client r.client) (requests clock r) xs
+    (each-if (λ x. requests clock r x ≡ x) (find (is_client r.client) xs)
+    (λ x. requests-none clock r x (rw e refl)))
+
+module _ (clock : ℕ) (peer : ℕ) (h r : ControlHeader) (s : Lists) where
+  disown-told : Some r ≡ control_reply h Disowns
+      → IfSome (find (is_client h.client) s.clients) (NotOwn h)
+      → clients_told clock (Some r) s.clients ≡ s.clients
+  disown-told e none =
+      rw (some-same r _ e) (at_first-same (is_client h.client) _ s.clients
+      (by (find (is_client h.client) s.clients) none))
+    where
+      by : (o : Option Client) → IfSome o (NotOwn h)
+          → IfSome o (λ x. cond (is_request_of DisconnectRequest h.server x.state x.way.other)
+          (record x { sends = x.sends + 1; sent_at = clock }) x ≡ x)
+      by None n = tt
+      by (Some x) n = rw n refl
+
+  pub answer-told : (row : ControlRow)
+      → (row ≡ Disowns → IfSome (find (is_client h.client) s.clients) (NotOwn h))
+      → Some r ≡ control_reply h row
+      → clients_told clock (Some r) (after_all clock s (control_facts s peer h row)).clients
+      ≡ (after_all clock s (control_facts s peer h row)).clients
+  answer-told Ignores none e = cc
+  answer-told (Confirms t credits) none e =
+      reply-told clock r _ (ap (λ (q : ControlHeader). q.kind) (some-same r _ e))
+  answer-told Declines none e =
+      reply-told clock r _ (ap (λ (q : ControlHeader). q.kind) (some-same r _ e))
+  answer-told Starves none e = cc
+  answer-told (Accepts t) none e =
+      reply-told clock r _ (ap (λ (q : ControlHeader). q.kind) (some-same r _ e))
+  answer-told Ends none e =
+      over-told clock r _ (ap (λ (q : ControlHeader). q.kind) (some-same r _ e))
+  answer-told Misses none e =
+      over-told clock r _ (ap (λ (q : ControlHeader). q.kind) (some-same r _ e))
+  answer-told (Connects t) none e = cc
+  answer-told Disowns none e = disown-told e (none refl)
+  answer-told Fails none e = cc
+  answer-told Closes none e = cc
+
+pub row-told : (clock : ℕ) (lacks : Bool) (peer : ℕ) (h r : ControlHeader) (s : Lists)
+    → Some r ≡ control_reply h (control_row lacks peer h s)
+    → clients_told clock (Some r) (after_all clock s
+    (control_facts s peer h (control_row lacks peer h s))).clients
+    ≡ (after_all clock s (control_facts s peer h (control_row lacks peer h s))).clients
+row-told clock lacks peer h r s e =
+    answer-told clock peer h r s (control_row lacks peer h s)
+    (kind-disowns lacks peer h s h.kind) e
+
+-- what always holds of the server sessions says that what they are named by is in range
+pub named-all : (used : ℕ) (vs : List Server) → used ≤ SESSION_NUMBERS
+    → AllByRecursion (λ v. v.way.number < used) vs → AllByRecursion HasCredit vs
+    → AllByRecursion IsNamed vs
+named-all used [] few below credits = tt
+named-all used (v ∷ vs) few below credits =
+    ((omega (arith, few, below.0), credits.0), named-all used vs few below.1 credits.1)

@@ -1,0 +1,199 @@
+-- What a row of the control rule does at a node.
+use Rattle.std.proofs.Common.{◌≡◌, ℕ, ◌<◌, Bool, true, false, not, ◌||◌, Option, Some, None}
+use Rattle.std.proofs.Common.{[], ◌∷◌, length, refl, sym, ap, ◌∙◌, arith}
+use Rattle.std.specs.Prelude.{option_map, slice_get}
+use Rattle.std.proofs.lemmas.Option.{slice_get_within}
+use Rattle.rpc_base.specs.declared.event.Event.{Event}
+use Rattle.rpc_base.specs.declared.limits.TheConstants.{SESSION_NUMBERS}
+use Rattle.rpc_base.specs.declared.state.SessionState.{SessionState}
+use Rattle.rpc_base.specs.declared.state.SessionState.TheVariants.{Closing, Connecting}
+use Rattle.packet_header.specs.Header.{ControlInRange, IsServer}
+use Rattle.packet_header.specs.declared.packet.ControlHeader.{ControlHeader}
+use Rattle.packet_header.specs.declared.packet.ControlKind.{ControlKind}
+use Rattle.packet_header.specs.declared.packet.ControlKind.TheVariants.{ConnectRequest}
+use Rattle.packet_header.specs.declared.packet.ControlKind.TheVariants.{ConnectReply}
+use Rattle.packet_header.specs.declared.packet.ControlKind.TheVariants.{DisconnectRequest}
+use Rattle.packet_header.specs.declared.packet.ControlKind.TheVariants.{DisconnectReply}
+use Rattle.rpc_laws.specs.declared.rows.ControlRow.{ControlRow}
+use Rattle.rpc_laws.specs.declared.rows.ControlRow.TheVariants.{Closes, Connects, Ends, Fails}
+use Rattle.rpc_laws.specs.declared.tables.Client.{Client}
+use Rattle.rpc_laws.specs.declared.tables.Lists.{Lists}
+use Rattle.rpc_laws.specs.declared.tables.Timed.{Timed}
+use Rattle.rpc_laws.specs.ControlTable.{control_facts, control_reply, control_row, control_row_of}
+use Rattle.rpc_laws.specs.ControlTable.{named_end, session_end}
+use Rattle.rpc_laws.specs.Facts.{plain}
+use Rattle.rpc_laws.specs.Groups.{has_no_room, server_refusal, servers_spent, told_state}
+use Rattle.rpc_laws.specs.Steps.{Goes, NotesNext}
+use Rattle.rpc_outside.specs.Recording.{Grew, Log}
+use Rattle.node_laws.specs.Valid.{NumberedFrom, client_no}
+use Rattle.server_core.proofs.FlushLemmas.{grew-none}
+use Rattle.session_mgmt.specs.Control.{ChangesOwn, accepts, found_in, own_end}
+use Rattle.session_mgmt.specs.declared.control.OwnEnd.{OwnEnd}
+use Rattle.session_store.specs.Changes.{IsInState}
+use Rattle.endpoint_node.specs.ControlRows.{Acts, Controls}
+use Rattle.endpoint_node.specs.Ends.{ending}
+use Rattle.endpoint_node.specs.Fits.{IsCredit}
+use Rattle.endpoint_node.specs.Notes.{Makes}
+use Rattle.endpoint_node.specs.Seen.{Asks, asking}
+use Rattle.endpoint_node.specs.Timers.{Notes}
+use Rattle.endpoint_node.proofs.CallSteps.{client-by}
+use Rattle.endpoint_node.proofs.CallStates.{told-closing, told-connecting}
+
+-- a row that is done is a step of the control rule, whatever the jobs that are out ask
+module _ {R : Type 0} (log : R → Log) (before now : R) (peer : ℕ) (h : ControlHeader)
+    (row : ControlRow) (s t : Timed) where
+  row-by : (lacks : Bool) (asks : Asks) (kind : ControlKind)
+      → control_row_of kind lacks peer h (asking asks s).lists
+      ≡ control_row_of kind lacks peer h s.lists
+  row-by lacks asks ConnectRequest = refl
+  row-by lacks asks ConnectReply = refl
+  row-by lacks asks DisconnectRequest = refl
+  row-by lacks asks DisconnectReply = refl
+
+  pub acts-controls : (lacks : Bool) → control_row lacks peer h s.lists ≡ row
+      → Makes log (Acts row peer h) s t before now
+      → Makes log (Controls peer h (control_reply h row)) s t before now
+  acts-controls lacks is made = record {
+    noted = made.noted;
+    grew = made.grew;
+    step = λ asks.
+        let step = made.step asks in
+        let it : control_row lacks peer h (asking asks s).lists ≡ row =
+        row-by lacks asks h.kind ∙ is in
+        record {
+          lacks = lacks;
+          by = rw it (record {
+            facts = step.facts;
+            answer = refl;
+            goes = step.goes;
+          });
+        };
+  }
+
+  -- an event is noted
+  pub acts-noted : (next : Lists → Option Event) (e : Event)
+      → ((asks : Asks) → next (asking asks s).lists ≡ Some e)
+      → ((asks : Asks) → control_facts (asking asks s).lists peer h row ≡ plain s.lists.me e ∷ [])
+      → Makes log (NotesNext next) s t before now → Makes log (Acts row peer h) s t before now
+  acts-noted next e is facts-are made = record {
+    noted = made.noted;
+    grew = made.grew;
+    step = λ asks.
+        let step = made.step asks in
+        record {
+          facts = step.facts ∙ ap (λ (d : Event). plain s.lists.me d ∷ [])
+              (some-same step.event e (sym step.is_next ∙ is asks)) ∙ sym (facts-are asks);
+          goes = step.goes;
+        };
+  }
+    where
+      some-same : (a b : Event) → Some a ≡ Some b → a ≡ b
+      some-same a b e = cc
+
+-- an event is noted by which nothing changes
+pub acts-told : {R : Type 0} (log : R → Log) (before now : R) (peer : ℕ) (h : ControlHeader)
+    (row : ControlRow) (s : Timed) (e : Event)
+    → ((asks : Asks) → control_facts (asking asks s).lists peer h row ≡ plain s.lists.me e ∷ [])
+    → ((asks : Asks) → Goes (asking asks s) (plain s.lists.me e ∷ []) (asking asks s))
+    → Grew (log before) (log now) (plain s.lists.me e ∷ [])
+    → Makes log (Acts row peer h) s s before now
+acts-told log before now peer h row s e facts-are goes grew = record {
+  noted = plain s.lists.me e ∷ [];
+  grew = grew;
+  step = λ asks. record { facts = sym (facts-are asks); goes = goes asks };
+}
+
+-- nothing is noted, and nothing changes
+pub acts-none : {R : Type 0} (log : R → Log) (r : R) (peer : ℕ) (h : ControlHeader)
+    (row : ControlRow) (s : Timed)
+    → ((asks : Asks) → control_facts (asking asks s).lists peer h row ≡ [])
+    → Makes log (Acts row peer h) s s r r
+acts-none log r peer h row s none = record {
+  noted = [];
+  grew = grew-none log r;
+  step = λ asks. record { facts = sym (none asks); goes = refl };
+}
+
+-- a client session that a packet names is there, in this state
+pub record IsThere (state : SessionState) (i : ℕ) (s : Lists) : Type 0 where
+  pub known : i < length s.clients
+  pub stands : IsInState state (slice_get s.clients i)
+
+module _ (peer : ℕ) (h : ControlHeader) (s : Lists) (numbered : NumberedFrom client_no 0 s.clients)
+  where
+    own-there : (state : SessionState)
+        → ((was : SessionState) (asked : ℕ) → told_state was asked ≡ state → was ≡ state)
+        → (own : OwnEnd) → (found_in peer h s).own ≡ Some own → own.state ≡ state
+        → IsThere state h.client s
+    own-there state back own found is =
+        by (slice_get s.clients h.client) refl
+        (ap (option_map own_end) (client-by s.clients h.client h.client numbered refl) ∙ found)
+      where
+        some-same : (a b : OwnEnd) → Some a ≡ Some b → a ≡ b
+        some-same a b e = cc
+
+        by : (o : Option Client) → slice_get s.clients h.client ≡ o
+            → option_map own_end o ≡ Some own → IsThere state h.client s
+        by None place e = cc
+        by (Some x) place e = record {
+          known = slice_get_within s.clients h.client x place;
+          stands = rw place (back x.state x.asked
+              (ap (λ (w : OwnEnd). w.state) (some-same (own_end x) own e) ∙ is));
+        }
+
+    pub connects-there : (t : ℕ) → ChangesOwn (Connects t) h (found_in peer h s)
+        → IsThere Connecting h.client s
+    connects-there t c = own-there Connecting told-connecting c.own c.found c.cause.0
+
+    pub fails-there : ChangesOwn Fails h (found_in peer h s) → IsThere Connecting h.client s
+    fails-there c = own-there Connecting told-connecting c.own c.found c.cause
+
+    pub closes-there : ChangesOwn Closes h (found_in peer h s) → IsThere Closing h.client s
+    closes-there c = own-there Closing told-closing c.own c.found c.cause
+
+-- a server session that a packet names has a number
+pub named-below : (h : ControlHeader) (t : ℕ) → ControlInRange h → h.server ≡ Some t
+    → t < SESSION_NUMBERS
+named-below h t range named = by _ h.server range.server named
+  where
+    some-same : (a b : ℕ) → Some a ≡ Some b → a ≡ b
+    some-same a b e = cc
+
+    by : (b : Bool) (o : Option ℕ) → IsServer b o → o ≡ Some t → t < SESSION_NUMBERS
+    by true (Some u) within e = omega (arith, within.1, some-same u t e)
+    by true None within e = absurd within
+    by false (Some u) within e = absurd within
+    by false None within e = cc
+
+-- a session that is accepted isn't refused
+pub accepts-fits : (peer : ℕ) (h : ControlHeader) (s : Lists)
+    → accepts h.credits (found_in peer h s) ≡ true → server_refusal h.credits s ≡ None
+accepts-fits peer h s takes = by (has_no_room h.credits s) (servers_spent s) refl refl takes
+  where
+    by : (full spent : Bool) → has_no_room h.credits s ≡ full → servers_spent s ≡ spent
+        → not (full || spent) ≡ true → server_refusal h.credits s ≡ None
+    by true spent e f takes = cc
+    by false true e f takes = cc
+    by false false e f takes = rw (f, e) refl
+
+-- a connect request asks for 1 to 256 credits
+pub asked-credits : (h : ControlHeader) → h.kind ≡ ConnectRequest → ControlInRange h
+    → IsCredit h.credits
+asked-credits h kind range =
+    let within = range.credits in rw kind at within
+
+-- the session that a packet names ends
+pub acts-ended : {R : Type 0} (log : R → Log) (before now : R) (peer : ℕ) (h : ControlHeader)
+    (s t : Timed) (i : ℕ)
+    → named_end peer h.client h.server s.lists.servers ≡ slice_get s.lists.servers i
+    → Makes log (Notes (ending i)) s t before now → Makes log (Acts Ends peer h) s t before now
+acts-ended log before now peer h s t i named made = record {
+  noted = made.noted;
+  grew = made.grew;
+  step = λ asks.
+      let step = made.step asks in
+      record {
+        facts = step.facts ∙ ap (session_end s.lists.me s.lists.queued) (sym named);
+        goes = step.goes;
+      };
+}

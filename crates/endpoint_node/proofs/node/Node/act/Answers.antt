@@ -1,0 +1,143 @@
+use Rattle.std.proofs.Common.{false, Some, refl, ap, ◌∙◌}
+use Rattle.rpc_base.specs.declared.event.Event.{Event}
+use Rattle.rpc_base.specs.declared.event.Event.TheVariants.{ClosedHeard, FailedNoRoom}
+use Rattle.rpc_base.specs.declared.event.Event.TheVariants.{Connected as IsConnected}
+use Rattle.rpc_laws.specs.declared.rows.ControlRow.TheVariants.{Accepts, Closes, Connects}
+use Rattle.rpc_laws.specs.declared.rows.ControlRow.TheVariants.{Fails}
+use Rattle.session_mgmt.specs.Control.{starved_if}
+use Rattle.endpoint_node.specs.Handed.{timed_of}
+use Rattle.endpoint_node.proofs.ControlRows.{accepts-fits, acts-controls, acts-none, acts-noted}
+use Rattle.endpoint_node.proofs.ControlRows.{asked-credits, closes-there, connects-there}
+use Rattle.endpoint_node.proofs.ControlRows.{fails-there, named-below}
+use Rattle.endpoint_node.proofs.node.Node.act.Goals as goal
+
+pub returns-in-Ignores : goal.returns-in-Ignores
+returns-in-Ignores g c = record {
+  makes = let s = timed_of c.args.self.now in
+      acts-controls g.R.Recorder.log c.args.rec.now c.args.rec.now c.args.peer c.args.head.now
+      c.args.row s s false (c.requires.row false) (acts-none g.R.Recorder.log c.args.rec.now
+      c.args.peer c.args.head.now c.args.row s (λ asks. rw c.in-Ignores.is refl));
+  rest = record { inbox = refl; jobs = refl; handed = refl };
+}
+
+pub returns-in-Confirms : goal.returns-in-Confirms
+returns-in-Confirms g c = record {
+  makes = let s = timed_of c.args.self.now in
+      acts-controls g.R.Recorder.log c.args.rec.now c.args.rec.now c.args.peer c.args.head.now
+      c.args.row s s false (c.requires.row false) (acts-none g.R.Recorder.log c.args.rec.now
+      c.args.peer c.args.head.now c.args.row s (λ asks. rw c.in-Confirms.is refl));
+  rest = record { inbox = refl; jobs = refl; handed = refl };
+}
+
+pub returns-in-Misses : goal.returns-in-Misses
+returns-in-Misses g c = record {
+  makes = let s = timed_of c.args.self.now in
+      acts-controls g.R.Recorder.log c.args.rec.now c.args.rec.now c.args.peer c.args.head.now
+      c.args.row s s false (c.requires.row false) (acts-none g.R.Recorder.log c.args.rec.now
+      c.args.peer c.args.head.now c.args.row s (λ asks. rw c.in-Misses.is refl));
+  rest = record { inbox = refl; jobs = refl; handed = refl };
+}
+
+pub returns-in-Disowns : goal.returns-in-Disowns
+returns-in-Disowns g c = record {
+  makes = let s = timed_of c.args.self.now in
+      acts-controls g.R.Recorder.log c.args.rec.now c.args.rec.now c.args.peer c.args.head.now
+      c.args.row s s false (c.requires.row false) (acts-none g.R.Recorder.log c.args.rec.now
+      c.args.peer c.args.head.now c.args.row s (λ asks. rw c.in-Disowns.is refl));
+  rest = record { inbox = refl; jobs = refl; handed = refl };
+}
+
+pub returns-in-Declines : goal.returns-in-Declines
+returns-in-Declines g c = record {
+  makes = let s = timed_of c.args.self.now in
+      acts-controls g.R.Recorder.log c.args.rec.now c.decline.new.rec c.args.peer c.args.head.now
+      c.args.row s s false (c.requires.row false) (rw c.in-Declines.is c.decline.ensures);
+  rest = record { inbox = refl; jobs = refl; handed = refl };
+}
+
+pub unreachable-requires : goal.unreachable-requires
+unreachable-requires g c = absurd (rw c.in-Starves.is at c.requires.cause)
+
+pub accept_session-requires : goal.accept_session-requires
+accept_session-requires g c =
+    let cause = rw c.in-Accepts.is at c.requires.cause in
+    let credits = asked-credits c.args.head.now cause.asked c.requires.in_range in
+    record {
+      row = λ lacks. c.requires.row lacks ∙ ap (starved_if lacks)
+          (c.in-Accepts.is ∙ ap (λ t. Accepts t) cause.number);
+      fits = accepts-fits c.args.peer c.args.head.now c.args.self.now.lists cause.fits;
+      in_range = c.requires.in_range;
+      some = credits.0;
+      most = credits.1;
+    }
+
+pub returns-in-Ends : goal.returns-in-Ends
+returns-in-Ends g c = record {
+  makes = acts-controls g.R.Recorder.log c.args.rec.now c.end_named.new.rec c.args.peer c.args.head.now
+      c.args.row (timed_of c.args.self.now) (timed_of c.end_named.new.self) false
+      (c.requires.row false) (rw c.in-Ends.is c.end_named.ensures.makes);
+  rest = c.end_named.ensures.rest;
+}
+
+pub connect_session-requires : goal.connect_session-requires
+connect_session-requires g c =
+    let cause = rw c.in-Connects.is at c.requires.cause in
+    let there = connects-there c.args.peer c.args.head.now c.args.self.now.lists
+    c.sound.ensures.kept.valid.numbered c.in-Connects.server cause in
+    record {
+      connecting = record { known = there.known; stands = there.stands };
+      server = named-below c.args.head.now c.in-Connects.server c.requires.in_range
+          cause.cause.1;
+    }
+
+pub fail_session-requires : goal.fail_session-requires
+fail_session-requires g c =
+    let there = fails-there c.args.peer c.args.head.now c.args.self.now.lists
+    c.sound.ensures.kept.valid.numbered (rw c.in-Fails.is at c.requires.cause) in
+    record { known = there.known; stands = there.stands }
+
+pub close_session-requires : goal.close_session-requires
+close_session-requires g c =
+    let there = closes-there c.args.peer c.args.head.now c.args.self.now.lists
+    c.sound.ensures.kept.valid.numbered (rw c.in-Closes.is at c.requires.cause) in
+    record { known = there.known; stands = there.stands }
+
+pub returns-in-Connects : goal.returns-in-Connects
+returns-in-Connects g c = record {
+  makes = let s = timed_of c.args.self.now in
+      let t = timed_of c.connect_session.new.self in
+      let connected : Event = IsConnected c.args.head.now.client c.in-Connects.server in
+      acts-controls g.R.Recorder.log c.args.rec.now c.connect_session.new.rec c.args.peer
+      c.args.head.now (Connects c.in-Connects.server) s t false
+      (rw c.in-Connects.is at (c.requires.row false))
+      (acts-noted g.R.Recorder.log c.args.rec.now c.connect_session.new.rec c.args.peer
+      c.args.head.now (Connects c.in-Connects.server) s t (λ l. Some connected) connected
+      (λ asks. refl) (λ asks. refl) c.connect_session.ensures.makes);
+  rest = c.connect_session.ensures.rest;
+}
+
+pub returns-in-Fails : goal.returns-in-Fails
+returns-in-Fails g c = record {
+  makes = let s = timed_of c.args.self.now in
+      let t = timed_of c.fail_session.new.self in
+      acts-controls g.R.Recorder.log c.args.rec.now c.fail_session.new.rec c.args.peer
+      c.args.head.now c.args.row s t false (c.requires.row false) (rw c.in-Fails.is
+      (acts-noted g.R.Recorder.log c.args.rec.now c.fail_session.new.rec c.args.peer
+      c.args.head.now Fails s t (λ l. Some (FailedNoRoom c.args.head.now.client))
+      (FailedNoRoom c.args.head.now.client)
+      (λ asks. refl) (λ asks. refl) c.fail_session.ensures.makes));
+  rest = c.fail_session.ensures.rest;
+}
+
+pub returns-in-Closes : goal.returns-in-Closes
+returns-in-Closes g c = record {
+  makes = let s = timed_of c.args.self.now in
+      let t = timed_of c.close_session.new.self in
+      acts-controls g.R.Recorder.log c.args.rec.now c.close_session.new.rec c.args.peer
+      c.args.head.now c.args.row s t false (c.requires.row false) (rw c.in-Closes.is
+      (acts-noted g.R.Recorder.log c.args.rec.now c.close_session.new.rec c.args.peer
+      c.args.head.now Closes s t (λ l. Some (ClosedHeard c.args.head.now.client))
+      (ClosedHeard c.args.head.now.client)
+      (λ asks. refl) (λ asks. refl) c.close_session.ensures.makes));
+  rest = c.close_session.ensures.rest;
+}

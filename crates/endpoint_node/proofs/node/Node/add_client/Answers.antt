@@ -1,0 +1,32 @@
+use Rattle.std.proofs.Common.{◌≡◌, ℕ, ◌++◌, [], ◌∷◌, length, ap, ◌∙◌}
+use Rattle.endpoint_node.specs.Seen.{jobs_in}
+use Rattle.endpoint_node.proofs.SessionFits.{fits-paired-client}
+use Rattle.endpoint_node.proofs.PostCallers.{covers-paired}
+use Rattle.endpoint_node.proofs.node.Node.add_client.Goals as goal
+
+pub invariant_of-self-2 : goal.invariant_of-self-2
+invariant_of-self-2 g c =
+    let same : c.next_client-session.result ≡ length c.self.inside.store.clients =
+    rw (← c.self.view_is) at c.next_client-session.ensures in
+    let made = c.in_default.ensures in
+    let taken = rw (← c.self.view_is) at c.requires.fits.fits in (
+      fits-paired-client c.self.inside.me c.self.inside.limits
+          (record {
+            asked = c.self.inside.asked;
+            server_numbers = c.self.inside.server_numbers;
+            inbox = c.self.inside.inbox;
+            counts = c.self.inside.counts;
+          }) c.self.inside.paces.items
+          (jobs_in c.self.inside.limits.jobs c.self.inside.given c.self.inside.jobs.items)
+          c.self.inside.clock c.self.inside.rx c.self.inside.store
+          c.pair_client.new.self c.self.invariant.0 c.args.credits c.args.peer c.args.server
+          c.requires.fits.credits.some made.queued made.size made.places c.push.new.self.items
+          (c.in_ok-push.ensures.items ∙ ap (λ (n : ℕ). c.self.inside.paces.items ++ record {
+            session = n;
+            rate = 0;
+            next = 0;
+          } ∷ []) same) taken
+          made.clients made.servers c.requires.fits.credits.few c.requires.server,
+      c.self.invariant.1,
+      covers-paired c.self.inside.callers _ _ _ _ _ _ made.clients c.self.invariant.2,
+    )

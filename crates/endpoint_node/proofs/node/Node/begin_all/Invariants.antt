@@ -1,0 +1,16 @@
+use Rattle.endpoint_node.specs.Measures.{waiting_at}
+use Rattle.endpoint_node.specs.Notes.{Makes}
+use Rattle.rpc_laws.specs.Posting.{next_begun}
+use Rattle.rpc_laws.specs.Steps.{Chain, NotesNext}
+use Rattle.endpoint_node.specs.Handed.{timed_of}
+use Rattle.endpoint_node.specs.Leaves.{LeavesServing}
+use Rattle.endpoint_node.proofs.node.Node.begin_all.Given as goal
+
+abbrev pub invariant-calls : goal.invariant-calls
+invariant-calls g l =
+    Makes g.R.Recorder.log (Chain (NotesNext (next_begun l.i))) (timed_of l.initial.self)
+    (timed_of l.self) l.initial.rec l.rec
+    × LeavesServing l.initial.self l.self
+
+abbrev pub decreases-calls : goal.decreases-calls
+decreases-calls g l = waiting_at l.i l.self.lists.clients

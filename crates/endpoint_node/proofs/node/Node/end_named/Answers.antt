@@ -1,0 +1,11 @@
+use Rattle.endpoint_node.specs.Handed.{timed_of}
+use Rattle.endpoint_node.proofs.ControlRows.{acts-ended}
+use Rattle.endpoint_node.proofs.node.Node.end_named.Goals as goal
+
+pub returns : goal.returns
+returns g c = record {
+  makes = acts-ended g.R.Recorder.log c.args.rec.now c.end_session.new.rec c.args.peer c.args.head.now
+      (timed_of c.args.self.now) (timed_of c.end_session.new.self) c.in-Some.i
+      c.in-Some.ensures.found.1 c.end_session.ensures.makes;
+  rest = c.end_session.ensures.rest;
+}

@@ -1,0 +1,17 @@
+use Rattle.std.proofs.Common.{◌≡◌, length}
+use Rattle.rpc_base.specs.declared.owner.Owner.TheVariants.{Ask}
+use Rattle.endpoint_node.specs.Notes.{Makes}
+use Rattle.endpoint_node.specs.Timers.{FlushesSome}
+use Rattle.endpoint_node.specs.Handed.{timed_of}
+use Rattle.endpoint_node.specs.Leaves.{LeavesServing}
+use Rattle.endpoint_node.proofs.node.Node.flush_call.Given as goal
+
+abbrev pub invariant-packets : goal.invariant-packets
+invariant-packets g l =
+    Makes g.R.Recorder.log (FlushesSome (Ask l.i l.request)) (timed_of l.initial.self)
+    (timed_of l.self) l.initial.rec l.rec
+    × (l.self.lists.clients ≡ l.initial.self.lists.clients)
+    × LeavesServing l.initial.self l.self
+
+abbrev pub decreases-packets : goal.decreases-packets
+decreases-packets g l = length l.self.lists.queued

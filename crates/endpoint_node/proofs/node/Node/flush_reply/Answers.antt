@@ -1,0 +1,83 @@
+use Rattle.std.proofs.lemmas.Bool.{false≢true}
+use Rattle.std.proofs.Common.{ap, sym, ◌∙◌, refl}
+use Rattle.endpoint_node.proofs.QueueFlushes.{fits-flushed, least-none-by, node-flushed, none-owned}
+use Rattle.endpoint_node.proofs.QueueFlushes.{none-taken, taken-least}
+use Rattle.node_laws.proofs.PutLemmas.{owner-is}
+use Rattle.endpoint_node.specs.Seen.{jobs_in}
+use Rattle.endpoint_node.proofs.node.Node.flush_reply.Goals as goal
+
+pub invariant_of-self : goal.invariant_of-self
+invariant_of-self g c =
+    let h = rw (c.in_default-flush_reply.is, ← c.in-Reply.is) at c.flush_reply.ensures in
+    let same =
+    none-taken c.args.owner.now c.self.inside.store.queued c.flush_reply.new.self.queued
+    (least-none-by c.args.owner.now c.self.inside.store.queued h.taken) h.left.queued in (
+      rw (same, h.left.clients, h.left.servers, h.left.size, h.left.places) c.self.invariant.0,
+      c.self.invariant.1,
+      rw h.left.clients c.self.invariant.2,
+    )
+
+pub returns-in_default-flush_reply-clause-flush : goal.returns-in_default-flush_reply-clause-flush
+returns-in_default-flush_reply-clause-flush g c = record {
+  makes = λ yes. absurd (false≢true yes);
+  fewer = λ yes. absurd (false≢true yes);
+  none = λ _.
+      let h = rw (c.in_default-flush_reply.is, ← c.in-Reply.is) at c.flush_reply.ensures in
+      rw (← c.self.view_is) (none-owned c.args.owner.now c.self.inside.store.queued
+      (least-none-by c.args.owner.now c.self.inside.store.queued h.taken));
+  unchanged = λ _.
+      let h = rw (c.in_default-flush_reply.is, ← c.in-Reply.is) at c.flush_reply.ensures in
+      let same =
+      none-taken c.args.owner.now c.self.inside.store.queued c.flush_reply.new.self.queued
+      (least-none-by c.args.owner.now c.self.inside.store.queued h.taken) h.left.queued in
+      rw (same, h.left.clients, h.left.servers, h.left.handed) c.self.view_is;
+  silent = λ no. refl;
+}
+
+pub invariant_of-self-2 : goal.invariant_of-self-2
+invariant_of-self-2 g c =
+    let h = rw (c.in-Some.is, ← c.in-Reply.is) at c.flush_reply.ensures in
+    let out = taken-least c.args.owner.now c.self.inside.store.queued c.flush_reply.new.self.queued
+    c.in-Some.entry h.taken h.left.queued in (
+      fits-flushed c.self.inside.me c.self.inside.limits
+          (record {
+            asked = c.self.inside.asked;
+            server_numbers = c.self.inside.server_numbers;
+            inbox = c.self.inside.inbox;
+            counts = c.self.inside.counts;
+          }) c.self.inside.paces.items (jobs_in c.self.inside.limits.jobs c.self.inside.given
+          c.self.inside.jobs.items)
+          c.self.inside.clock c.self.inside.rx c.self.inside.store c.flush_reply.new.self
+          c.self.invariant.0 c.args.owner.now out.entry out.taken h.left.clients h.left.servers h.left.size h.left.places,
+      c.self.invariant.1,
+      rw h.left.clients c.self.invariant.2,
+    )
+
+pub returns-clause-flush : goal.returns-clause-flush
+returns-clause-flush g c = record {
+  makes = λ _.
+      let h = rw (c.in-Some.is, ← c.in-Reply.is) at c.flush_reply.ensures in
+      let out = taken-least c.args.owner.now c.self.inside.store.queued c.flush_reply.new.self.queued
+      c.in-Some.entry h.taken h.left.queued in
+      rw (← c.self.view_is) (node-flushed c.self.inside.me c.self.inside.limits
+      (record {
+        asked = c.self.inside.asked;
+        server_numbers = c.self.inside.server_numbers;
+        inbox = c.self.inside.inbox;
+        counts = c.self.inside.counts;
+      }) c.self.inside.paces.items (jobs_in c.self.inside.limits.jobs c.self.inside.given
+      c.self.inside.jobs.items)
+      c.self.inside.clock c.self.inside.rx c.self.inside.store c.flush_reply.new.self
+      c.self.invariant.0 c.args.owner.now out.entry out.taken h.left.clients
+      h.left.servers g.R.Recorder.log c.args.rec.now c.note.new.self _ _
+      (ap (λ e. e.owner) c.entry.view_is ∙ owner-is _ _ out.own)
+      (ap (λ e. e.number) c.entry.view_is ∙ sym out.number) c.note.ensures);
+  fewer = λ _.
+      let h = rw (c.in-Some.is, ← c.in-Reply.is) at c.flush_reply.ensures in
+      let out = taken-least c.args.owner.now c.self.inside.store.queued c.flush_reply.new.self.queued
+      c.in-Some.entry h.taken h.left.queued in
+      rw (← c.self.view_is) out.taken.fewer;
+  none = λ no. absurd (false≢true (sym no));
+  unchanged = λ no. absurd (false≢true (sym no));
+  silent = λ no. absurd (false≢true (sym no));
+}

@@ -1,0 +1,436 @@
+use Rattle.std.proofs.Common.{◌+◌, ℕ, List, length, refl, sym, ap, subst, ◌∙◌, arith, rules}
+use Rattle.std.specs.Option.{option_copied}
+use Rattle.packet_header.specs.Header.{MessageLength}
+use Rattle.packet_header.specs.Reading.{body_of}
+use Rattle.endpoint_node.proofs.NodeFits.{has-places}
+use Rattle.endpoint_node.proofs.PacketReplies.{body-there, ring-left, some-front}
+use Rattle.endpoint_node.proofs.PacketJobs.{asking-one, has-job-room, named}
+use Rattle.endpoint_node.proofs.PacketRequests.{fits-again, fits-drop, fits-give, fits-ran}
+use Rattle.endpoint_node.proofs.PacketRequests.{fits-took-it, node-again, node-drop, node-give}
+use Rattle.endpoint_node.proofs.PacketRequests.{node-ran, node-took-it, unfull-of}
+use Rattle.endpoint_node.proofs.PacketServers.{as-asked, has-reply-room, number-there, served-then}
+use Rattle.endpoint_node.proofs.PacketServers.{served-there}
+use Rattle.endpoint_node.specs.Seen.{jobs_in}
+use Rattle.endpoint_node.proofs.node.Node.handle_at.Goals as goal
+
+pub unreachable-requires : goal.unreachable-requires
+unreachable-requires g c =
+    let front = rw (← c.self.view_is) at c.requires.asks.front in
+    some-front c.self.inside.rx.items c.args.head.now _ c.front.ensures (ap option_copied
+    c.in_default.is) front
+
+pub on_packet-step-requires-clause-session : goal.on_packet-step-requires-clause-session
+on_packet-step-requires-clause-session g c =
+    let place = rw (← c.self.view_is) at c.requires.place in
+    (number-there c.args.head.now.session c.args.i c.self.inside.store.servers place).1
+
+pub on_packet-step-requires-clause-asking : goal.on_packet-step-requires-clause-asking
+on_packet-step-requires-clause-asking g c =
+    let here = sym c.front.ensures ∙ ap option_copied c.in-Some.is in
+    let asked = c.body-asked.ensures ∙ ap body_of c.bytes.ensures.bytes in
+    let long = rw (← c.self.view_is) at c.requires.asks.long in
+    let same = body-there c.self.inside.rx.items c.in-Some.front.now here ∙ sym asked in
+    record {
+      kind = c.requires.asks.asking;
+      in_range = c.requires.asks.in_range;
+      body = subst (λ (b : List ℕ). MessageLength c.args.head.now.kind c.args.head.now.size
+          c.args.head.now.number (16 + length b)) same long;
+    }
+
+pub on_packet-step-requires-clause-ring : goal.on_packet-step-requires-clause-ring
+on_packet-step-requires-clause-ring g c =
+    let fits = c.self.invariant.0 in
+    let few = rw (← c.self.view_is) at c.requires.asks.room in
+    has-reply-room _ _ fits.kept fits.sendable few fits.packets
+
+pub on_packet-step-requires-clause-room : goal.on_packet-step-requires-clause-room
+on_packet-step-requires-clause-room g c =
+    let fits = c.self.invariant.0 in
+    has-places _ _ fits.kept fits.settled fits.credits fits.jobs fits.buffers
+
+pub on_packet-step-requires-clause-all_served : goal.on_packet-step-requires-clause-all_served
+on_packet-step-requires-clause-all_served g c =
+    let served = rw (← c.self.view_is) at c.requires.asks.serving.served in
+    served-there g.V.Service.mode_of c.self.inside.store.servers c.args.i served
+
+pub invariant_of-self : goal.invariant_of-self
+invariant_of-self g c =
+    let front = rw (← c.self.view_is) at c.requires.asks.front in
+    let here = sym c.front.ensures ∙ ap option_copied c.in-Some.is in
+    let full = rw (← c.self.view_is) at c.jobs_full-full.ensures in
+    let served = rw (← c.self.view_is) at c.requires.asks.serving.served in
+    let place = rw (← c.self.view_is) at c.requires.place in
+    let peer = rw (← c.self.view_is) at c.requires.peer in
+    let few = rw (← c.self.view_is) at c.requires.asks.room in
+    let asked = c.body-asked.ensures ∙ ap body_of c.bytes.ensures.bytes in
+    let p = as-asked _ _ _ _ _ _ _ _ _ _ _ _ _ _ _ _ asked c.in-Took.ensures.handles in (
+      fits-took-it c.self.inside.me c.self.inside.limits (record {
+        asked = c.self.inside.asked;
+        server_numbers = c.self.inside.server_numbers;
+        inbox = c.self.inside.inbox;
+        counts = c.self.inside.counts;
+      }) c.self.inside.paces.items (jobs_in c.self.inside.limits.jobs c.self.inside.given
+          c.self.inside.jobs.items) c.self.inside.clock c.self.inside.rx c.self.inside.store
+          c.self.invariant.0 c.args.head.now c.in-Some.front.now front c.requires.asks.asking here g.V.Service.mode_of
+          c.args.i c.on_packet-step.new.self c.on_packet-step.ensures.clients
+          c.on_packet-step.ensures.size c.on_packet-step.ensures.places c.drop_front.new.self
+          c.drop_front.ensures c.jobs_full-full.result full served place peer few g.R.Recorder.log c.args.rec.now c.on_packet-step.new.rec g.V.Service.answer
+          (g.V.Service.stands c.args.service.now) (g.V.Service.stands c.on_packet-step.new.service)
+          c.in-Took.reply p p.reply,
+      c.self.invariant.1,
+      rw c.on_packet-step.ensures.clients c.self.invariant.2,
+    )
+
+pub returns-in-Took : goal.returns-in-Took
+returns-in-Took g c = record {
+  serves = let front = rw (← c.self.view_is) at c.requires.asks.front in
+      let here = sym c.front.ensures ∙ ap option_copied c.in-Some.is in
+      let full = rw (← c.self.view_is) at c.jobs_full-full.ensures in
+      let served = rw (← c.self.view_is) at c.requires.asks.serving.served in
+      let place = rw (← c.self.view_is) at c.requires.place in
+      let peer = rw (← c.self.view_is) at c.requires.peer in
+      let few = rw (← c.self.view_is) at c.requires.asks.room in
+      let asked = c.body-asked.ensures ∙ ap body_of c.bytes.ensures.bytes in
+      let p = as-asked _ _ _ _ _ _ _ _ _ _ _ _ _ _ _ _ asked c.in-Took.ensures.handles in
+      rw (← c.self.view_is) (node-took-it c.self.inside.me c.self.inside.limits (record {
+        asked = c.self.inside.asked;
+        server_numbers = c.self.inside.server_numbers;
+        inbox = c.self.inside.inbox;
+        counts = c.self.inside.counts;
+      }) c.self.inside.paces.items (jobs_in c.self.inside.limits.jobs c.self.inside.given
+      c.self.inside.jobs.items) c.self.inside.clock c.self.inside.rx c.self.inside.store
+      c.self.invariant.0 c.args.head.now c.in-Some.front.now front c.requires.asks.asking here g.V.Service.mode_of
+      c.args.i c.on_packet-step.new.self c.on_packet-step.ensures.clients
+      c.on_packet-step.ensures.size c.on_packet-step.ensures.places c.drop_front.new.self
+      c.drop_front.ensures c.jobs_full-full.result full served place peer few g.R.Recorder.log c.args.rec.now c.on_packet-step.new.rec g.V.Service.answer
+      (g.V.Service.stands c.args.service.now) (g.V.Service.stands c.on_packet-step.new.service)
+      c.in-Took.reply p p.reply (λ was st. subst (λ z. g.V.Service.stands z was) (sym
+      c.in-Took.ensures.service) st));
+  served = let served = rw (← c.self.view_is) at c.requires.asks.serving.served in
+      let p = c.on_packet-step.ensures.handles in
+      served-then g.V.Service.mode_of _ _ c.args.i p.server p.later served p.place p.changed
+      c.on_packet-step.ensures.all_served;
+  ring = rw (← c.self.view_is) (ring-left c.self.inside.rx c.drop_front.new.self c.drop_front.ensures);
+  clients = search rules;
+  handed = search rules;
+}
+
+pub invariant_of-self-in-Again : goal.invariant_of-self-in-Again
+invariant_of-self-in-Again g c =
+    let front = rw (← c.self.view_is) at c.requires.asks.front in
+    let here = sym c.front.ensures ∙ ap option_copied c.in-Some.is in
+    let full = rw (← c.self.view_is) at c.jobs_full-full.ensures in
+    let served = rw (← c.self.view_is) at c.requires.asks.serving.served in
+    let place = rw (← c.self.view_is) at c.requires.place in
+    let peer = rw (← c.self.view_is) at c.requires.peer in
+    let few = rw (← c.self.view_is) at c.requires.asks.room in
+    let asked = c.body-asked.ensures ∙ ap body_of c.bytes.ensures.bytes in
+    let p = as-asked _ _ _ _ _ _ _ _ _ _ _ _ _ _ _ _ asked c.in-Again.ensures.handles in (
+      fits-again c.self.inside.me c.self.inside.limits (record {
+        asked = c.self.inside.asked;
+        server_numbers = c.self.inside.server_numbers;
+        inbox = c.self.inside.inbox;
+        counts = c.self.inside.counts;
+      }) c.self.inside.paces.items (jobs_in c.self.inside.limits.jobs c.self.inside.given
+          c.self.inside.jobs.items) c.self.inside.clock c.self.inside.rx c.self.inside.store
+          c.self.invariant.0 c.args.head.now c.in-Some.front.now front c.requires.asks.asking here g.V.Service.mode_of
+          c.args.i c.on_packet-step.new.self c.on_packet-step.ensures.clients
+          c.on_packet-step.ensures.size c.on_packet-step.ensures.places c.drop_front.new.self
+          c.drop_front.ensures c.jobs_full-full.result full served place peer few g.R.Recorder.log c.args.rec.now c.on_packet-step.new.rec g.V.Service.answer
+          (g.V.Service.stands c.args.service.now) (g.V.Service.stands c.on_packet-step.new.service)
+          c.in-Again.reply p p.reply.0 p.reply.1,
+      c.self.invariant.1,
+      rw c.on_packet-step.ensures.clients c.self.invariant.2,
+    )
+
+pub returns-in-Again : goal.returns-in-Again
+returns-in-Again g c = record {
+  serves = let front = rw (← c.self.view_is) at c.requires.asks.front in
+      let here = sym c.front.ensures ∙ ap option_copied c.in-Some.is in
+      let full = rw (← c.self.view_is) at c.jobs_full-full.ensures in
+      let served = rw (← c.self.view_is) at c.requires.asks.serving.served in
+      let place = rw (← c.self.view_is) at c.requires.place in
+      let peer = rw (← c.self.view_is) at c.requires.peer in
+      let few = rw (← c.self.view_is) at c.requires.asks.room in
+      let asked = c.body-asked.ensures ∙ ap body_of c.bytes.ensures.bytes in
+      let p = as-asked _ _ _ _ _ _ _ _ _ _ _ _ _ _ _ _ asked c.in-Again.ensures.handles in
+      rw (← c.self.view_is) (node-again c.self.inside.me c.self.inside.limits (record {
+        asked = c.self.inside.asked;
+        server_numbers = c.self.inside.server_numbers;
+        inbox = c.self.inside.inbox;
+        counts = c.self.inside.counts;
+      }) c.self.inside.paces.items (jobs_in c.self.inside.limits.jobs c.self.inside.given
+      c.self.inside.jobs.items) c.self.inside.clock c.self.inside.rx c.self.inside.store
+      c.self.invariant.0 c.args.head.now c.in-Some.front.now front c.requires.asks.asking here g.V.Service.mode_of
+      c.args.i c.on_packet-step.new.self c.on_packet-step.ensures.clients
+      c.on_packet-step.ensures.size c.on_packet-step.ensures.places c.drop_front.new.self
+      c.drop_front.ensures c.jobs_full-full.result full served place peer few g.R.Recorder.log c.args.rec.now c.on_packet-step.new.rec g.V.Service.answer
+      (g.V.Service.stands c.args.service.now) (g.V.Service.stands c.on_packet-step.new.service)
+      c.in-Again.reply p p.reply.0 p.reply.1 (λ was st. subst (λ z. g.V.Service.stands z was) (sym
+      c.in-Again.ensures.service) st));
+  served = let served = rw (← c.self.view_is) at c.requires.asks.serving.served in
+      let p = c.on_packet-step.ensures.handles in
+      served-then g.V.Service.mode_of _ _ c.args.i p.server p.later served p.place p.changed
+      c.on_packet-step.ensures.all_served;
+  ring = rw (← c.self.view_is) (ring-left c.self.inside.rx c.drop_front.new.self c.drop_front.ensures);
+  clients = search rules;
+  handed = search rules;
+}
+
+pub invariant_of-self-in-Ran : goal.invariant_of-self-in-Ran
+invariant_of-self-in-Ran g c =
+    let front = rw (← c.self.view_is) at c.requires.asks.front in
+    let here = sym c.front.ensures ∙ ap option_copied c.in-Some.is in
+    let full = rw (← c.self.view_is) at c.jobs_full-full.ensures in
+    let served = rw (← c.self.view_is) at c.requires.asks.serving.served in
+    let place = rw (← c.self.view_is) at c.requires.place in
+    let peer = rw (← c.self.view_is) at c.requires.peer in
+    let few = rw (← c.self.view_is) at c.requires.asks.room in
+    let asked = c.body-asked.ensures ∙ ap body_of c.bytes.ensures.bytes in
+    let p = as-asked _ _ _ _ _ _ _ _ _ _ _ _ _ _ _ _ asked c.in-Ran.ensures.handles in (
+      fits-ran c.self.inside.me c.self.inside.limits (record {
+        asked = c.self.inside.asked;
+        server_numbers = c.self.inside.server_numbers;
+        inbox = c.self.inside.inbox;
+        counts = c.self.inside.counts;
+      }) c.self.inside.paces.items (jobs_in c.self.inside.limits.jobs c.self.inside.given
+          c.self.inside.jobs.items) c.self.inside.clock c.self.inside.rx c.self.inside.store
+          c.self.invariant.0 c.args.head.now c.in-Some.front.now front c.requires.asks.asking here g.V.Service.mode_of
+          c.args.i c.on_packet-step.new.self c.on_packet-step.ensures.clients
+          c.on_packet-step.ensures.size c.on_packet-step.ensures.places c.drop_front.new.self
+          c.drop_front.ensures c.jobs_full-full.result full served place peer few g.R.Recorder.log c.args.rec.now c.on_packet-step.new.rec g.V.Service.answer
+          (g.V.Service.stands c.args.service.now) (g.V.Service.stands c.on_packet-step.new.service)
+          c.in-Ran.reply p p.reply.0 p.reply.1 c.saturating_add-self-inside.result
+          c.saturating_add-self-inside.ensures,
+      c.self.invariant.1,
+      rw c.on_packet-step.ensures.clients c.self.invariant.2,
+    )
+
+pub returns-in-Ran : goal.returns-in-Ran
+returns-in-Ran g c = record {
+  serves = let front = rw (← c.self.view_is) at c.requires.asks.front in
+      let here = sym c.front.ensures ∙ ap option_copied c.in-Some.is in
+      let full = rw (← c.self.view_is) at c.jobs_full-full.ensures in
+      let served = rw (← c.self.view_is) at c.requires.asks.serving.served in
+      let place = rw (← c.self.view_is) at c.requires.place in
+      let peer = rw (← c.self.view_is) at c.requires.peer in
+      let few = rw (← c.self.view_is) at c.requires.asks.room in
+      let asked = c.body-asked.ensures ∙ ap body_of c.bytes.ensures.bytes in
+      let p = as-asked _ _ _ _ _ _ _ _ _ _ _ _ _ _ _ _ asked c.in-Ran.ensures.handles in
+      rw (← c.self.view_is) (node-ran c.self.inside.me c.self.inside.limits (record {
+        asked = c.self.inside.asked;
+        server_numbers = c.self.inside.server_numbers;
+        inbox = c.self.inside.inbox;
+        counts = c.self.inside.counts;
+      }) c.self.inside.paces.items (jobs_in c.self.inside.limits.jobs c.self.inside.given
+      c.self.inside.jobs.items) c.self.inside.clock c.self.inside.rx c.self.inside.store
+      c.self.invariant.0 c.args.head.now c.in-Some.front.now front c.requires.asks.asking here g.V.Service.mode_of
+      c.args.i c.on_packet-step.new.self c.on_packet-step.ensures.clients
+      c.on_packet-step.ensures.size c.on_packet-step.ensures.places c.drop_front.new.self
+      c.drop_front.ensures c.jobs_full-full.result full served place peer few g.R.Recorder.log c.args.rec.now c.on_packet-step.new.rec g.V.Service.answer
+      (g.V.Service.stands c.args.service.now) (g.V.Service.stands c.on_packet-step.new.service)
+      c.in-Ran.reply p p.reply.0 p.reply.1 c.saturating_add-self-inside.result
+      c.saturating_add-self-inside.ensures);
+  served = let served = rw (← c.self.view_is) at c.requires.asks.serving.served in
+      let p = c.on_packet-step.ensures.handles in
+      served-then g.V.Service.mode_of _ _ c.args.i p.server p.later served p.place p.changed
+      c.on_packet-step.ensures.all_served;
+  ring = rw (← c.self.view_is) (ring-left c.self.inside.rx c.drop_front.new.self c.drop_front.ensures);
+  clients = search rules;
+  handed = search rules;
+}
+
+pub invariant_of-self-in-Dropped : goal.invariant_of-self-in-Dropped
+invariant_of-self-in-Dropped g c =
+    let front = rw (← c.self.view_is) at c.requires.asks.front in
+    let here = sym c.front.ensures ∙ ap option_copied c.in-Some.is in
+    let full = rw (← c.self.view_is) at c.jobs_full-full.ensures in
+    let served = rw (← c.self.view_is) at c.requires.asks.serving.served in
+    let place = rw (← c.self.view_is) at c.requires.place in
+    let peer = rw (← c.self.view_is) at c.requires.peer in
+    let few = rw (← c.self.view_is) at c.requires.asks.room in
+    let asked = c.body-asked.ensures ∙ ap body_of c.bytes.ensures.bytes in
+    let p = as-asked _ _ _ _ _ _ _ _ _ _ _ _ _ _ _ _ asked c.in-Dropped.ensures.handles in (
+      fits-drop c.self.inside.me c.self.inside.limits (record {
+        asked = c.self.inside.asked;
+        server_numbers = c.self.inside.server_numbers;
+        inbox = c.self.inside.inbox;
+        counts = c.self.inside.counts;
+      }) c.self.inside.paces.items (jobs_in c.self.inside.limits.jobs c.self.inside.given
+          c.self.inside.jobs.items) c.self.inside.clock c.self.inside.rx c.self.inside.store
+          c.self.invariant.0 c.args.head.now c.in-Some.front.now front c.requires.asks.asking here g.V.Service.mode_of
+          c.args.i c.on_packet-step.new.self c.on_packet-step.ensures.clients
+          c.on_packet-step.ensures.size c.on_packet-step.ensures.places c.drop_front.new.self
+          c.drop_front.ensures c.jobs_full-full.result full served place peer few g.R.Recorder.log c.args.rec.now c.on_packet-step.new.rec g.V.Service.answer
+          (g.V.Service.stands c.args.service.now) (g.V.Service.stands c.on_packet-step.new.service)
+          c.in-Dropped.field-0 p c.saturating_add-self-inside-in-Dropped.result
+          c.saturating_add-self-inside-in-Dropped.ensures,
+      c.self.invariant.1,
+      rw c.on_packet-step.ensures.clients c.self.invariant.2,
+    )
+
+pub returns-in-Dropped : goal.returns-in-Dropped
+returns-in-Dropped g c = record {
+  serves = let front = rw (← c.self.view_is) at c.requires.asks.front in
+      let here = sym c.front.ensures ∙ ap option_copied c.in-Some.is in
+      let full = rw (← c.self.view_is) at c.jobs_full-full.ensures in
+      let served = rw (← c.self.view_is) at c.requires.asks.serving.served in
+      let place = rw (← c.self.view_is) at c.requires.place in
+      let peer = rw (← c.self.view_is) at c.requires.peer in
+      let few = rw (← c.self.view_is) at c.requires.asks.room in
+      let asked = c.body-asked.ensures ∙ ap body_of c.bytes.ensures.bytes in
+      let p = as-asked _ _ _ _ _ _ _ _ _ _ _ _ _ _ _ _ asked c.in-Dropped.ensures.handles in
+      rw (← c.self.view_is) (node-drop c.self.inside.me c.self.inside.limits (record {
+        asked = c.self.inside.asked;
+        server_numbers = c.self.inside.server_numbers;
+        inbox = c.self.inside.inbox;
+        counts = c.self.inside.counts;
+      }) c.self.inside.paces.items (jobs_in c.self.inside.limits.jobs c.self.inside.given
+      c.self.inside.jobs.items) c.self.inside.clock c.self.inside.rx c.self.inside.store
+      c.self.invariant.0 c.args.head.now c.in-Some.front.now front c.requires.asks.asking here g.V.Service.mode_of
+      c.args.i c.on_packet-step.new.self c.on_packet-step.ensures.clients
+      c.on_packet-step.ensures.size c.on_packet-step.ensures.places c.drop_front.new.self
+      c.drop_front.ensures c.jobs_full-full.result full served place peer few g.R.Recorder.log c.args.rec.now c.on_packet-step.new.rec g.V.Service.answer
+      (g.V.Service.stands c.args.service.now) (g.V.Service.stands c.on_packet-step.new.service)
+      c.in-Dropped.field-0 p c.saturating_add-self-inside-in-Dropped.result
+      c.saturating_add-self-inside-in-Dropped.ensures (λ was st. subst (λ z. g.V.Service.stands z
+      was) (sym c.in-Dropped.ensures.service) st));
+  served = let served = rw (← c.self.view_is) at c.requires.asks.serving.served in
+      let p = c.on_packet-step.ensures.handles in
+      served-then g.V.Service.mode_of _ _ c.args.i p.server p.later served p.place p.changed
+      c.on_packet-step.ensures.all_served;
+  ring = rw (← c.self.view_is) (ring-left c.self.inside.rx c.drop_front.new.self c.drop_front.ensures);
+  clients = search rules;
+  handed = search rules;
+}
+
+pub invariant_of-self-in-Give : goal.invariant_of-self-in-Give
+invariant_of-self-in-Give g c =
+    let front = rw (← c.self.view_is) at c.requires.asks.front in
+    let here = sym c.front.ensures ∙ ap option_copied c.in-Some.is in
+    let full = rw (← c.self.view_is) at c.jobs_full-full.ensures in
+    let served = rw (← c.self.view_is) at c.requires.asks.serving.served in
+    let place = rw (← c.self.view_is) at c.requires.place in
+    let peer = rw (← c.self.view_is) at c.requires.peer in
+    let few = rw (← c.self.view_is) at c.requires.asks.room in
+    let asked = c.body-asked.ensures ∙ ap body_of c.bytes.ensures.bytes in
+    let p = as-asked _ _ _ _ _ _ _ _ _ _ _ _ _ _ _ _ asked c.in-Give.ensures.handles in (
+      fits-give c.self.inside.me c.self.inside.limits (record {
+        asked = c.self.inside.asked;
+        server_numbers = c.self.inside.server_numbers;
+        inbox = c.self.inside.inbox;
+        counts = c.self.inside.counts;
+      }) c.self.inside.paces.items (jobs_in c.self.inside.limits.jobs c.self.inside.given
+          c.self.inside.jobs.items) c.self.inside.clock c.self.inside.rx c.self.inside.store
+          c.self.invariant.0 c.args.head.now c.in-Some.front.now front c.requires.asks.asking here g.V.Service.mode_of
+          c.args.i c.on_packet-step.new.self c.on_packet-step.ensures.clients
+          c.on_packet-step.ensures.size c.on_packet-step.ensures.places c.drop_front.new.self
+          c.drop_front.ensures c.jobs_full-full.result full served place peer few g.R.Recorder.log c.args.rec.now c.on_packet-step.new.rec g.V.Service.answer
+          (g.V.Service.stands c.args.service.now) (g.V.Service.stands c.on_packet-step.new.service)
+          c.in-Give.parcel p c.saturating_add-self-inside-in-Give.result
+          c.saturating_add-self-inside-in-Give.ensures (jobs_in c.self.inside.limits.jobs
+          (c.self.inside.given + 1) c.push_back_reserved.new.self.items) refl (named
+          c.self.inside.limits.jobs c.self.inside.given c.self.inside.jobs.items _ c.in-Give.parcel
+          refl refl refl _ c.push_back_reserved.ensures.items) (λ asks own. asking-one
+          c.self.inside.limits.jobs c.self.inside.given c.self.inside.jobs.items _ c.in-Give.parcel
+          refl refl refl asks _ c.push_back_reserved.ensures.items own),
+      rw
+          c.push_back_reserved.ensures.capacity c.self.invariant.1,
+      rw c.on_packet-step.ensures.clients c.self.invariant.2,
+    )
+
+pub returns-in-Give : goal.returns-in-Give
+returns-in-Give g c = record {
+  serves = let front = rw (← c.self.view_is) at c.requires.asks.front in
+      let here = sym c.front.ensures ∙ ap option_copied c.in-Some.is in
+      let full = rw (← c.self.view_is) at c.jobs_full-full.ensures in
+      let served = rw (← c.self.view_is) at c.requires.asks.serving.served in
+      let place = rw (← c.self.view_is) at c.requires.place in
+      let peer = rw (← c.self.view_is) at c.requires.peer in
+      let few = rw (← c.self.view_is) at c.requires.asks.room in
+      let asked = c.body-asked.ensures ∙ ap body_of c.bytes.ensures.bytes in
+      let p = as-asked _ _ _ _ _ _ _ _ _ _ _ _ _ _ _ _ asked c.in-Give.ensures.handles in
+      rw (← c.self.view_is) (node-give c.self.inside.me c.self.inside.limits (record {
+        asked = c.self.inside.asked;
+        server_numbers = c.self.inside.server_numbers;
+        inbox = c.self.inside.inbox;
+        counts = c.self.inside.counts;
+      }) c.self.inside.paces.items (jobs_in c.self.inside.limits.jobs c.self.inside.given
+      c.self.inside.jobs.items) c.self.inside.clock c.self.inside.rx c.self.inside.store
+      c.self.invariant.0 c.args.head.now c.in-Some.front.now front c.requires.asks.asking here g.V.Service.mode_of
+      c.args.i c.on_packet-step.new.self c.on_packet-step.ensures.clients
+      c.on_packet-step.ensures.size c.on_packet-step.ensures.places c.drop_front.new.self
+      c.drop_front.ensures c.jobs_full-full.result full served place peer few g.R.Recorder.log c.args.rec.now c.on_packet-step.new.rec g.V.Service.answer
+      (g.V.Service.stands c.args.service.now) (g.V.Service.stands c.on_packet-step.new.service)
+      c.in-Give.parcel p c.saturating_add-self-inside-in-Give.result
+      c.saturating_add-self-inside-in-Give.ensures (jobs_in c.self.inside.limits.jobs
+      (c.self.inside.given + 1) c.push_back_reserved.new.self.items) refl (named
+      c.self.inside.limits.jobs c.self.inside.given c.self.inside.jobs.items _ c.in-Give.parcel
+      refl refl refl _ c.push_back_reserved.ensures.items) (λ asks own. asking-one
+      c.self.inside.limits.jobs c.self.inside.given c.self.inside.jobs.items _ c.in-Give.parcel
+      refl refl refl asks _ c.push_back_reserved.ensures.items own) refl (λ was st. subst (λ z.
+      g.V.Service.stands z was) (sym c.in-Give.ensures.service) st));
+  served = let served = rw (← c.self.view_is) at c.requires.asks.serving.served in
+      let p = c.on_packet-step.ensures.handles in
+      served-then g.V.Service.mode_of _ _ c.args.i p.server p.later served p.place p.changed
+      c.on_packet-step.ensures.all_served;
+  ring = rw (← c.self.view_is) (ring-left c.self.inside.rx c.drop_front.new.self c.drop_front.ensures);
+  clients = search rules;
+  handed = search rules;
+}
+
+pub overflow_add-self : goal.overflow_add-self
+overflow_add-self g c =
+    let front = rw (← c.self.view_is) at c.requires.asks.front in
+    let here = sym c.front.ensures ∙ ap option_copied c.in-Some.is in
+    let full = rw (← c.self.view_is) at c.jobs_full-full.ensures in
+    let served = rw (← c.self.view_is) at c.requires.asks.serving.served in
+    let place = rw (← c.self.view_is) at c.requires.place in
+    let peer = rw (← c.self.view_is) at c.requires.peer in
+    let few = rw (← c.self.view_is) at c.requires.asks.room in
+    let asked = c.body-asked.ensures ∙ ap body_of c.bytes.ensures.bytes in
+    let p = as-asked _ _ _ _ _ _ _ _ _ _ _ _ _ _ _ _ asked c.in-Give.ensures.handles in
+    let none = unfull-of c.self.inside.me c.self.inside.limits (record {
+      asked = c.self.inside.asked;
+      server_numbers = c.self.inside.server_numbers;
+      inbox = c.self.inside.inbox;
+      counts = c.self.inside.counts;
+    }) c.self.inside.paces.items (jobs_in c.self.inside.limits.jobs c.self.inside.given
+    c.self.inside.jobs.items) c.self.inside.clock c.self.inside.rx c.self.inside.store
+    c.self.invariant.0 c.args.head.now c.in-Some.front.now front c.requires.asks.asking here g.V.Service.mode_of
+    c.args.i c.on_packet-step.new.self c.on_packet-step.ensures.clients
+    c.on_packet-step.ensures.size c.on_packet-step.ensures.places c.drop_front.new.self
+    c.drop_front.ensures c.jobs_full-full.result full served place peer few g.R.Recorder.log c.args.rec.now c.on_packet-step.new.rec g.V.Service.answer
+    (g.V.Service.stands c.args.service.now) (g.V.Service.stands c.on_packet-step.new.service)
+    c.in-Give.parcel p in
+    let room = has-job-room c.self.inside.limits.jobs c.self.inside.given _
+    c.self.inside.jobs.items c.jobs_full-full.result full none c.self.invariant.1 in
+    omega (arith, room.1)
+
+pub push_back_reserved-requires : goal.push_back_reserved-requires
+push_back_reserved-requires g c =
+    let front = rw (← c.self.view_is) at c.requires.asks.front in
+    let here = sym c.front.ensures ∙ ap option_copied c.in-Some.is in
+    let full = rw (← c.self.view_is) at c.jobs_full-full.ensures in
+    let served = rw (← c.self.view_is) at c.requires.asks.serving.served in
+    let place = rw (← c.self.view_is) at c.requires.place in
+    let peer = rw (← c.self.view_is) at c.requires.peer in
+    let few = rw (← c.self.view_is) at c.requires.asks.room in
+    let asked = c.body-asked.ensures ∙ ap body_of c.bytes.ensures.bytes in
+    let p = as-asked _ _ _ _ _ _ _ _ _ _ _ _ _ _ _ _ asked c.in-Give.ensures.handles in
+    let none = unfull-of c.self.inside.me c.self.inside.limits (record {
+      asked = c.self.inside.asked;
+      server_numbers = c.self.inside.server_numbers;
+      inbox = c.self.inside.inbox;
+      counts = c.self.inside.counts;
+    }) c.self.inside.paces.items (jobs_in c.self.inside.limits.jobs c.self.inside.given
+    c.self.inside.jobs.items) c.self.inside.clock c.self.inside.rx c.self.inside.store
+    c.self.invariant.0 c.args.head.now c.in-Some.front.now front c.requires.asks.asking here g.V.Service.mode_of
+    c.args.i c.on_packet-step.new.self c.on_packet-step.ensures.clients
+    c.on_packet-step.ensures.size c.on_packet-step.ensures.places c.drop_front.new.self
+    c.drop_front.ensures c.jobs_full-full.result full served place peer few g.R.Recorder.log c.args.rec.now c.on_packet-step.new.rec g.V.Service.answer
+    (g.V.Service.stands c.args.service.now) (g.V.Service.stands c.on_packet-step.new.service)
+    c.in-Give.parcel p in
+    let room = has-job-room c.self.inside.limits.jobs c.self.inside.given _
+    c.self.inside.jobs.items c.jobs_full-full.result full none c.self.invariant.1 in
+    omega (arith, room.0, c.self.inside.jobs.ok.0)

@@ -1,0 +1,20 @@
+use Rattle.std.proofs.Common.{◌≡◌, ◌≤◌, ◌<◌, length, sym, ◌∙◌}
+use Rattle.endpoint_node.proofs.ControlEnds.{own-found, own-missing}
+use Rattle.endpoint_node.proofs.node.Node.own_end.Goals as goal
+
+pub returns-then-clients-i : goal.returns-then-clients-i
+returns-then-clients-i c =
+    let past : length c.self.inside.store.clients ≤ c.from-i.result =
+    rw c.clients.ensures.count at c.if-clients-i.true in
+    let number : c.args.session ≡ c.from-i.result = sym (c.from-i.ensures ∙ c.session.view_is) in
+    rw (← c.self.view_is) (own-missing c.self.inside.store.clients
+    c.self.invariant.0.kept.valid.numbered c.from-i.result c.args.session number past)
+
+pub returns : goal.returns
+returns c =
+    let within : c.from-i.result < length c.self.inside.store.clients =
+    rw c.clients.ensures.count at c.if-clients-i.false in
+    let number : c.args.session ≡ c.from-i.result = sym (c.from-i.ensures ∙ c.session.view_is) in
+    rw (← c.self.view_is) (own-found c.self.inside.store.clients
+    c.self.invariant.0.kept.valid.numbered c.from-i.result c.args.session number
+    c.end_of_client-end.result c.state.result within c.end_of_client-end.ensures c.state.ensures)

@@ -1,0 +1,15 @@
+use Rattle.endpoint_node.proofs.NoteSteps.{makes-more, makes-none, notes-one}
+use Rattle.endpoint_node.proofs.LeavesSteps.{leaves-none, leaves-then}
+use Rattle.endpoint_node.proofs.node.Node.post_all.Goals as goal
+
+pub packets-init : goal.packets-init
+packets-init g c = (makes-none g.R.Recorder.log _ _ _, leaves-none _)
+
+pub packets-preserved : goal.packets-preserved
+packets-preserved g c =
+    let i = c.packets.invariant in
+    let h = c.post_next.ensures in (
+      makes-more g.R.Recorder.log _ _ _ _ _ _ _ i.0
+          (notes-one g.R.Recorder.log _ _ _ _ _ _ c.packets-test.true h.notes),
+      leaves-then _ _ _ i.1 h.rest,
+    )

@@ -1,0 +1,16 @@
+use Rattle.endpoint_node.specs.Measures.{free_at}
+use Rattle.endpoint_node.specs.Notes.{Makes}
+use Rattle.rpc_laws.specs.Posting.{next_posted}
+use Rattle.rpc_laws.specs.Steps.{Chain, NotesNext}
+use Rattle.endpoint_node.specs.Handed.{timed_of}
+use Rattle.endpoint_node.specs.Leaves.{LeavesServing}
+use Rattle.endpoint_node.proofs.node.Node.post_all.Given as goal
+
+abbrev pub invariant-packets : goal.invariant-packets
+invariant-packets g l =
+    Makes g.R.Recorder.log (Chain (NotesNext (next_posted l.i))) (timed_of l.initial.self)
+    (timed_of l.self) l.initial.rec l.rec
+    × LeavesServing l.initial.self l.self
+
+abbrev pub decreases-packets : goal.decreases-packets
+decreases-packets g l = free_at l.i l.self.lists.clients

@@ -1,0 +1,17 @@
+use Rattle.std.proofs.Common.{◌≤◌, ◌-◌}
+use Rattle.endpoint_node.specs.Notes.{Makes}
+use Rattle.rpc_laws.specs.PollOrder.{Serves}
+use Rattle.rpc_laws.specs.Steps.{Visits}
+use Rattle.endpoint_node.specs.Handed.{timed_of}
+use Rattle.endpoint_node.specs.Leaves.{LeavesServing}
+use Rattle.endpoint_node.proofs.node.Node.post_sessions.Given as goal
+
+abbrev pub invariant-sessions : goal.invariant-sessions
+invariant-sessions g l =
+    Makes g.R.Recorder.log (Visits Serves l.from) (timed_of l.initial.self) (timed_of l.self)
+    l.initial.rec l.rec
+    × LeavesServing l.initial.self l.self
+    × (l.from ≤ l.count)
+
+abbrev pub decreases-sessions : goal.decreases-sessions
+decreases-sessions g l = l.count - l.from

@@ -1,0 +1,17 @@
+use Rattle.std.proofs.Common.{length}
+use Rattle.endpoint_node.specs.Notes.{MakesEnds}
+use Rattle.endpoint_node.specs.Timers.{calls_at}
+use Rattle.endpoint_node.proofs.TimerCalls.{Known, Walked, still}
+use Rattle.endpoint_node.specs.Handed.{timed_of}
+use Rattle.endpoint_node.specs.Leaves.{LeavesTimed}
+use Rattle.endpoint_node.proofs.node.Node.watch_calls.Given as goal
+
+abbrev pub invariant-calls : goal.invariant-calls
+invariant-calls g l =
+    MakesEnds g.R.Recorder.log g.K.Continuation.given
+    (Walked l.timeout l.i l.after) (timed_of l.initial.self) (timed_of l.self) l.initial.rec l.rec l.initial.k l.k
+    × Known l.i (timed_of l.initial.self) (timed_of l.self)
+    × LeavesTimed g.K.Continuation.given l.initial.self l.self l.initial.k l.k
+
+abbrev pub decreases-calls : goal.decreases-calls
+decreases-calls g l = length (still l.after (calls_at l.i (timed_of l.initial.self)))

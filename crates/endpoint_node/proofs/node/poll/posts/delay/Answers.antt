@@ -1,0 +1,20 @@
+use Rattle.session_store.proofs.ListLemmas.{get-there, set-own}
+use Rattle.endpoint_node.proofs.PostPaces.{changed-paced, no-rate, some-rate}
+use Rattle.std.proofs.Common.{false, true, refl}
+use Rattle.endpoint_node.proofs.node.poll.posts.delay.Goals as goal
+
+pub returns-then-pace-eq0 : goal.returns-then-pace-eq0
+returns-then-pace-eq0 c =
+    let ps = c.args.paces.now.items in
+    let p = c.index_mut-pace.result.now in
+    let at = get-there ps c.args.i p c.requires.pace.known c.index_mut-pace.ensures.value in
+    rw (changed-paced c.args.i ps p c.requires.pace.numbered at _ false (no-rate p c.if-pace-eq0.true))
+    (set-own ps c.args.i p at)
+
+pub returns : goal.returns
+returns c =
+    let ps = c.args.paces.now.items in
+    let p = c.index_mut-pace.result.now in
+    let at = get-there ps c.args.i p c.requires.pace.known c.index_mut-pace.ensures.value in
+    rw (changed-paced c.args.i ps p c.requires.pace.numbered at _ true (some-rate p c.if-pace-eq0.false))
+    (rw (c.saturating_add-pace.ensures, c.max-due.ensures, c.div_ceil.ensures, c.from.ensures) refl)

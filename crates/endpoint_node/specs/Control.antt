@@ -1,0 +1,41 @@
+-- Step 2 of a poll: the control packets of the inbox are handled, and answered.
+use Rattle.std.specs.Prelude.{◌≡◌, ℕ, Bool, true, false, Option, List, ◌∷◌, count_by, Result}
+use Rattle.std.specs.Prelude.{Ok, Err}
+use Rattle.rpc_outside.specs.Recording.{Log}
+use Rattle.packet_header.specs.declared.packet.ControlHeader.{ControlHeader}
+use Rattle.rpc_base.specs.declared.event.Event.TheVariants.{Heard}
+use Rattle.rpc_base.specs.declared.fact.Fact.{Fact}
+use Rattle.rpc_laws.specs.declared.tables.Timed.{Timed}
+use Rattle.rpc_laws.specs.ControlTable.{control_facts, control_reply, control_row}
+use Rattle.rpc_laws.specs.Facts.{plain}
+use Rattle.rpc_laws.specs.Steps.{Rel, Goes}
+use Rattle.rpc_outside.specs.declared.link.Link as Link
+use Rattle.endpoint_node.specs.Counts.{is_handled, is_sent}
+use Rattle.endpoint_node.specs.Notes.{MakesSent}
+use Rattle.endpoint_node.specs.Links.{CountsUnsent, troubles_of}
+use Rattle.endpoint_node.specs.declared.node.poll.control.Listening.{Listening}
+
+-- the front packet of the inbox, which is of this peer and has this header, is handled by the
+-- control rule; the packet that answers it is not yet handed to the link
+pub record Handles (peer : ℕ) (h : ControlHeader) (reply : Option ControlHeader) (s : Timed)
+    (x : List Fact) (t : Timed) : Type 0 where
+  pub lacks : Bool
+  pub facts : x ≡ plain s.lists.me Heard ∷ control_facts s.lists peer h
+      (control_row lacks peer h s.lists)
+  pub answer : reply ≡ control_reply h (control_row lacks peer h s.lists)
+  pub goes : Goes s x t
+
+-- what is told of one packet whose answer was handed to the link
+abbrev pub told_of : {E : Type 0} → Result Bool E → Listening
+told_of (Ok true) = record { heard = 1; sent = 1; failed = false }
+told_of (Ok false) = record { heard = 1; sent = 0; failed = false }
+told_of (Err fault) = record { heard = 1; sent = 0; failed = true }
+
+-- control packets were handled: it is told how many, how many answers were sent, and whether the
+-- link failed; the link, where it tells what it sent, sent exactly the datagrams of the Sent facts
+pub record Listens {R L : Type 0} (log : R → Log) (net : Link.Ghosts L) (P : Rel) (told : Listening)
+    (old new : Timed) (before now : R) (from to : L) : Type 0 where
+  pub sends : MakesSent log net.sent P old new before now from to
+  pub heard : told.heard ≡ count_by (λ f. is_handled f.event) sends.makes.noted
+  pub went : told.sent ≡ count_by (λ f. is_sent f.event) sends.makes.noted
+  pub counts : CountsUnsent sends.makes.noted told.failed (troubles_of net from) (troubles_of net to)

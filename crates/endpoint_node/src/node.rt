@@ -1,0 +1,159 @@
+//! What an endpoint has, beside its service and its workers.
+ghost use Rattle.std.specs.Prelude.{◌≡◌, ◌≤◌, [], IfOk};
+ghost use Rattle.endpoint_node.specs.Handed.{holding};
+ghost use Rattle.rpc_base.specs.Limits.{Fits as InRange};
+ghost use Rattle.rpc_laws.specs.Groups.{shares};
+ghost use Rattle.rpc_laws.specs.NodeLists.{new_node};
+
+mod calls;
+mod delivery;
+mod pairs;
+mod peers;
+mod poll;
+mod rates;
+mod sessions;
+mod status;
+
+use crate::inbox::Inbox;
+use calling_sessions::CallingSessions;
+pub use calls::{AskError, Refused};
+pub use delivery::Delivery;
+use packet_rings::RxRing;
+pub use poll::{Asking, Listening, Sending};
+use rpc_base::{Limits, NoMemory, NodeId, RequestNo, SessionNo};
+use rpc_laws::{Counted, Pace};
+use session_store::Store;
+use std::alloc::Global;
+use std::collections::VecDeque;
+use std::marker::Model;
+
+// The places that the eight calls or requests of a session name, two each.
+const PLACES_OF_SESSION: u32 = 16;
+
+// A job that is out may need so many for its answer.
+const PLACES_OF_JOB: u32 = 2;
+
+/// Whose a job is that was given and isn't finished. Its bytes are with the workers.
+#[derive(Clone, Copy, Debug, PartialEq, Eq)]
+pub struct JobName {
+    pub session: SessionNo,
+    pub request: RequestNo,
+    pub req_type: u8,
+}
+
+/// The lists of a node, with its sessions on one pool and one transmit ring. Contracts see them as
+/// the definitions over histories have them.
+pub struct Node {
+    me: NodeId,
+    limits: Limits,
+    /// How many calls were accepted.
+    asked: u64,
+    /// How many numbers of server sessions were used.
+    server_numbers: u64,
+    counts: Counted,
+    paces: Vec<Pace>,
+    /// How many jobs were given so far.
+    given: u64,
+    /// The jobs that are out, in order of giving.
+    jobs: VecDeque<JobName>,
+    /// In microseconds.
+    clock: u64,
+    rx: RxRing,
+    inbox: Inbox,
+    store: Store,
+    /// Among them is each client session that has calls or a request of its own, so that a poll
+    /// looks at no other.
+    callers: CallingSessions,
+}
+
+// Written by hand, so that whoever lets an endpoint go makes a call, and proves nothing of its
+// parts.
+impl Drop for Node {
+    fn drop(self) {
+        let Node {
+            me: _,
+            limits: _,
+            asked: _,
+            server_numbers: _,
+            counts: _,
+            paces: _paces,
+            given: _,
+            jobs: _jobs,
+            clock: _,
+            rx: _rx,
+            inbox: _inbox,
+            store: _store,
+            callers: _callers,
+        } = self;
+    }
+}
+
+impl Model for Node {
+    ghost use Rattle.endpoint_node.specs.Callers.{Covers};
+    ghost use Rattle.endpoint_node.specs.Fits.{Fits};
+    ghost use Rattle.endpoint_node.specs.Handed.{Holding, holding};
+    ghost use Rattle.endpoint_node.specs.Seen.{jobs_in, seen_node};
+    ghost use Rattle.std.specs.Prelude.{◌≤◌};
+    ghost use Rattle.std.specs.VecDeque.{deque_capacity};
+
+    ghost Value = { Holding };
+
+    ghost view = { λ n. holding n.store.handed (seen_node n.me n.limits (record {
+      asked = n.asked;
+      server_numbers = n.server_numbers;
+      inbox = n.inbox;
+      counts = n.counts;
+    }) n.paces.items (jobs_in n.limits.jobs n.given n.jobs.items) n.clock n.rx
+        n.store) };
+
+    ghost invariant = { λ n. Fits (seen_node n.me n.limits (record {
+      asked = n.asked;
+      server_numbers = n.server_numbers;
+      inbox = n.inbox;
+      counts = n.counts;
+    }) n.paces.items (jobs_in n.limits.jobs n.given n.jobs.items) n.clock n.rx
+        n.store) n.store.size n.store.places
+        × (n.limits.jobs ≤ deque_capacity n.jobs)
+        × Covers n.callers n.store.clients };
+}
+
+impl Node {
+    /// Node `me` with these limits, which are in their ranges. Its lists are empty. `NoMemory`
+    /// comes where there is no memory for its rings, its inbox and its pool.
+    pub fn new(alloc: Global, me: NodeId, limits: Limits) -> Result<Node, NoMemory>
+        requires limits { InRange limits }
+        ensures { IfOk result (λ n. n ≡ holding [] (new_node me limits)) }
+    {
+        let places = PLACES_OF_SESSION * limits.ring + PLACES_OF_JOB * limits.jobs;
+        Ok(Node {
+            me,
+            limits,
+            asked: 0,
+            server_numbers: 0,
+            counts: Counted {
+                ran: 0,
+                given: 0,
+                dropped: 0,
+                overflowed: 0,
+            },
+            paces: Vec::new(alloc),
+            given: 0,
+            jobs: VecDeque::with_capacity(alloc, limits.jobs as usize)?,
+            clock: 0,
+            rx: RxRing::new(alloc, limits.ring)?,
+            inbox: Inbox::new(alloc)?,
+            store: Store::new(alloc, limits.ring, places)?,
+            callers: CallingSessions::new(alloc)?,
+        })
+    }
+
+    // The credits of its live sessions.
+    pub(crate) fn shares(&self) -> u32
+        ensures shares { result ≡ shares self.now.lists }
+        ensures within { result ≤ self.now.lists.room }
+    {
+        self.sound();
+        let _room = self.rx.size();
+        self.store.shares()
+    }
+}

@@ -1,0 +1,198 @@
+//! Sessions that are connected from the start.
+ghost use Rattle.endpoint_node.specs.Wants.{FitsServer, FitsClient};
+ghost use Rattle.endpoint_node.specs.Changes.{◌⟶◌};
+ghost use Rattle.endpoint_node.specs.Opens.{AddsClient, AddsServer, MakesClient, MakesServer};
+ghost use Rattle.node_laws.specs.NodeRun.{IsCredits};
+ghost use Rattle.endpoint_node.specs.Handed.{timed_of};
+ghost use Rattle.std.specs.Prelude.{◌≡◌, ◌<◌, [], None, Some, length, IfErr, IfSome, IsSome, OnOk};
+ghost use Rattle.endpoint_node.specs.Pairs.{PairsClient, PairsServer, Refuses};
+ghost use Rattle.endpoint_node.specs.Notes.{Makes};
+ghost use Rattle.rpc_base.specs.declared.event.Event.TheVariants.{PairedClient, PairedServer};
+ghost use Rattle.rpc_laws.specs.Groups.{refusal_by};
+ghost use Rattle.rpc_laws.specs.Steps.{NotesNext};
+ghost use Rattle.session_mgmt.specs.Refusals.{refused};
+
+use crate::node::Node;
+use rpc_base::{Event, MOST_CREDITS, NoMemory, Peer, SESSION_NUMBERS, SessionNo, Who};
+use rpc_laws::Pace;
+use rpc_outside::Recorder;
+use session_mgmt::ConnectError;
+use std::alloc::Global;
+
+impl Node {
+    // Whether there is room for a session with so many credits, where the numbers of its kind are
+    // spent or not.
+    pub(crate) fn room_for(&self, spent: bool, credits: u16) -> Result<(), ConnectError>
+        requires credits { IsCredits credits }
+        ensures accepted { OnOk result (refusal_by spent credits self.now.lists ≡ None) }
+        ensures refused { IfErr result (λ why. refused why ≡ refusal_by spent credits
+            self.now.lists) }
+        ensures never_memory { IfErr result (λ why. IsSome (refused why)) }
+    {
+        if spent {
+            return Err(ConnectError::NumbersSpent);
+        }
+        let (shares, ring) = (self.shares(), self.rx.size());
+        if u64::from(ring) < u64::from(shares) + u64::from(credits) {
+            return Err(ConnectError::RingFull {
+                shares,
+                credits: u32::from(credits),
+                ring,
+            });
+        }
+        Ok(())
+    }
+
+    // Notes why a session is refused.
+    pub(crate) fn refuse<R: Recorder>(&self, why: &ConnectError, rec: &mut R)
+        requires told { IsSome (refused why.now) }
+        ensures { IfSome (refused why.now)
+            (λ event. Makes R.log (Refuses event) (timed_of self.now) (timed_of self.now)
+            rec.old rec.new) }
+    {
+        let event = match why {
+            ConnectError::NumbersSpent => Event::NconnectNumbers,
+            ConnectError::RingFull {
+                shares,
+                credits,
+                ring,
+            } => {
+                Event::NconnectRing {
+                    shares: *shares,
+                    credits: *credits,
+                    ring: *ring,
+                }
+            }
+            ConnectError::NoMemory => unreachable!(),
+        };
+        rec.note(Who::Node(self.me), event, &[], &[]);
+    }
+
+    // The number of the next client session.
+    pub(crate) fn next_client(&self) -> SessionNo
+        requires few { length self.now.lists.clients < SESSION_NUMBERS }
+        ensures { result ≡ length self.now.lists.clients }
+    {
+        SessionNo(self.store.clients() as u16)
+    }
+
+    // The client end is made, for which the node has room. Want of memory changes nothing.
+    fn add_client<R: Recorder>(
+        &mut self,
+        alloc: Global,
+        peer: Peer,
+        server: SessionNo,
+        credits: u16,
+        rec: &mut R,
+    ) -> Result<(), NoMemory>
+        requires fits { FitsClient credits self.old }
+        requires server { server < SESSION_NUMBERS }
+        ensures { AddsClient R.log (NotesNext (λ s. Some (PairedClient (length s.clients) peer
+            server credits))) result (self.old ⟶ self.new) (rec.old ⟶ rec.new) }
+    {
+        let session = self.next_client();
+        let pace = Pace {
+            session,
+            rate: 0,
+            next: 0,
+        };
+        self.paces.push(pace)?;
+        if let Err(wanting) = self.store.pair_client(alloc, peer, server, credits) {
+            let _pace = self.paces.pop();
+            return Err(wanting);
+        }
+        let event = Event::PairedClient {
+            session,
+            peer,
+            server,
+            credits,
+        };
+        rec.note(Who::Node(self.me), event, &[], &[]);
+        Ok(())
+    }
+
+    // The server end is made, for which the node has room. Want of memory changes nothing.
+    fn add_server<R: Recorder>(
+        &mut self,
+        peer: Peer,
+        client: SessionNo,
+        credits: u16,
+        rec: &mut R,
+    ) -> Result<(), NoMemory>
+        requires fits { FitsServer credits self.old }
+        requires client { client < SESSION_NUMBERS }
+        ensures { AddsServer R.log (NotesNext (λ s. Some (PairedServer s.server_numbers peer client
+            credits))) result (self.old ⟶ self.new) (rec.old ⟶ rec.new) }
+    {
+        let session = SessionNo(self.server_numbers as u16);
+        self.store.pair_server(session, client, peer, credits)?;
+        self.server_numbers += 1;
+        let event = Event::PairedServer {
+            session,
+            peer,
+            client,
+            credits,
+        };
+        rec.note(Who::Node(self.me), event, &[], &[]);
+        Ok(())
+    }
+
+    /// Makes the client end of a session with a peer that is connected from the start, with the
+    /// next number and 1 to 256 credits. The other end has the number `server`. `NumbersSpent`
+    /// comes exactly where 65,535 numbers of client sessions were used, then `RingFull` exactly
+    /// where the credits of the live sessions and these are more than the ring is long; both are
+    /// noted. `NoMemory` is noted nowhere. A refusal makes no session.
+    pub fn pair_client<R: Recorder>(
+        &mut self,
+        alloc: Global,
+        peer: Peer,
+        server: SessionNo,
+        credits: u16,
+        rec: &mut R,
+    ) -> Result<SessionNo, ConnectError>
+        requires server { server < SESSION_NUMBERS }
+        requires credits { IsCredits credits }
+        ensures { MakesClient R.log credits (PairsClient peer server credits) result
+            (self.old ⟶ self.new) (rec.old ⟶ rec.new) }
+    {
+        let spent = usize::from(SESSION_NUMBERS) <= self.store.clients();
+        if let Err(why) = self.room_for(spent, credits) {
+            self.refuse(&why, rec);
+            return Err(why);
+        }
+        let session = self.next_client();
+        match self.add_client(alloc, peer, server, credits, rec) {
+            Ok(()) => Ok(session),
+            Err(_) => Err(ConnectError::NoMemory),
+        }
+    }
+
+    /// Makes the server end of a session with a peer that is connected from the start, with the
+    /// next number and 1 to 256 credits. The other end has the number `client`. `NumbersSpent`
+    /// comes exactly where 65,535 numbers of server sessions were used, then `RingFull` exactly
+    /// where the credits of the live sessions and these are more than the ring is long; both are
+    /// noted. `NoMemory` is noted nowhere. A refusal makes no session.
+    pub fn pair_server<R: Recorder>(
+        &mut self,
+        peer: Peer,
+        client: SessionNo,
+        credits: u16,
+        rec: &mut R,
+    ) -> Result<SessionNo, ConnectError>
+        requires client { client < SESSION_NUMBERS }
+        requires credits { IsCredits credits }
+        ensures { MakesServer R.log credits (PairsServer peer client credits) result
+            (self.old ⟶ self.new) (rec.old ⟶ rec.new) }
+    {
+        let spent = u64::from(SESSION_NUMBERS) <= self.server_numbers;
+        if let Err(why) = self.room_for(spent, credits) {
+            self.refuse(&why, rec);
+            return Err(why);
+        }
+        let session = SessionNo(self.server_numbers as u16);
+        match self.add_server(peer, client, credits, rec) {
+            Ok(()) => Ok(session),
+            Err(_) => Err(ConnectError::NoMemory),
+        }
+    }
+}

@@ -1,0 +1,28 @@
+//! The steps of a poll, a file for each.
+ghost use Rattle.endpoint_node.specs.Handed.{holding, timed_of};
+ghost use Rattle.std.specs.Prelude.{◌≡◌, max};
+ghost use Rattle.rpc_laws.specs.PollOrder.{raised};
+
+mod callers;
+mod close;
+mod control;
+mod jobs;
+mod link;
+mod packets;
+mod posts;
+mod sends;
+mod timers;
+
+use crate::node::Node;
+pub use control::Listening;
+pub use sends::Sending;
+pub use timers::Asking;
+
+impl Node {
+    /// The clock of the node at a poll at the moment `now`, in microseconds. It doesn't fall.
+    pub fn raise_clock(&mut self, now: u64)
+        ensures { self.new ≡ holding self.old.handed (raised now (timed_of self.old)) }
+    {
+        self.clock = self.clock.max(now);
+    }
+}

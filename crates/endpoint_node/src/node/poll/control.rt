@@ -1,0 +1,124 @@
+//! Step 2 of a poll: the control packets of the inbox are handled, and answered.
+ghost use Rattle.endpoint_node.specs.Steps.{LeavesControl, StepsHeard};
+ghost use Rattle.endpoint_node.specs.Changes.{◌⟶◌};
+ghost use Rattle.std.specs.Prelude.{◌≡◌, ◌≢◌, ◌≤◌, [], drop, length, IfSome};
+ghost use Rattle.endpoint_node.specs.Handed.{timed_of};
+ghost use Rattle.endpoint_node.specs.Inbox.{IsFront};
+ghost use Rattle.endpoint_node.specs.Control.{Handles, told_of};
+ghost use Rattle.endpoint_node.specs.Notes.{Makes};
+ghost use Rattle.packet_header.specs.Header.{ControlInRange};
+ghost use Rattle.rpc_laws.specs.ControlSteps.{Hears, HearsAll};
+ghost use Rattle.rpc_laws.specs.Deliveries.{inbox_room};
+
+mod removal;
+mod replies;
+mod requests;
+mod rows;
+
+use crate::inbox::Heard;
+use crate::node::Node;
+use crate::node::poll::link::speak;
+use packet_header::ControlHeader;
+use rpc_base::{Event, Who};
+use rpc_outside::{Failed, Link, Recorder};
+
+/// What came of the control packets of an inbox.
+#[derive(Clone, Copy, Debug, PartialEq, Eq)]
+pub struct Listening {
+    /// How many were handled.
+    pub heard: u32,
+    /// How many packets were sent in answer.
+    pub sent: u32,
+    /// Whether the link failed.
+    pub failed: bool,
+}
+
+// What is told of one packet whose answer was handed to the link.
+fn told_of(went: Result<bool, Failed>) -> Listening
+    ensures { result ≡ told_of went }
+{
+    match went {
+        Ok(taken) => {
+            Listening {
+                heard: 1,
+                sent: u32::from(taken),
+                failed: false,
+            }
+        }
+        Err(_) => {
+            Listening {
+                heard: 1,
+                sent: 0,
+                failed: true,
+            }
+        }
+    }
+}
+
+impl Node {
+    // The packet in front of the inbox, which is given, is taken out and handled by the control
+    // table. The result is the packet that answers it, where there is one.
+    fn handle_control<R: Recorder>(&mut self, packet: &Heard, rec: &mut R) -> Option<ControlHeader>
+        requires front { IsFront self.old.lists.inbox packet.now }
+        requires in_range { ControlInRange packet.now.head }
+        ensures handles { Makes R.log (Handles packet.now.peer packet.now.head result)
+            (timed_of self.old) (timed_of self.new) rec.old rec.new }
+        ensures in_range { IfSome result (λ r. ControlInRange r) }
+        ensures inbox { self.new.lists.inbox ≡ drop 1 self.old.lists.inbox }
+        ensures rest { LeavesControl self.old self.new }
+    {
+        rec.note(Who::Node(self.me), Event::Heard, &[], &[]);
+        self.inbox.drop_front();
+        self.on_control(packet.peer, &packet.head, rec)
+    }
+
+    // The packet in front of the inbox is handled, and its answer is handed to the link at once.
+    fn hear_control<L: Link, R: Recorder>(&mut self, link: &mut L, rec: &mut R) -> Listening
+        requires some { self.old.lists.inbox ≢ [] }
+        ensures step { StepsHeard R.log L.Link Hears result (self.old ⟶ self.new)
+            (rec.old ⟶ rec.new) (link.old ⟶ link.new) }
+        ensures one { result.heard ≡ 1 }
+        ensures few { result.sent ≤ 1 }
+        ensures inbox { self.new.lists.inbox ≡ drop 1 self.old.lists.inbox }
+    {
+        let Some(packet) = self.inbox.front() else {
+            unreachable!()
+        };
+        match self.handle_control(&packet, rec) {
+            None => {
+                Listening {
+                    heard: 1,
+                    sent: 0,
+                    failed: false,
+                }
+            }
+            Some(answer) => told_of(speak(self.me, packet.peer, &answer, link, rec)),
+        }
+    }
+
+    /// Step 2 of a poll: the control packets of the inbox are handled in order of arrival. Each
+    /// answer is handed to the link at once: it is noted as Sent where the link took it, and
+    /// otherwise as Unsent. A busy link, or a fault of the link, doesn't stop it.
+    pub fn hear_all<L: Link, R: Recorder>(&mut self, link: &mut L, rec: &mut R) -> Listening
+        ensures step { StepsHeard R.log L.Link HearsAll result (self.old ⟶ self.new)
+            (rec.old ⟶ rec.new) (link.old ⟶ link.new) }
+        ensures heard { result.heard ≡ length self.old.lists.inbox }
+        ensures few { result.heard ≤ inbox_room }
+        ensures sent { result.sent ≤ result.heard }
+        ensures inbox { self.new.lists.inbox ≡ [] }
+    {
+        let count = self.inbox.len();
+        let mut told = Listening {
+            heard: 0,
+            sent: 0,
+            failed: false,
+        };
+        'packets: while told.heard < count {
+            let one = self.hear_control(link, rec);
+            told.heard += one.heard;
+            told.sent += one.sent;
+            told.failed |= one.failed;
+        }
+        told
+    }
+}

@@ -1,0 +1,77 @@
+//! What a reply to a client session's own request does at a node, and what the node has of the
+//! session.
+ghost use Rattle.endpoint_node.specs.Wants.{StandsIn};
+ghost use Rattle.endpoint_node.specs.Steps.{StepsControl};
+ghost use Rattle.endpoint_node.specs.Changes.{◌⟶◌};
+ghost use Rattle.std.specs.Prelude.{◌≡◌, ◌<◌, option_map, Some};
+ghost use Rattle.std.specs.List.{find};
+ghost use Rattle.rpc_base.specs.declared.event.Event.TheVariants.{ClosedHeard, FailedNoRoom};
+ghost use Rattle.rpc_base.specs.declared.event.Event.TheVariants.{Connected as IsConnected};
+ghost use Rattle.rpc_base.specs.declared.state.SessionState.TheVariants.{Closing, Connecting};
+ghost use Rattle.rpc_laws.specs.Sessions.{is_client};
+ghost use Rattle.rpc_laws.specs.Steps.{NotesNext};
+ghost use Rattle.session_mgmt.specs.Control.{own_end};
+
+use crate::node::Node;
+use rpc_base::{Event, SESSION_NUMBERS, SessionNo, Who};
+use rpc_outside::Recorder;
+use session_mgmt::OwnEnd;
+
+impl Node {
+    // The client session of a number.
+    pub(crate) fn own_end(&self, session: SessionNo) -> Option<OwnEnd>
+        ensures { result ≡ option_map own_end
+            (find (is_client session) self.now.lists.clients) }
+    {
+        let i = usize::from(session.0);
+        if self.store.clients() <= i {
+            return None;
+        }
+        let end = self.store.end_of_client(i);
+        Some(OwnEnd {
+            peer: end.peer,
+            state: self.store.state(i),
+            credits: end.credits,
+            server: end.server,
+        })
+    }
+
+    // A session that is Connecting is connected with a server session.
+    pub(crate) fn connect_session<R: Recorder>(
+        &mut self,
+        session: SessionNo,
+        server: SessionNo,
+        rec: &mut R,
+    )
+        requires connecting { StandsIn Connecting session self.old }
+        requires server { server < SESSION_NUMBERS }
+        ensures { StepsControl R.log (NotesNext (λ s. Some (IsConnected session server)))
+            (self.old ⟶ self.new) (rec.old ⟶ rec.new) }
+    {
+        self.store.connected(usize::from(session.0), server);
+        let event = Event::Connected { session, server };
+        rec.note(Who::Node(self.me), event, &[], &[]);
+    }
+
+    // A session that is Connecting failed, since its peer has no room.
+    pub(crate) fn fail_session<R: Recorder>(&mut self, session: SessionNo, rec: &mut R)
+        requires { StandsIn Connecting session self.old }
+        ensures { StepsControl R.log (NotesNext (λ s. Some (FailedNoRoom session)))
+            (self.old ⟶ self.new) (rec.old ⟶ rec.new) }
+    {
+        self.store.failed(usize::from(session.0));
+        let event = Event::FailedNoRoom { session };
+        rec.note(Who::Node(self.me), event, &[], &[]);
+    }
+
+    // A session that is Closing is closed, as its peer told.
+    pub(crate) fn close_session<R: Recorder>(&mut self, session: SessionNo, rec: &mut R)
+        requires { StandsIn Closing session self.old }
+        ensures { StepsControl R.log (NotesNext (λ s. Some (ClosedHeard session)))
+            (self.old ⟶ self.new) (rec.old ⟶ rec.new) }
+    {
+        self.store.closed(usize::from(session.0));
+        let event = Event::ClosedHeard { session };
+        rec.note(Who::Node(self.me), event, &[], &[]);
+    }
+}

@@ -1,0 +1,176 @@
+//! What a connect or disconnect request does at a node, and what the node has of its server
+//! sessions.
+ghost use Rattle.endpoint_node.specs.Wants.{FitsServer};
+ghost use Rattle.endpoint_node.specs.Steps.{StepsControl};
+ghost use Rattle.endpoint_node.specs.Changes.{◌⟶◌};
+ghost use Rattle.std.specs.Prelude.{◌≡◌, ◌<◌, ◌≤◌, length, option_map, slice_get, true, IfOk, Bool};
+ghost use Rattle.std.specs.Prelude.{IfSome, None, OnErr, OnOk, Some, is_some};
+ghost use Rattle.std.specs.List.{find};
+ghost use Rattle.endpoint_node.specs.ControlRows.{Acts, Controls};
+ghost use Rattle.endpoint_node.specs.Handed.{timed_of};
+ghost use Rattle.endpoint_node.specs.Leaves.{LeavesPackets};
+ghost use Rattle.endpoint_node.specs.Notes.{Makes};
+ghost use Rattle.packet_header.specs.Header.{ControlInRange};
+ghost use Rattle.rpc_base.specs.declared.event.Event.TheVariants.{Accepted};
+ghost use Rattle.rpc_laws.specs.declared.rows.ControlRow.TheVariants.{Accepts, Declines, Ends};
+ghost use Rattle.rpc_laws.specs.declared.rows.ControlRow.TheVariants.{Starves};
+ghost use Rattle.rpc_laws.specs.ControlTable.{control_reply, control_row, is_end_of, named_end};
+ghost use Rattle.rpc_laws.specs.Groups.{server_refusal};
+ghost use Rattle.rpc_laws.specs.Steps.{NotesNext};
+ghost use Rattle.session_mgmt.specs.Control.{other_end, starved_if};
+
+use crate::node::Node;
+use packet_header::ControlHeader;
+use rpc_base::{Event, MOST_CREDITS, NoMemory, Peer, SESSION_NUMBERS, SessionNo, Who};
+use rpc_laws::ControlRow;
+use rpc_outside::Recorder;
+use session_mgmt::OtherEnd;
+
+impl Node {
+    // The first server session that is the other end of a peer's client session.
+    pub(crate) fn other_end(&self, peer: Peer, client: SessionNo) -> Option<OtherEnd>
+        ensures { result ≡ option_map other_end
+            (find (is_end_of peer client) self.now.lists.servers) }
+    {
+        let Some(i) = self.store.place_of_end(peer, client) else {
+            return None;
+        };
+        let end = self.store.end_of_server(i);
+        Some(OtherEnd {
+            number: end.session,
+            credits: end.credits,
+        })
+    }
+
+    // Where the server session of a number stands, if that is the other end of a peer's client
+    // session.
+    fn place_of(&self, peer: Peer, client: SessionNo, server: SessionNo) -> Option<usize>
+        ensures found { IfSome result (λ i. (i < length self.now.lists.servers)
+            × (named_end peer client (Some server) self.now.lists.servers
+            ≡ slice_get self.now.lists.servers i)) }
+        ensures missing { result ≡ None →
+            named_end peer client (Some server) self.now.lists.servers ≡ None }
+    {
+        let i = self.store.place_of_server(server)?;
+        let end = self.store.end_of_server(i);
+        if end.peer.0 != peer.0 {
+            return None;
+        }
+        if end.client.0 != client.0 {
+            return None;
+        }
+        Some(i)
+    }
+
+    // Where the server session stands that a packet names, if that is the other end of the peer's.
+    pub(crate) fn place_of_named(&self, peer: Peer, head: &ControlHeader) -> Option<usize>
+        ensures found { IfSome result (λ i. (i < length self.now.lists.servers)
+            × (named_end peer head.now.client head.now.server self.now.lists.servers
+            ≡ slice_get self.now.lists.servers i)) }
+        ensures missing { result ≡ None →
+            named_end peer head.now.client head.now.server self.now.lists.servers ≡ None }
+    {
+        match head.server {
+            Some(server) => self.place_of(peer, head.client, server),
+            None => None,
+        }
+    }
+
+    // There is no room for the session that a peer asks for.
+    pub(crate) fn decline<R: Recorder>(&self, peer: Peer, head: &ControlHeader, rec: &mut R)
+        ensures { Makes R.log (Acts Declines peer head.now) (timed_of self.now)
+            (timed_of self.now) rec.old rec.new }
+    {
+        let (client, credits) = (head.client, head.credits);
+        let event = Event::Declined {
+            peer,
+            client,
+            credits,
+        };
+        rec.note(Who::Node(self.me), event, &[], &[]);
+    }
+
+    // There is no memory for the session that a peer asks for.
+    fn starve<R: Recorder>(&self, peer: Peer, head: &ControlHeader, rec: &mut R)
+        ensures { Makes R.log (Acts Starves peer head.now) (timed_of self.now)
+            (timed_of self.now) rec.old rec.new }
+    {
+        let (client, credits) = (head.client, head.credits);
+        let event = Event::Starved {
+            peer,
+            client,
+            credits,
+        };
+        rec.note(Who::Node(self.me), event, &[], &[]);
+    }
+
+    // Makes the server end of a peer's session, with the next number, as its connect request asks.
+    // `NoMemory` comes where there is no memory for it, and then nothing changed.
+    fn add_accepted<R: Recorder>(
+        &mut self,
+        peer: Peer,
+        client: SessionNo,
+        credits: u16,
+        rec: &mut R,
+    ) -> Result<SessionNo, NoMemory>
+        requires fits { FitsServer credits self.old }
+        requires client { client < SESSION_NUMBERS }
+        ensures number { IfOk result (λ t. t ≡ self.old.lists.server_numbers) }
+        ensures makes { OnOk result (Makes R.log (NotesNext (λ s. Some (Accepted
+            s.server_numbers peer client credits))) (timed_of self.old) (timed_of self.new) rec.old
+            rec.new) }
+        ensures rest { LeavesPackets self.old self.new }
+        ensures unchanged { OnErr result ((self.new ≡ self.old) × (rec.new ≡ rec.old)) }
+    {
+        let session = SessionNo(self.server_numbers as u16);
+        self.store.pair_server(session, client, peer, credits)?;
+        self.server_numbers += 1;
+        let event = Event::Accepted {
+            session,
+            peer,
+            client,
+            credits,
+        };
+        rec.note(Who::Node(self.me), event, &[], &[]);
+        Ok(session)
+    }
+
+    // The session that a connect request asks for is made, for which there are a number and room.
+    // The result is what was done: `Starves` where there is no memory for it.
+    pub(crate) fn accept_session<R: Recorder>(
+        &mut self,
+        peer: Peer,
+        head: &ControlHeader,
+        rec: &mut R,
+    ) -> ControlRow
+        requires row { (lacks : Bool) → control_row lacks peer head.now self.old.lists
+            ≡ starved_if lacks (Accepts self.old.lists.server_numbers) }
+        requires fits { server_refusal head.now.credits self.old.lists ≡ None }
+        requires in_range { ControlInRange head.now }
+        requires some { 1 ≤ head.now.credits }
+        requires most { head.now.credits ≤ MOST_CREDITS }
+        ensures { StepsControl R.log (Controls peer head.now (control_reply head.now result))
+            (self.old ⟶ self.new) (rec.old ⟶ rec.new) }
+    {
+        match self.add_accepted(peer, head.client, head.credits, rec) {
+            Ok(server) => ControlRow::Accepts { server },
+            Err(_) => {
+                self.starve(peer, head, rec);
+                ControlRow::Starves
+            }
+        }
+    }
+
+    // The session that a disconnect request names ends, which is there.
+    pub(crate) fn end_named<R: Recorder>(&mut self, peer: Peer, head: &ControlHeader, rec: &mut R)
+        requires named { is_some (named_end peer head.now.client head.now.server
+            self.old.lists.servers) ≡ true }
+        ensures { StepsControl R.log (Acts Ends peer head.now) (self.old ⟶ self.new)
+            (rec.old ⟶ rec.new) }
+    {
+        let Some(i) = self.place_of_named(peer, head) else {
+            unreachable!()
+        };
+        self.end_session(i, rec);
+    }
+}

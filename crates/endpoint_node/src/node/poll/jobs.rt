@@ -1,0 +1,186 @@
+//! Step 1 of a poll: jobs are finished.
+ghost use Rattle.endpoint_node.specs.Steps.{LeavesJobs, StepsJobs};
+ghost use Rattle.endpoint_node.specs.Changes.{◌⟶◌};
+ghost use Rattle.endpoint_node.specs.Handed.{timed_of};
+ghost use Rattle.std.specs.Prelude.{◌≡◌, ◌<◌, ◌≤◌, ◌⊎◌, true, false, None, length, [], slice_get};
+ghost use Rattle.std.specs.List.{find, position, remove};
+ghost use Rattle.std.specs.VecDeque.{deque_capacity};
+ghost use Rattle.endpoint_node.specs.Jobs.{AnswersTo, AsksOf, NoneBack, is_named};
+ghost use Rattle.endpoint_node.specs.Notes.{MakesWhere};
+ghost use Rattle.endpoint_node.specs.Requests.{FinishesWith};
+ghost use Rattle.message_buffer.specs.Buffer.{bytes_of};
+ghost use Rattle.node_laws.specs.Kept.{Kept};
+ghost use Rattle.packet_header.specs.Parts.{IsMessage};
+ghost use Rattle.rpc_base.specs.Tables.{without_first};
+ghost use Rattle.rpc_laws.specs.Jobs.{is_job};
+ghost use Rattle.rpc_laws.specs.Queues.{replies};
+ghost use Rattle.rpc_laws.specs.Requests.{is_server};
+ghost use Rattle.session_store.specs.Handing.{AreOfCalls};
+ghost use Rattle.session_store.specs.Joined.{put_listed};
+ghost use Rattle.session_store.specs.Sides.{HasRoom};
+
+use crate::node::{JobName, Node};
+use packet_rings::Entry;
+use rpc_base::{Event, MOST_MESSAGE_BYTES, Owner, RequestNo, SessionNo, Who};
+use rpc_outside::Recorder;
+use session_store::Store;
+use std::collections::VecDeque;
+use worker_board::Parcel;
+use worker_crew::Workers;
+
+// Whether a job is that of this request.
+fn is_of(job: &JobName, session: SessionNo, request: RequestNo) -> bool
+    ensures { result ≡ is_named session request job.now }
+{
+    job.session.0 == session.0 && job.request.get() == request.get()
+}
+
+// Where the job of this request stands.
+fn place_of_job(jobs: &VecDeque<JobName>, session: SessionNo, request: RequestNo) -> Option<usize>
+    ensures { result ≡ position (is_named session request) jobs.now.items }
+{
+    'jobs: for i in 0..jobs.len() {
+        if is_of(&jobs[i], session, request) {
+            return Some(i);
+        }
+    }
+    None
+}
+
+fn take_at(jobs: &mut VecDeque<JobName>, place: usize) -> Option<JobName>
+    ensures job { result ≡ slice_get jobs.old.items place }
+    ensures others { jobs.new.items ≡ remove jobs.old.items place }
+    ensures capacity { deque_capacity jobs.new ≡ deque_capacity jobs.old }
+{
+    jobs.remove(place)
+}
+
+// Takes the job of this request out of those that are out. None comes exactly where there is none.
+fn take_job(jobs: &mut VecDeque<JobName>, session: SessionNo, request: RequestNo) -> Option<JobName>
+    ensures found { result ≡ find (is_named session request) jobs.old.items }
+    ensures left { jobs.new.items ≡ without_first (is_named session request) jobs.old.items }
+    ensures capacity { deque_capacity jobs.new ≡ deque_capacity jobs.old }
+{
+    let Some(place) = place_of_job(jobs, session, request) else {
+        return None;
+    };
+    take_at(jobs, place)
+}
+
+// The answer of a job goes to its session, and the reply behind what is ready where its request
+// waits for it.
+fn post_answer(store: &mut Store, parcel: Parcel) -> Option<Entry>
+    requires answer { IsMessage parcel.out.len }
+    requires ring { length store.old.queued < store.old.size }
+    requires room { HasRoom store.old }
+    ensures servers { AnswersTo (position (is_server parcel.session) store.old.servers)
+        parcel.request (bytes_of parcel.out) result store.old.servers store.new.servers }
+    ensures clients { store.new.clients ≡ store.old.clients }
+    ensures queued { store.new.queued ≡ put_listed None result store.old.queued }
+    ensures size { store.new.size ≡ store.old.size }
+    ensures places { store.new.places ≡ store.old.places }
+    ensures handed { store.new.handed ≡ store.old.handed }
+{
+    let Some(place) = store.place_of_server(parcel.session) else {
+        return None;
+    };
+    store.on_finished(place, parcel)
+}
+
+impl Node {
+    /// A job of the node is finished, and its parcel has the answer, of at most 1,048,576 bytes.
+    /// That its handler ran is noted, and its reply goes behind what is ready where its request
+    /// waits for it. A parcel whose job isn't out is dropped, which is told by false.
+    pub fn finish<R: Recorder>(&mut self, parcel: Parcel, rec: &mut R) -> bool
+        requires room { replies self.old.lists.queued < self.old.lists.room }
+        requires answer { IsMessage parcel.out.len }
+        ensures done { result ≡ true → MakesWhere R.log (AsksOf parcel) (FinishesWith
+            parcel.session parcel.request (bytes_of parcel.out)) (timed_of self.old)
+            (timed_of self.new) rec.old rec.new }
+        ensures jobs { result ≡ true → self.new.lists.jobs ≡ record self.old.lists.jobs {
+          out = without_first (is_job parcel.session parcel.request) self.old.lists.jobs.out;
+        } }
+        ensures none { result ≡ false → (self.new ≡ self.old) × (rec.new ≡ rec.old)
+            × (find (is_job parcel.session parcel.request) self.old.lists.jobs.out ≡ None) }
+        ensures rest { LeavesJobs self.old self.new }
+    {
+        let (session, request) = (parcel.session, parcel.request);
+        let Some(job) = take_job(&mut self.jobs, session, request) else {
+            return false;
+        };
+        let ran = Event::Ran {
+            session,
+            request,
+            req_type: job.req_type,
+        };
+        let (ask, answer) = (parcel.ask.bytes(), parcel.out.bytes());
+        rec.note(Who::Node(self.me), ran, ask, answer);
+        self.counts.ran = self.counts.ran.saturating_add(1);
+        let Some(entry) = post_answer(&mut self.store, parcel) else {
+            return true;
+        };
+        let posted = Event::Posted {
+            owner: Owner::Reply { session, request },
+            number: entry.number,
+        };
+        rec.note(Who::Node(self.me), posted, &[], &[]);
+        true
+    }
+
+    /// What always holds of the lists of a node holds of this one's.
+    pub fn sound(&self)
+        ensures kept { Kept self.now.lists }
+        ensures handed { AreOfCalls self.now.handed self.now.lists.clients }
+    {
+        self.store.sound();
+    }
+
+    // A turn of step 1 of a poll: takes a job that a worker finished, while fewer replies are
+    // queued than the ring is long. A job that isn't out, or whose answer has more than 1,048,576
+    // bytes, is dropped. The result tells whether a job came back.
+    fn finish_next<W: Workers, R: Recorder>(&mut self, workers: &mut W, rec: &mut R) -> bool
+        requires room { replies self.old.lists.queued < self.old.lists.room }
+        ensures step { StepsJobs R.log W.Workers (self.old ⟶ self.new) (rec.old ⟶ rec.new)
+            (workers.old ⟶ workers.new) }
+        ensures fewer { result ≡ true →
+            length (W.out workers.new) < length (W.out workers.old) }
+        ensures none { result ≡ false → NoneBack (W.worked workers.new)
+            (length (W.out workers.new)) (W.looks workers.old) (W.looks workers.new) }
+    {
+        self.sound();
+        let Some(finished) = workers.take() else {
+            return false;
+        };
+        let parcel = finished.parcel;
+        if parcel.out.bytes().len() > MOST_MESSAGE_BYTES as usize {
+            return true;
+        }
+        let _went = self.finish(parcel, rec);
+        true
+    }
+
+    // Whether fewer replies are queued than the ring is long.
+    pub(crate) fn has_room(&self) -> bool
+        ensures less { result ≡ true → replies self.now.lists.queued < self.now.lists.room }
+        ensures full { result ≡ false → self.now.lists.room ≤ replies self.now.lists.queued }
+    {
+        self.store.replies() < self.rx.size()
+    }
+
+    /// Step 1 of a poll: takes the jobs that the workers finished, while fewer replies are queued
+    /// than the ring is long. A job that isn't out, or whose answer has more than 1,048,576 bytes,
+    /// is dropped.
+    pub fn finish_all<W: Workers, R: Recorder>(&mut self, workers: &mut W, rec: &mut R)
+        ensures step { StepsJobs R.log W.Workers (self.old ⟶ self.new) (rec.old ⟶ rec.new)
+            (workers.old ⟶ workers.new) }
+        ensures over { (self.new.lists.room ≤ replies self.new.lists.queued)
+            ⊎ NoneBack (W.worked workers.new) (length (W.out workers.new)) (W.looks workers.old)
+            (W.looks workers.new) }
+    {
+        'jobs: while self.has_room() {
+            if !self.finish_next(workers, rec) {
+                return;
+            }
+        }
+    }
+}

@@ -1,0 +1,125 @@
+//! Step 3 of a poll: the packets of the receive ring are handled.
+ghost use Rattle.endpoint_node.specs.Fronts.{HasFront, LeavesHandled, CanServe};
+ghost use Rattle.endpoint_node.specs.Changes.{◌⟶◌};
+ghost use Rattle.endpoint_node.specs.Jobs.{staff_of};
+ghost use Rattle.rpc_laws.specs.Service.{rules_of};
+ghost use Rattle.endpoint_node.specs.Handed.{GivesBackTo, timed_of};
+ghost use Rattle.std.specs.Prelude.{◌≡◌, ◌≢◌, ◌<◌, ◌≤◌, ◌+◌, [], true, false, drop, length};
+ghost use Rattle.endpoint_node.specs.Packets.{MakesAllHandled, MakesHandled, WorksFor};
+ghost use Rattle.endpoint_node.specs.Requests.{AllServed};
+ghost use Rattle.rpc_laws.specs.PollOrder.{Handles, HandlesAll, NoMoreToHandle};
+ghost use Rattle.rpc_laws.specs.Queues.{replies};
+
+mod replies;
+mod requests;
+
+use crate::continuation::Continuation;
+use crate::node::Node;
+use packet_header::Kind;
+use rpc_base::MOST_RING;
+use rpc_outside::{Recorder, Service};
+use std::alloc::Global;
+use worker_board::Parcel;
+use worker_crew::Workers;
+
+impl Node {
+    /// A turn of step 3 of a poll: handles the packet in front of the receive ring, while fewer
+    /// replies are queued than the ring is long. A call that ends goes to the continuation. What is
+    /// given out is the job that a request made, for a worker.
+    pub fn handle_front<V: Service, K: Continuation, R: Recorder>(
+        &mut self,
+        alloc: Global,
+        service: &mut V,
+        k: &mut K,
+        rec: &mut R,
+    ) -> Option<Parcel>
+        requires { HasFront V.Service service.old self.old }
+        ensures handles { MakesHandled R.log K.given (rules_of V.Service) (V.stands service.old)
+            (V.stands service.new) (Handles V.mode_of) result (timed_of self.old)
+            (timed_of self.new) rec.old rec.new k.old k.new }
+        ensures ring { self.new.lists.ring ≡ drop 1 self.old.lists.ring }
+        ensures served { AllServed V.mode_of self.new.lists.servers }
+        ensures handed { GivesBackTo K.given self.old.handed self.new.handed k.old k.new }
+    {
+        let Some(head) = self.front_head() else {
+            unreachable!()
+        };
+        match head.kind {
+            Kind::Request | Kind::Rfr => self.handle_request(alloc, service, &head, rec),
+            Kind::Cr | Kind::Response => match self.hear_reply(&head, rec) {
+                None => None,
+                Some(done) => {
+                    k.done(done);
+                    None
+                }
+            },
+        }
+    }
+
+    // Whether a packet can be handled: there is one, and fewer replies are queued than the ring is
+    // long.
+    fn can_handle(&self) -> bool
+        ensures some { result ≡ true → self.now.lists.ring ≢ [] }
+        ensures room { result ≡ true → replies self.now.lists.queued < self.now.lists.room }
+        ensures over { result ≡ false → NoMoreToHandle (timed_of self.now) }
+    {
+        !self.rx.is_empty() && self.has_room()
+    }
+
+    // A turn of step 3 of a poll. A job that the packet makes is given to the workers.
+    fn handle_next<V: Service, W: Workers, K: Continuation, R: Recorder>(
+        &mut self,
+        alloc: Global,
+        service: &mut V,
+        workers: &mut W,
+        k: &mut K,
+        rec: &mut R,
+    )
+        requires front { HasFront V.Service service.old self.old }
+        requires works { WorksFor W.answer (rules_of V.Service) }
+        ensures handles { MakesAllHandled R.log K.given (staff_of W.Workers) (rules_of V.Service)
+            (V.stands service.old) (V.stands service.new) W.answer (Handles V.mode_of)
+            (timed_of self.old) (timed_of self.new) rec.old rec.new k.old k.new workers.old
+            workers.new }
+        ensures fewer { length self.new.lists.ring < length self.old.lists.ring }
+        ensures rest { LeavesHandled V.Service W.Workers K.given (self.old ⟶ self.new)
+            (service.old ⟶ service.new) (workers.old ⟶ workers.new) (k.old ⟶ k.new) }
+    {
+        let Some(parcel) = self.handle_front(alloc, service, k, rec) else {
+            return;
+        };
+        self.sound();
+        // Workers that have the jobs of the node aren't full: the node counts them.
+        let _given = workers.give(parcel);
+    }
+
+    /// Step 3 of a poll: the packets of the receive ring are handled in the order of their arrival,
+    /// while fewer replies are queued than the ring is long. Calls that end go to the continuation,
+    /// and jobs to the workers, which answer background requests as the service does. The result
+    /// tells how many packets were handled.
+    pub fn handle_all<V: Service, W: Workers, K: Continuation, R: Recorder>(
+        &mut self,
+        alloc: Global,
+        service: &mut V,
+        workers: &mut W,
+        k: &mut K,
+        rec: &mut R,
+    ) -> u32
+        requires serving { CanServe V.Service service.old self.old }
+        requires works { WorksFor W.answer (rules_of V.Service) }
+        ensures handles { MakesAllHandled R.log K.given (staff_of W.Workers) (rules_of V.Service)
+            (V.stands service.old) (V.stands service.new) W.answer (HandlesAll V.mode_of)
+            (timed_of self.old) (timed_of self.new) rec.old rec.new k.old k.new workers.old
+            workers.new }
+        ensures rest { LeavesHandled V.Service W.Workers K.given (self.old ⟶ self.new)
+            (service.old ⟶ service.new) (workers.old ⟶ workers.new) (k.old ⟶ k.new) }
+        ensures count { result + length self.new.lists.ring ≡ length self.old.lists.ring }
+        ensures few { result ≤ MOST_RING }
+    {
+        let before = self.rx.len();
+        'packets: while self.can_handle() {
+            self.handle_next(alloc, service, workers, k, rec);
+        }
+        before - self.rx.len()
+    }
+}

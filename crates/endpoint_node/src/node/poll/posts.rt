@@ -1,0 +1,150 @@
+//! What the client sessions begin and post.
+ghost use Rattle.endpoint_node.specs.Wants.{HasPace};
+ghost use Rattle.endpoint_node.specs.Steps.{Steps};
+ghost use Rattle.endpoint_node.specs.Changes.{◌⟶◌};
+ghost use Rattle.endpoint_node.specs.Handed.{timed_of};
+ghost use Rattle.endpoint_node.specs.Leaves.{LeavesServing};
+ghost use Rattle.std.specs.Prelude.{◌≡◌, ◌<◌, ◌≤◌, option_map, true};
+ghost use Rattle.std.specs.List.{find};
+ghost use Rattle.rpc_base.specs.Tables.{at_first};
+ghost use Rattle.endpoint_node.specs.Measures.{free_at, waiting_at};
+ghost use Rattle.endpoint_node.specs.Notes.{NotesOne};
+ghost use Rattle.rpc_laws.specs.Pacing.{delayed, due_at, is_paced};
+ghost use Rattle.rpc_laws.specs.PollOrder.{PostsAll, Serves};
+ghost use Rattle.session_store.specs.Effects.{request_in};
+ghost use Rattle.rpc_laws.specs.Posting.{next_begun, next_posted};
+ghost use Rattle.rpc_laws.specs.Steps.{NotesAll};
+
+use crate::node::Node;
+use rpc_base::{Event, MOST_DATAGRAM_BYTES, Owner, RequestNo, Who};
+use rpc_laws::Pace;
+use rpc_outside::Recorder;
+
+// A rate is in bytes per millisecond, and times are in microseconds.
+const MICROSECONDS: u64 = 1000;
+
+// The request of a packet of a call, or of a reply.
+fn request_of(owner: &Owner) -> RequestNo
+    ensures { result ≡ request_in owner.now }
+{
+    match owner {
+        Owner::Ask { request, .. } => *request,
+        Owner::Reply { request, .. } => *request,
+        Owner::Control => RequestNo::of(0, 0),
+    }
+}
+
+// When the next packet of session `i` is due at this clock, in microseconds, where the session has
+// a rate.
+fn due_of(paces: &Vec<Pace>, i: usize, clock: u64) -> Option<u64>
+    requires { HasPace i paces.now.items }
+    ensures { result ≡ option_map (due_at clock) (find (is_paced i) paces.now.items) }
+{
+    let pace = &paces[i];
+    if pace.rate == 0 {
+        return None;
+    }
+    Some(clock.max(pace.next))
+}
+
+// A packet of session `i` was posted, in a datagram of `size` bytes: where the session has a rate,
+// its next packet is due so much later.
+fn delay(paces: &mut Vec<Pace>, i: usize, clock: u64, size: u64)
+    requires pace { HasPace i paces.old.items }
+    requires size { size ≤ MOST_DATAGRAM_BYTES }
+    ensures { paces.new.items ≡ at_first (is_paced i) (delayed clock size) paces.old.items }
+{
+    let pace = &mut paces[i];
+    if pace.rate == 0 {
+        return;
+    }
+    let due = clock.max(pace.next);
+    pace.next = due.saturating_add((size * MICROSECONDS).div_ceil(u64::from(pace.rate)));
+}
+
+impl Node {
+    // Session `i` posts its next packet. The result tells whether it had one.
+    fn post_next<R: Recorder>(&mut self, i: usize, rec: &mut R) -> bool
+        ensures notes { NotesOne R.log (next_posted i) result (timed_of self.old)
+            (timed_of self.new) rec.old rec.new }
+        ensures fewer { result ≡ true →
+            free_at i self.new.lists.clients < free_at i self.old.lists.clients }
+        ensures rest { LeavesServing self.old self.new }
+    {
+        if i >= self.store.clients() {
+            return false;
+        }
+        let due = due_of(&self.paces, i, self.clock);
+        let Some(entry) = self.store.post(i, due) else {
+            return false;
+        };
+        let request = request_of(&entry.owner);
+        let size = self.store.packet_size(i, request, entry.number);
+        delay(&mut self.paces, i, self.clock, size);
+        let event = Event::Posted {
+            owner: entry.owner,
+            number: entry.number,
+        };
+        rec.note(Who::Node(self.me), event, &[], &[]);
+        true
+    }
+
+    // The next call of session `i` begins. The result tells whether it had one.
+    fn begin_next<R: Recorder>(&mut self, i: usize, rec: &mut R) -> bool
+        ensures notes { NotesOne R.log (next_begun i) result (timed_of self.old)
+            (timed_of self.new) rec.old rec.new }
+        ensures fewer { result ≡ true →
+            waiting_at i self.new.lists.clients < waiting_at i self.old.lists.clients }
+        ensures rest { LeavesServing self.old self.new }
+    {
+        if i >= self.store.clients() {
+            return false;
+        }
+        let Some(next) = self.store.begin(i) else {
+            return false;
+        };
+        let event = Event::Begun {
+            call: next.0,
+            request: next.1,
+        };
+        rec.note(Who::Node(self.me), event, &[], &[]);
+        true
+    }
+
+    // Session `i` posts until it has nothing to post.
+    fn post_all<R: Recorder>(&mut self, i: usize, rec: &mut R)
+        ensures { Steps R.log (NotesAll (next_posted i)) (self.old ⟶ self.new) (rec.old ⟶ rec.new) }
+    {
+        'packets: while self.post_next(i, rec) {}
+    }
+
+    // The waiting calls of session `i` begin, as long as a slot is free.
+    fn begin_all<R: Recorder>(&mut self, i: usize, rec: &mut R)
+        ensures { Steps R.log (NotesAll (next_begun i)) (self.old ⟶ self.new) (rec.old ⟶ rec.new) }
+    {
+        'calls: while self.begin_next(i, rec) {}
+    }
+
+    // Session `i` begins its waiting calls, and then posts its packets.
+    fn post_session<R: Recorder>(&mut self, i: usize, rec: &mut R)
+        ensures { Steps R.log (Serves i) (self.old ⟶ self.new) (rec.old ⟶ rec.new) }
+    {
+        self.begin_all(i, rec);
+        self.post_all(i, rec);
+    }
+
+    /// Step 5 of a poll: the client sessions are visited in the order of their numbers. Each begins
+    /// its waiting calls, and then posts its packets. One without calls has nothing to do, and is
+    /// passed over.
+    pub fn post_sessions<R: Recorder>(&mut self, rec: &mut R)
+        ensures { Steps R.log PostsAll (self.old ⟶ self.new) (rec.old ⟶ rec.new) }
+    {
+        let count = self.store.clients();
+        let mut from = 0;
+        'sessions: while let Some(i) = self.next_caller(from, count) {
+            self.post_session(i, rec);
+            self.forget_idle(i);
+            from = i + 1;
+        }
+    }
+}

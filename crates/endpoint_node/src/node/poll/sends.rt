@@ -1,0 +1,113 @@
+//! Step 6 of a poll: what is ready or due is sent.
+ghost use Rattle.endpoint_node.specs.Steps.{StepsSent};
+ghost use Rattle.endpoint_node.specs.Changes.{◌⟶◌};
+ghost use Rattle.endpoint_node.specs.Handed.{timed_of};
+ghost use Rattle.endpoint_node.specs.Leaves.{LeavesServing};
+ghost use Rattle.std.specs.Prelude.{◌≡◌, ◌<◌, [], true, false, length, None, Some, IfOk, OnErr};
+ghost use Rattle.endpoint_node.specs.Notes.{MakesSent, SendsNone};
+ghost use Rattle.rpc_laws.specs.Pacing.{line};
+ghost use Rattle.rpc_laws.specs.PollOrder.{Sends};
+ghost use Rattle.rpc_outside.specs.Faults.{HasCause, HasRisen};
+ghost use Rattle.rpc_outside.specs.Linking.{NoneComes};
+ghost use Rattle.rpc_outside.specs.declared.link.Taken.TheVariants.{Busy, Whole};
+
+use crate::node::Node;
+use rpc_base::{Event, HEAD_BYTES, MOST_RING, Who};
+use rpc_outside::{Failed, Link, Recorder, Taken};
+
+/// What was sent.
+#[derive(Clone, Copy, Debug, PartialEq, Eq)]
+pub struct Sending {
+    /// How many packets.
+    pub sent: u32,
+    /// Whether the link was busy, which left packets that may be sent.
+    pub busy: bool,
+}
+
+impl Node {
+    // Sends the front of the queue, where it lies. What the link answered is told: where it was
+    // busy, or failed, the packet stays in front. None comes where nothing that is queued may be
+    // sent yet.
+    fn send_front<L: Link, R: Recorder>(
+        &mut self,
+        link: &mut L,
+        rec: &mut R,
+    ) -> Result<Option<Taken>, Failed>
+        ensures sent { IfOk result (λ took. took ≡ Some Whole → MakesSent R.log L.sent Sends
+            (timed_of self.old) (timed_of self.new) rec.old rec.new link.old link.new ×
+            (L.busies link.new ≡ L.busies link.old)) }
+        ensures busy { IfOk result (λ took. took ≡ Some Busy → SendsNone L.sent
+            (timed_of self.old) (timed_of self.new) rec.old rec.new link.old link.new
+            × HasRisen (L.busies link.old) (L.busies link.new)) }
+        ensures over { IfOk result (λ took. took ≡ None
+            → (line self.new.clock self.new.lists.queued ≡ []) × SendsNone L.sent
+            (timed_of self.old) (timed_of self.new) rec.old rec.new link.old link.new
+            × (L.busies link.new ≡ L.busies link.old)) }
+        ensures fault { OnErr result (SendsNone L.sent (timed_of self.old) (timed_of self.new)
+            rec.old rec.new link.old link.new × (L.busies link.new ≡ L.busies link.old)) }
+        ensures fewer { IfOk result (λ took. took ≡ Some Whole →
+            length self.new.lists.queued < length self.old.lists.queued) }
+        ensures rest { LeavesServing self.old self.new }
+        ensures lists { NoneComes L.waiting L.received link.old link.new }
+        ensures cause { HasCause (L.faults link.old) (L.faults link.new) result }
+    {
+        let Some(entry) = self.store.front(self.clock) else {
+            return Ok(None);
+        };
+        let mut head = [0u8; HEAD_BYTES];
+        let body = self.store.packet(&mut head);
+        match link.send(entry.peer, &head, body)? {
+            Taken::Busy => Ok(Some(Taken::Busy)),
+            Taken::Whole => {
+                let event = Event::Sent {
+                    peer: entry.peer,
+                    owner: entry.owner,
+                    number: entry.number,
+                };
+                rec.note(Who::Node(self.me), event, &head, body);
+                self.store.sent(self.clock);
+                Ok(Some(Taken::Whole))
+            }
+        }
+    }
+
+    // What is ready is sent, the oldest first, and then what is due by now, until none of it is left
+    // or the link is busy or fails.
+    fn send_ready<L: Link, R: Recorder>(
+        &mut self,
+        link: &mut L,
+        rec: &mut R,
+    ) -> Result<Sending, Failed>
+        ensures { StepsSent R.log L.Link result (self.old ⟶ self.new) (rec.old ⟶ rec.new)
+            (link.old ⟶ link.new) }
+    {
+        let before = self.store.queued();
+        'packets: while let Some(taken) = self.send_front(link, rec)? {
+            match taken {
+                Taken::Whole => {}
+                Taken::Busy => {
+                    let sent = before - self.store.queued();
+                    return Ok(Sending { sent, busy: true });
+                }
+            }
+        }
+        let sent = before - self.store.queued();
+        Ok(Sending { sent, busy: false })
+    }
+
+    /// Step 6 of a poll: what is ready is sent, the oldest first, and then what is due by now,
+    /// until none of it is left or the link is busy or fails. What wasn't sent stays queued in its
+    /// order. Then the link hands on what it kept back.
+    pub fn send_all<L: Link, R: Recorder>(
+        &mut self,
+        link: &mut L,
+        rec: &mut R,
+    ) -> Result<Sending, Failed>
+        ensures { StepsSent R.log L.Link result (self.old ⟶ self.new) (rec.old ⟶ rec.new)
+            (link.old ⟶ link.new) }
+    {
+        let sent = self.send_ready(link, rec);
+        link.flush();
+        sent
+    }
+}

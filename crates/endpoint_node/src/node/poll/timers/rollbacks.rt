@@ -1,0 +1,171 @@
+//! A call is rolled back, and a session breaks: queued packets are taken out, the session changes,
+//! and what happened is noted.
+ghost use Rattle.endpoint_node.specs.Wants.{CanRoll, CanBreak};
+ghost use Rattle.endpoint_node.specs.Steps.{LeavesLost, IsFlushed, FlushesOne, StepsFlushed};
+ghost use Rattle.endpoint_node.specs.Steps.{StepsEnds, Steps};
+ghost use Rattle.endpoint_node.specs.Changes.{◌⟶◌};
+ghost use Rattle.endpoint_node.specs.Leaves.{LeavesServing};
+ghost use Rattle.std.specs.Prelude.{◌≡◌, ◌<◌, [], true, false, length, slice_get};
+ghost use Rattle.endpoint_node.specs.Timers.{EndsOne, HasLost, Notes, breaking, breaking_off};
+ghost use Rattle.endpoint_node.specs.Timers.{flushing, flushing_all, rolling, rolling_back};
+ghost use Rattle.rpc_base.specs.declared.owner.Owner.TheVariants.{Ask};
+ghost use Rattle.session_store.specs.Changes.{IsConnected, IsIdle, IsLost, calls_in};
+
+use crate::continuation::Continuation;
+use crate::node::Node;
+use client_core::Active;
+use rpc_base::{Event, NodeId, RequestNo, SESSION_NUMBERS, SessionNo, Who};
+use rpc_outside::Recorder;
+use session_store::Store;
+
+// The first call of session `i` ends, which lost its peer and has no packet queued. The result
+// tells whether there was one.
+fn lose_next<K: Continuation, R: Recorder>(
+    store: &mut Store,
+    me: NodeId,
+    i: usize,
+    k: &mut K,
+    rec: &mut R,
+) -> bool
+    requires known { i < length store.old.clients }
+    requires lost { IsLost (slice_get store.old.clients i) }
+    requires idle { IsIdle i store.old.queued }
+    ensures ends { result ≡ true → EndsOne R.log K.given me i store.old.clients
+        store.new.clients rec.old rec.new k.old k.new }
+    ensures none { result ≡ false → calls_in (slice_get store.old.clients i) ≡ [] }
+    ensures unchanged { result ≡ false → store.new.clients ≡ store.old.clients }
+    ensures silent { result ≡ false → rec.new ≡ rec.old }
+    ensures kept { result ≡ false → k.new ≡ k.old }
+    ensures rest { LeavesLost K.given (store.old ⟶ store.new) (k.old ⟶ k.new) }
+{
+    let Some(done) = store.lose(i) else {
+        return false;
+    };
+    let event = Event::DonePeerLost { call: done.call };
+    rec.note(Who::Node(me), event, &[], &[]);
+    k.done(done);
+    true
+}
+
+// Session `i`, which is connected, loses its peer, and its calls end, in the order of their
+// numbers. No packet of it is queued.
+fn lose_session<K: Continuation, R: Recorder>(
+    store: &mut Store,
+    me: NodeId,
+    i: usize,
+    k: &mut K,
+    rec: &mut R,
+)
+    requires known { i < length store.old.clients }
+    requires numbered { i < SESSION_NUMBERS }
+    requires connected { IsConnected (slice_get store.old.clients i) }
+    requires idle { IsIdle i store.old.queued }
+    ensures lost { HasLost R.log K.given me i [] store.old.clients store.new.clients
+        rec.old rec.new k.old k.new }
+    ensures rest { LeavesLost K.given (store.old ⟶ store.new) (k.old ⟶ k.new) }
+{
+    store.lose_peer(i);
+    let event = Event::Broken {
+        session: SessionNo(i as u16),
+    };
+    rec.note(Who::Node(me), event, &[], &[]);
+    'calls: while lose_next(store, me, i, k, rec) {}
+}
+
+impl Node {
+    // The queued packet of least number of a request of session `i` is taken out. The result tells
+    // whether there was one.
+    fn flush_next<R: Recorder>(&mut self, i: usize, request: RequestNo, rec: &mut R) -> bool
+        requires known { i < length self.old.lists.clients }
+        ensures flush { FlushesOne R.log (Ask i request) result (self.old ⟶ self.new)
+            (rec.old ⟶ rec.new) }
+        ensures clients { self.new.lists.clients ≡ self.old.lists.clients }
+        ensures rest { LeavesServing self.old self.new }
+    {
+        let Some(entry) = self.store.flush(i, request) else {
+            return false;
+        };
+        let event = Event::Flushed {
+            owner: entry.owner,
+            number: entry.number,
+        };
+        rec.note(Who::Node(self.me), event, &[], &[]);
+        true
+    }
+
+    // The queued packets of a request of session `i` are taken out, in ascending number.
+    fn flush_call<R: Recorder>(&mut self, i: usize, request: RequestNo, rec: &mut R)
+        requires known { i < length self.old.lists.clients }
+        ensures { StepsFlushed R.log (Notes (flushing (Ask i request))) (IsFlushed (Ask i request))
+            (self.old ⟶ self.new) (rec.old ⟶ rec.new) }
+    {
+        'packets: while self.flush_next(i, request, rec) {}
+    }
+
+    // An active call of session `i` is rolled back, of which no packet is queued.
+    fn roll_idle<R: Recorder>(&mut self, i: usize, active: &Active, rec: &mut R)
+        requires can { CanRoll i active.now self.old }
+        requires idle { IsFlushed (Ask i active.now.request) self.old.lists.queued }
+        ensures { Steps R.log (Notes (rolling active.now)) (self.old ⟶ self.new)
+            (rec.old ⟶ rec.new) }
+    {
+        self.store.roll(i, active.call);
+        let event = Event::Rolled {
+            call: active.call,
+            posted: active.posted,
+            got: active.got,
+        };
+        rec.note(Who::Node(self.me), event, &[], &[]);
+    }
+
+    /// An active call of session `i` is rolled back: its queued packets are taken out, in ascending
+    /// number, and its unanswered ones are to be posted again.
+    pub(crate) fn roll<R: Recorder>(&mut self, i: usize, active: &Active, rec: &mut R)
+        requires { CanRoll i active.now self.old }
+        ensures { Steps R.log (Notes (rolling_back i active.now)) (self.old ⟶ self.new)
+            (rec.old ⟶ rec.new) }
+    {
+        self.flush_call(i, active.request, rec);
+        self.roll_idle(i, active, rec);
+    }
+
+    // The queued packets of all calls of session `i` are taken out, call by call.
+    fn flush_session<R: Recorder>(&mut self, i: usize, rec: &mut R)
+        requires known { i < length self.old.lists.clients }
+        ensures { StepsFlushed R.log (Notes (flushing_all i)) (IsIdle i) (self.old ⟶ self.new)
+            (rec.old ⟶ rec.new) }
+    {
+        let mut after = None;
+        'calls: while let Some(active) = self.store.active(i, after) {
+            self.flush_call(i, active.request, rec);
+            after = Some(active.call);
+        }
+    }
+
+    // Session `i`, which is connected, loses its peer, and its calls end. No packet of it is
+    // queued.
+    fn break_idle<K: Continuation, R: Recorder>(&mut self, i: usize, k: &mut K, rec: &mut R)
+        requires can { CanBreak i self.old }
+        requires idle { IsIdle i self.old.lists.queued }
+        ensures { StepsEnds R.log K.given (Notes (breaking i)) (self.old ⟶ self.new)
+            (rec.old ⟶ rec.new) (k.old ⟶ k.new) }
+    {
+        lose_session(&mut self.store, self.me, i, k, rec);
+    }
+
+    /// Session `i`, which is connected, breaks: the queued packets of all its calls are taken out,
+    /// and then its calls end, in the order of their numbers.
+    pub(crate) fn break_session<K: Continuation, R: Recorder>(
+        &mut self,
+        i: usize,
+        k: &mut K,
+        rec: &mut R,
+    )
+        requires { CanBreak i self.old }
+        ensures { StepsEnds R.log K.given (Notes (breaking_off i)) (self.old ⟶ self.new)
+            (rec.old ⟶ rec.new) (k.old ⟶ k.new) }
+    {
+        self.flush_session(i, rec);
+        self.break_idle(i, k, rec);
+    }
+}
