@@ -27,7 +27,8 @@ struct Open {
 }
 
 /// A link over a UDP socket, which is bound once and never waits but where it is told to. Addresses
-/// are numeric, of IPv4 or IPv6, with a port. Peers have numbers, up to 256 of them at a time.
+/// are numeric, of IPv4 or IPv6, with a port. Peers have numbers, up to 256 of them at a time; those
+/// that an application named keep theirs, and others until they are forgotten.
 /// Packets to a peer that opens frames go several in a datagram. What there is of one is handed over
 /// where the next packet goes elsewhere or doesn't fit, where the link receives or waits, and at
 /// `flush`.
@@ -296,11 +297,7 @@ impl<'a, N: Net> Link for UdpLink<'a, N> {
         let Ok(addr) = addr.parse::<SocketAddr>() else {
             return self.fail(Trouble::NoPeerAddress);
         };
-        let address = Address::of(addr);
-        if let Some(peer) = self.peers.known(&address) {
-            return Ok(peer);
-        }
-        match self.peers.add(&address) {
+        match self.peers.named(&Address::of(addr)) {
             Some(peer) => Ok(peer),
             None => self.fail(Trouble::NoNumber(addr)),
         }
@@ -377,8 +374,11 @@ impl<'a, N: Net> Link for UdpLink<'a, N> {
     }
 
     /// What is in the frame for the peer is handed over, or dropped where the system is busy; what
-    /// came from it and isn't given out is dropped.
+    /// came from it and isn't given out is dropped. Nothing happens where an application named it.
     fn forget(&mut self, peer: Peer) {
+        if self.peers.is_kept(peer) {
+            return;
+        }
         if self.to == peer {
             self.hand_over_silently();
             self.empty();

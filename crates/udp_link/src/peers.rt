@@ -27,6 +27,8 @@ enum Standing {
 struct Place {
     address: Address,
     standing: Standing,
+    /// Whether an application named it: then it keeps its number.
+    is_kept: bool,
 }
 
 /// The peers by their numbers, and the numbers in use in order of the addresses.
@@ -146,7 +148,20 @@ impl Peers {
         let place = self.places.get_mut(usize::from(number))?;
         place.address = *address;
         place.standing = Standing::Alone;
+        place.is_kept = false;
         Some(Peer(number))
+    }
+
+    /// The number of the peer of this address, which keeps it. None comes where it has none, and 256
+    /// others have one or there is no memory for one more.
+    pub fn named(&mut self, address: &Address) -> Option<Peer> {
+        let known = self.known(address);
+        let peer = match known {
+            Some(peer) => peer,
+            None => self.add(address)?,
+        };
+        self.keep(peer);
+        Some(peer)
     }
 
     // The lowest number that is no peer's, with a place.
@@ -165,13 +180,32 @@ impl Peers {
         let place = Place {
             address: Address::none(),
             standing: Standing::Free,
+            is_kept: false,
         };
         self.places.push(place).ok()?;
         u8::try_from(next).ok()
     }
 
-    /// The number of a peer is free again.
+    // A peer keeps its number, whatever comes.
+    fn keep(&mut self, peer: Peer) {
+        if let Some(place) = self.places.get_mut(usize::from(peer.0)) {
+            place.is_kept = true;
+        }
+    }
+
+    /// Whether a peer keeps its number.
+    pub fn is_kept(&self, peer: Peer) -> bool {
+        match self.place(peer) {
+            Some(place) => place.is_kept,
+            None => false,
+        }
+    }
+
+    /// The number of a peer that doesn't keep it is free again.
     pub fn forget(&mut self, peer: Peer) {
+        if self.is_kept(peer) {
+            return;
+        }
         self.stand(peer, Standing::Free);
         self.sorted.retain(|number| *number != peer.0);
     }

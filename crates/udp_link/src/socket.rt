@@ -2,13 +2,19 @@
 ghost use Rattle.std.specs.Prelude.{◌≤◌, length, IfOk};
 
 use crate::address::Address;
+use libc::nanosleep;
 use libc::net::{_SS_SIZE, MSG_NOSIGNAL, POLLIN, poll, recvfrom, sendto};
-use libc::sched_yield;
-use libc::types::pollfd;
+use libc::types::{pollfd, timespec};
 use std::io::{self, Error};
 
 /// The microseconds of a millisecond, the unit in which the system waits.
 const MILLISECOND: u32 = 1_000;
+
+/// The nanoseconds of a microsecond.
+const NANOSECONDS: i64 = 1_000;
+
+/// The microseconds of a nap, which no datagram ends.
+const NAP: u32 = 100;
 
 fn last_error() -> Error {
     Error::from_raw_os_error(os::errno())
@@ -36,17 +42,40 @@ pub fn receive(fd: i32, room: &mut [u8], from: &mut Address) -> io::Result<usize
     }
 }
 
-/// Waits until a datagram may be there, or so many microseconds. The system counts milliseconds: the
-/// rest isn't waited, but other work of the machine may go first.
-pub fn wait(fd: i32, micros: u32) {
+// Tells whether a datagram is there, now or within so many milliseconds.
+fn is_ready(fd: i32, millis: u32) -> bool {
     let mut asked = [pollfd {
         fd,
         events: POLLIN,
         revents: 0,
     }];
-    let millis = i32::try_from(micros / MILLISECOND).unwrap_or(i32::MAX);
-    let ready = poll(&mut asked, millis);
-    if ready == 0 && millis == 0 {
-        let _status = sched_yield();
+    poll(&mut asked, i32::try_from(millis).unwrap_or(i32::MAX)) != 0
+}
+
+// Sleeps for so many microseconds, whatever comes.
+fn nap(micros: u32) {
+    let asked = timespec {
+        tv_sec: 0,
+        tv_nsec: i64::from(micros) * NANOSECONDS,
+    };
+    let mut left = asked;
+    let _status = nanosleep(&asked, &mut left);
+}
+
+/// Waits until a datagram may be there, or so many microseconds. The system waits for a datagram by
+/// whole milliseconds: the rest goes by in naps, after each of which it is looked.
+pub fn wait(fd: i32, micros: u32) {
+    if is_ready(fd, micros / MILLISECOND) {
+        return;
+    }
+    let rest = micros % MILLISECOND;
+    'naps: for _ in 0..rest / NAP {
+        nap(NAP);
+        if is_ready(fd, 0) {
+            return;
+        }
+    }
+    if rest % NAP > 0 {
+        nap(rest % NAP);
     }
 }
