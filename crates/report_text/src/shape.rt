@@ -5,7 +5,7 @@ use rpc_base::{DropReason, Owner, SessionState};
 pub type Pair = (&'static str, u64);
 
 /// The words and numbers of a line, without its bytes.
-#[derive(Clone, Copy, Debug)]
+#[derive(Clone, Copy)]
 pub enum Shape {
     Word(&'static str),
     One(Pair),
@@ -25,7 +25,7 @@ pub enum Shape {
 }
 
 /// Which bytes of its fact a line ends with.
-#[derive(Clone, Copy, Debug)]
+#[derive(Clone, Copy)]
 pub enum Tail {
     Nothing,
     First,

@@ -12,7 +12,7 @@ pub const FEWEST_NODES: u8 = 2;
 pub const MOST_NODES: u8 = 8;
 
 /// The node lines that came, and whether another command came.
-#[derive(Clone, Copy, Debug, PartialEq, Eq)]
+#[derive(Clone, Copy)]
 pub struct Before {
     pub nodes: u8,
     pub begun: bool,

@@ -6,7 +6,7 @@ use rpc_base::NoMemory;
 use std::alloc::{AllocError, AllocFailed};
 
 /// A line is bad, or there is no memory for its command.
-#[derive(Clone, Copy, Debug, PartialEq, Eq)]
+#[derive(Clone, Copy)]
 pub enum Refusal {
     Why(BadWhy),
     NoMemory,

@@ -5,7 +5,7 @@ ghost use Rattle.script_grammar.specs.Commands.{verb_of};
 use crate::text::is_word;
 
 /// The first word of a command. `call` is none of them, since it alone takes memory.
-#[derive(Clone, Copy, Debug, PartialEq, Eq)]
+#[derive(Clone, Copy)]
 pub enum Verb {
     Node,
     Pair,

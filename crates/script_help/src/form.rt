@@ -5,7 +5,7 @@ use script_grammar::{
 };
 
 /// One word of a command after its first.
-#[derive(Clone, Copy, Debug, PartialEq, Eq)]
+#[derive(Clone, Copy)]
 pub enum Field {
     /// The number of a node.
     Node,
@@ -20,7 +20,7 @@ pub enum Field {
 }
 
 /// What a command looks like.
-#[derive(Clone, Copy, Debug)]
+#[derive(Clone, Copy)]
 pub struct Form {
     pub name: &'static str,
     pub usage: &'static str,
