@@ -1,5 +1,6 @@
 -- What reading words may answer: what they ask for, or at any time that memory ran out.
-use Rattle.std.specs.Prelude.{◌≡◌, ◌≤◌, true, List, Option, Some, None, Result, Ok, Err}
+use Rattle.std.specs.Prelude.{◌≡◌, ◌≤◌, ℕ, true, List, Option, Some, None, IfSome, Result, Ok}
+use Rattle.std.specs.Prelude.{Err}
 use Rattle.std.specs.String.{string_bytes}
 use Rattle.std.specs.declared.string.String.{String}
 use Rattle.clap.specs.Words.{App, Text, found_of, rows_of}
@@ -33,6 +34,10 @@ IsServeInRange words =
     (1 ≤ words.turns) × (words.turns ≤ 4294967295) × (words.workers ≤ 16)
     × (100 ≤ words.timeout) × (words.timeout ≤ 1000000)
 
+-- a frame, where one is given, takes the largest packet, and fits a datagram
+abbrev pub IsFrameInRange : Option ℕ → Type 0
+IsFrameInRange frame = IfSome frame (λ bytes. (1088 ≤ bytes) × (bytes ≤ 65507))
+
 -- the numbers of `load` are in their ranges, and the type in its list
 pub record IsLoadInRange (words : LoadWords) : Type 0 where
   pub some_calls : 1 ≤ words.calls
@@ -42,6 +47,7 @@ pub record IsLoadInRange (words : LoadWords) : Type 0 where
   pub most_seed : words.seed ≤ 4294967295
   pub some_turns : 1 ≤ words.turns
   pub most_turns : words.turns ≤ 4294967295
+  pub frame : IsFrameInRange words.frame
   pub least_timeout : 100 ≤ words.timeout
   pub most_timeout : words.timeout ≤ 1000000
 

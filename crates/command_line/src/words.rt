@@ -1,8 +1,8 @@
 //! Words, and what they ask for.
-ghost use Rattle.std.specs.Prelude.{◌≡◌, codes, map, IfOk};
+ghost use Rattle.std.specs.Prelude.{◌≡◌, codes, map, IfOk, IfSome};
 ghost use Rattle.std.specs.String.{string_bytes};
 ghost use Rattle.clap.specs.Words.{found_of, rows_of};
-ghost use Rattle.command_line.specs.Answers.{IsInRange, Reads};
+ghost use Rattle.command_line.specs.Answers.{IsFrameInRange, IsInRange, Reads};
 ghost use Rattle.command_line.specs.Numbers.{some_number_at};
 ghost use Rattle.command_line.specs.Tasks.{drill_in, load_in, serve_in, sim_in, task_of};
 
@@ -72,6 +72,7 @@ pub const TIMEOUT: Number = Number {
     low: 100,
     high: 1_000_000,
 };
+
 /// `--frame` of `load`, in bytes.
 pub const FRAME: Number = Number {
     id: "frame",
@@ -122,8 +123,9 @@ fn read_serve(alloc: Global, words: &[String]) -> Result<Task, WordsError>
 // The frame that the words of `load` give, none where they leave it out; None where they give one
 // that is none of its range.
 fn frame_of(matches: &ArgMatches<'_>) -> Option<Option<u32>>
-    ensures { result ≡ some_number_at 1088 65507 (codes "frame")
+    ensures value { result ≡ some_number_at 1088 65507 (codes "frame")
         (rows_of (found_of matches.now)) }
+    ensures range { IfSome result IsFrameInRange }
 {
     if text_at(matches, "frame").is_none() {
         return Some(None);
