@@ -3,17 +3,15 @@ use Rattle.std.proofs.Common.{◌≡◌, ◌≢◌, ◌⊎◌, ℕ, suc, ◌+◌
 use Rattle.std.proofs.Common.{List, refl, sym, subst, ◌∙◌, inl, inr, arith}
 use Rattle.std.specs.Prelude.{◌==◌, ◌&&◌}
 use Rattle.std.proofs.lemmas.Bool.{eq-eqb, eqb-true}
-use Rattle.rpc_outside.specs.Recording.{Log}
 use Rattle.load_run.specs.Loading.{Answers, HasLoaded, LoadsOn, LoadsSoFar, LoadsTurns, TurnsEnd}
 use Rattle.load_run.specs.Loading.{Prints, UnlessFailed, UnlessNoMemory, calls_line, going_at}
 use Rattle.load_run.specs.Loading.{is_clean, is_over, state_in, unasked}
 use Rattle.load_run.proofs.TurnLemmas.{loads-none, loads-then}
-use Rattle.plain_turns.proofs.RunLemmas.{goes-none, goes-then}
-use Rattle.plain_turns.specs.Chains.{Moment}
-use Rattle.plain_turns.specs.PlainTurns.{GoesOnBy}
+use Rattle.rpc_turns.proofs.RunLemmas.{goes-none, goes-then}
+use Rattle.rpc_turns.specs.Moments.{Moment, Outside}
+use Rattle.rpc_turns.specs.Plain.{GoesOnBy}
 use Rattle.rpc_outside.specs.Faults.{HasRisen}
 use Rattle.rpc_outside.specs.Writing.{Wrote, Written}
-use Rattle.rpc_outside.specs.declared.link.Link as Link
 use Rattle.run_status.specs.declared.going.Going.{Going}
 use Rattle.run_status.specs.declared.going.Going.TheVariants.{On, Over}
 use Rattle.run_status.specs.declared.status.Status.{Status}
@@ -96,37 +94,35 @@ answers-on before now s (inr h) = (h.0, by h.1)
     by (inl never) = cc
     by (inr e) = sym e
 
-module _ {R L C : Type 0} (log : R → Log) (gave : C → List ℕ → Type 0) (net : Link.Ghosts L) where
+module _ {L C R : Type 0} (o : Outside L C R) where
   abbrev At : Type 0
-  At = Moment LoadsSoFar R L C
+  At = Moment LoadsSoFar L C R
 
   -- what one turn does, and what follows from it
   abbrev Does : ℕ → (a b : At) → Type 0
-  Does n a b = LoadsOn log gave (net.sent a.link) (net.sent b.link) a.clock b.clock a.run b.run
-      a.rec b.rec n
+  Does n a b = LoadsOn o a b n
 
-  module _ (a b c : At) (many : ℕ) (turns : LoadsTurns log gave net many a b)
-      (quiet : net.faults b.link ≡ net.faults a.link) where
-    further : HasLoaded log net gave b c → Does 1 b c
-        → LoadsTurns log gave net (suc many) a c
+  abbrev faults : At → ℕ
+  faults a = o.net.faults a.edges.link
+
+  module _ (a b c : At) (many : ℕ) (turns : LoadsTurns o many a b)
+      (quiet : faults b ≡ faults a) where
+    further : HasLoaded o b c → Does 1 b c → LoadsTurns o (suc many) a c
     further one turn =
         let next : many + 1 ≡ suc many = omega arith in
         record {
           each = (b, turns.each, one);
-          on = subst (λ n. Does n a c) next
-              (loads-then log gave (net.sent a.link) (net.sent b.link) (net.sent c.link) a.clock
-              b.clock c.clock a.run b.run c.run a.rec b.rec c.rec many 1 turns.on turn);
+          on = subst (λ n. Does n a c) next (loads-then o a b c many 1 turns.on turn);
         }
 
-    rises : HasRisen (net.faults b.link) (net.faults c.link)
-        → HasRisen (net.faults a.link) (net.faults c.link)
-    rises h = subst (λ n. HasRisen n (net.faults c.link)) quiet h
+    rises : HasRisen (faults b) (faults c) → HasRisen (faults a) (faults c)
+    rises h = subst (λ n. HasRisen n (faults c)) quiet h
 
     -- a turn with which the run is over
     pub ends-with : (told : Status)
-        → Answers (net.faults b.link) (net.faults c.link) c.run (Over told)
-        → UnlessNoMemory (Over told) (HasLoaded log net gave b c)
-        → UnlessFailed (Over told) (Does 1 b c) → TurnsEnd told log gave net a c
+        → Answers (faults b) (faults c) c.run (Over told)
+        → UnlessNoMemory (Over told) (HasLoaded o b c)
+        → UnlessFailed (Over told) (Does 1 b c) → TurnsEnd told o a c
     ends-with LinkFault (inl h) one turn = rises h.1
     ends-with LinkFault (inr (same, inl e)) one turn = cc
     ends-with LinkFault (inr (same, inr e)) one turn =
@@ -152,43 +148,45 @@ module _ {R L C : Type 0} (log : R → Log) (gave : C → List ℕ → Type 0) (
     ends-with told (inr (same, inr e)) one turn = absurd (end-known c.run told (sym e))
 
 -- turns were made, and more are left
-pub record GoesSome {R L C : Type 0} (log : R → Log) (gave : C → List ℕ → Type 0)
-    (net : Link.Ghosts L) (a b : Moment LoadsSoFar R L C) : Type 0 where
+pub record GoesSome {L C R : Type 0} (o : Outside L C R) (a b : Moment LoadsSoFar L C R)
+    : Type 0 where
   pub left : b.run.made < b.run.turns
   pub many : ℕ
-  pub turns : LoadsTurns log gave net many a b
-  pub quiet : net.faults b.link ≡ net.faults a.link
-  pub goes : GoesOnBy log a.run.endpoint b.run.endpoint a.rec b.rec
+  pub turns : LoadsTurns o many a b
+  pub quiet : o.net.faults b.edges.link ≡ o.net.faults a.edges.link
+  pub goes : GoesOnBy o.log a.run.endpoint b.run.endpoint a.edges.rec b.edges.rec
 
-module _ {R L C : Type 0} (log : R → Log) (gave : C → List ℕ → Type 0) (net : Link.Ghosts L) where
+module _ {L C R : Type 0} (o : Outside L C R) where
   abbrev Here : Type 0
-  Here = Moment LoadsSoFar R L C
+  Here = Moment LoadsSoFar L C R
 
   abbrev One : (b c : Here) → Type 0
-  One b c = LoadsOn log gave (net.sent b.link) (net.sent c.link) b.clock c.clock b.run c.run b.rec
-      c.rec 1
+  One b c = LoadsOn o b c 1
 
-  pub some-none : (a : Here) → a.run.made < a.run.turns → GoesSome log gave net a a
+  abbrev failures : Here → ℕ
+  failures a = o.net.faults a.edges.link
+
+  pub some-none : (a : Here) → a.run.made < a.run.turns → GoesSome o a a
   some-none a left = record {
     left = left;
     many = 0;
     turns = record {
       each = refl;
-      on = loads-none log gave (net.sent a.link) a.clock a.run a.rec;
+      on = loads-none o a;
     };
     quiet = refl;
-    goes = goes-none log a.run.endpoint a.rec;
+    goes = goes-none o.log a.run.endpoint a.edges.rec;
   }
 
-  module _ (a b c : Here) (some : GoesSome log gave net a b)
-      (goes : GoesOnBy log b.run.endpoint c.run.endpoint b.rec c.rec) where
+  module _ (a b c : Here) (some : GoesSome o a b)
+      (goes : GoesOnBy o.log b.run.endpoint c.run.endpoint b.edges.rec c.edges.rec) where
     pub some-more : (going : Going) → going ≡ On
-        → Answers (net.faults b.link) (net.faults c.link) c.run going
-        → UnlessNoMemory going (HasLoaded log net gave b c) → UnlessFailed going (One b c)
-        → GoesSome log gave net a c
+        → Answers (failures b) (failures c) c.run going
+        → UnlessNoMemory going (HasLoaded o b c) → UnlessFailed going (One b c)
+        → GoesSome o a c
     some-more (Over told) e answers one turn = cc
     some-more On e answers one turn =
-        let so = answers-on (net.faults b.link) (net.faults c.link) c.run answers in
+        let so = answers-on (failures b) (failures c) c.run answers in
         let free = on-left c.run so.1 in
         let left = some.left in
         let made = turn.made in
@@ -196,20 +194,21 @@ module _ {R L C : Type 0} (log : R → Log) (gave : C → List ℕ → Type 0) (
         record {
           left = omega (arith, free, left, made, turns);
           many = suc some.many;
-          turns = further log gave net a b c some.many some.turns some.quiet one turn;
+          turns = further o a b c some.many some.turns some.quiet one turn;
           quiet = so.0 ∙ some.quiet;
-          goes = goes-then log a.run.endpoint b.run.endpoint c.run.endpoint a.rec b.rec c.rec
-              some.goes goes;
+          goes = goes-then o.log a.run.endpoint b.run.endpoint c.run.endpoint a.edges.rec
+              b.edges.rec c.edges.rec some.goes goes;
         }
 
     pub some-ends : (told : Status)
-        → Answers (net.faults b.link) (net.faults c.link) c.run (Over told)
-        → UnlessNoMemory (Over told) (HasLoaded log net gave b c)
+        → Answers (failures b) (failures c) c.run (Over told)
+        → UnlessNoMemory (Over told) (HasLoaded o b c)
         → UnlessFailed (Over told) (One b c)
-        → TurnsEnd told log gave net a c
+        → TurnsEnd told o a c
     some-ends told answers one turn =
-        ends-with log gave net a b c some.many some.turns some.quiet told answers one turn
+        ends-with o a b c some.many some.turns some.quiet told answers one turn
 
-    pub some-goes : GoesOnBy log a.run.endpoint c.run.endpoint a.rec c.rec
+    pub some-goes : GoesOnBy o.log a.run.endpoint c.run.endpoint a.edges.rec c.edges.rec
     some-goes =
-        goes-then log a.run.endpoint b.run.endpoint c.run.endpoint a.rec b.rec c.rec some.goes goes
+        goes-then o.log a.run.endpoint b.run.endpoint c.run.endpoint a.edges.rec b.edges.rec
+        c.edges.rec some.goes goes

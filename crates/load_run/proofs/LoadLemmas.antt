@@ -4,17 +4,17 @@ use Rattle.std.proofs.Common.{sym, ap, subst}
 use Rattle.std.proofs.Common.{◌∙◌, arith}
 use Rattle.std.specs.Prelude.{option_map}
 use Rattle.rpc_outside.specs.Writing.{Written}
-use Rattle.rpc_outside.specs.Recording.{Log}
 use Rattle.command_line.specs.Words.{LoadWords}
-use Rattle.endpoint_loop.specs.Noting.{is_asked, sent_of}
-use Rattle.endpoint_loop.proofs.NotingLemmas.{sent-append}
-use Rattle.endpoint_loop.proofs.TurnLemmas.{many-append}
+use Rattle.endpoint_node.specs.Notes.{is_asked, sent_of}
+use Rattle.endpoint_node.proofs.NoteSteps.{sent-append}
+use Rattle.endpoint_node.proofs.NoteCounts.{many-append}
 use Rattle.load_plan.specs.Calls.{Calls}
 use Rattle.load_run.specs.declared.tally.Tally.{Tally}
 use Rattle.load_run.specs.Loading.{HasLoaded, HasRun, Loads, LoadsSoFar, LoadsTurns, NotesRun}
 use Rattle.load_run.specs.Loading.{Prints, StartsAs}
-use Rattle.plain_turns.specs.Chains.{Turns, where_at}
-use Rattle.plain_turns.specs.PlainTurns.{limits_at}
+use Rattle.rpc_turns.specs.Chains.{Turns}
+use Rattle.rpc_turns.specs.Moments.{Edges, Moment, Outside, where_at}
+use Rattle.rpc_turns.specs.Plain.{limits_at}
 use Rattle.load_run.specs.Loading.{TurnsEnd, going_at}
 use Rattle.load_run.specs.Tallies.{Tallies}
 use Rattle.load_run.proofs.EndLemmas.{end-known}
@@ -25,24 +25,24 @@ use Rattle.rpc_base.specs.declared.event.Event.TheVariants.{Opened}
 use Rattle.rpc_base.specs.declared.fact.Fact.{Fact}
 use Rattle.rpc_laws.specs.Facts.{plain}
 use Rattle.rpc_outside.specs.Faults.{HasRisen}
-use Rattle.rpc_outside.specs.declared.link.Link as Link
 use Rattle.run_status.specs.declared.going.Going.TheVariants.{On, Over}
 use Rattle.run_status.specs.declared.status.Status.{Status}
 use Rattle.run_status.specs.declared.status.Status.TheVariants.{LinkFault, NoMemory}
 use Rattle.server_core.proofs.FlushLemmas.{grew-then}
 
-module _ {R L C : Type 0} (log : R → Log)
-    (gave : C → List ℕ → Type 0) (net : Link.Ghosts L) (words : LoadWords)
-    (link via then_link : L) (clock then_clock : C) (before mid later : R) (start run : LoadsSoFar)
-    (starts : StartsAs log net words via before mid start)
-    (sent : net.sent via ≡ net.sent link)
-    (quiet : net.faults via ≡ net.faults link) where
+module _ {L C R : Type 0} (o : Outside L C R) (words : LoadWords) (old : Edges L C R) (via : L)
+    (mid : R) (start : LoadsSoFar) (last : Moment LoadsSoFar L C R)
+    (starts : StartsAs o.log o.net words old.link via old.rec mid start) where
+  abbrev first : Moment LoadsSoFar L C R
+  first = where_at start via old.clock mid
+
+  abbrev run : LoadsSoFar
+  run = last.run
+
   -- turns were made since the start
   ran : (told : Status) (many : ℕ) → going_at run ≡ Over told
-      → net.faults then_link ≡ net.faults via
-      → LoadsTurns log gave net many (where_at start via clock mid)
-      (where_at run then_link then_clock later)
-      → HasRun log gave net words link then_link clock then_clock before later run
+      → o.net.faults last.edges.link ≡ o.net.faults via
+      → LoadsTurns o many first last → HasRun o words old last
   ran told many e still turns =
       let limits = limits_at words.timeout in
       let on = turns.on in
@@ -59,19 +59,19 @@ module _ {R L C : Type 0} (log : R → Log)
         mid = mid;
         start = start;
         starts = starts;
-        each = subst (λ n. Turns (HasLoaded log net gave) n (where_at start via clock mid)
-            (where_at run then_link then_clock later)) all turns.each;
+        each = subst (λ n. Turns (HasLoaded o) n (where_at start via old.clock mid) last) all
+            turns.each;
         over = λ on. let both : Over told ≡ On = sym e ∙ on in cc;
         plan = counts.plan ∙ starts.plan;
         turns = on.turns ∙ starts.turns;
         turned = record {
           noted = starts.noted ++ on.runs.goes.noted;
-          grew = grew-then log before mid later starts.noted on.runs.goes.noted starts.grew
-              on.runs.goes.grew;
+          grew = grew-then o.log old.rec mid last.edges.rec starts.noted on.runs.goes.noted
+              starts.grew on.runs.goes.grew;
           stands = on.runs.goes.goes_on limits starts.noted starts.stands;
           sends = on.runs.sends limits starts.noted starts.stands
-              ∙ ap (option_map (λ ds. ds ++ sent_of on.runs.goes.noted)) sent
-              ∙ ap (λ x. option_map (λ ds. ds ++ x) (net.sent link))
+              ∙ ap (option_map (λ ds. ds ++ sent_of on.runs.goes.noted)) starts.sent
+              ∙ ap (λ x. option_map (λ ds. ds ++ x) (o.net.sent old.link))
               (sym (sent-append starts.noted on.runs.goes.noted
               ∙ ap (λ x. x ++ sent_of on.runs.goes.noted) starts.sends));
           times = on.runs.times;
@@ -100,49 +100,33 @@ module _ {R L C : Type 0} (log : R → Log)
         tallies = subst (λ (c : Calls). Tallies c run.ledger.tally
             (starts.noted ++ on.runs.goes.noted)) (sym counts.plan)
             (counts.tally starts.noted opened);
-        quiet = still ∙ quiet;
+        quiet = still ∙ starts.faults;
       }
 
   pub has-run : (told : Status) → told ≢ NoMemory → told ≢ LinkFault
-      → TurnsEnd told log gave net (where_at start via clock mid)
-      (where_at run then_link then_clock later)
-      → HasRun log gave net words link then_link clock then_clock before later run
+      → TurnsEnd told o first last → HasRun o words old last
   has-run NoMemory kept held ends = absurd (kept refl)
   has-run LinkFault kept held ends = absurd (held refl)
   has-run told kept held ends = ran told ends.2 ends.0 ends.1 ends.3
 
--- and its line was written
-pub loads-printed : {R L C : Type 0} (log : R → Log)
-    (gave : C → List ℕ → Type 0) (net : Link.Ghosts L) (words : LoadWords) (link then_link : L)
-    (clock then_clock : C) (before later : R) (old new : Written)
-    (run : LoadsSoFar)
-    → HasRun log gave net words link then_link clock then_clock before later run
-    → (told : Status) → Prints run told old new
-    → Loads told log gave net words link then_link clock then_clock before later old new
-loads-printed log gave net words link then_link clock then_clock before later old new
-    run has LinkFault prints = absurd (end-known run LinkFault prints.0)
-loads-printed log gave net words link then_link clock then_clock before later old new
-    run has NoMemory prints = absurd (end-known run NoMemory prints.0)
-loads-printed log gave net words link then_link clock then_clock before later old new
-    run has told prints = (run, has, prints)
+  -- the link failed, or there was no memory, and nothing was written
+  pub loads-stopped : (page : Written) (told : Status) → (told ≡ LinkFault) ⊎ (told ≡ NoMemory)
+      → TurnsEnd told o first last
+      → NotesRun o.log (limits_at words.timeout) old.rec last.edges.rec
+      → Loads told o words old last.edges page page
+  loads-stopped page LinkFault which ends notes =
+      (subst (λ n. HasRisen n (o.net.faults last.edges.link)) starts.faults ends, notes, refl)
+  loads-stopped page NoMemory which ends notes = (ends ∙ starts.faults, notes, refl)
+  loads-stopped page told (inl e) ends notes = cc
+  loads-stopped page told (inr e) ends notes = cc
 
--- the link failed, or there was no memory, and nothing was written
-pub loads-stopped : {R L C : Type 0} (log : R → Log)
-    (gave : C → List ℕ → Type 0) (net : Link.Ghosts L) (words : LoadWords)
-    (link via then_link : L) (clock then_clock : C) (before mid later : R) (out : Written)
-    (start run : LoadsSoFar)
-    → net.faults via ≡ net.faults link
-    → (told : Status) → (told ≡ LinkFault) ⊎ (told ≡ NoMemory)
-    → TurnsEnd told log gave net (where_at start via clock mid)
-    (where_at run then_link then_clock later)
-    → NotesRun log (limits_at words.timeout) before later
-    → Loads told log gave net words link then_link clock then_clock before later out out
-loads-stopped log gave net words link via then_link clock then_clock before mid later out
-    start run quiet LinkFault which ends notes =
-    (subst (λ n. HasRisen n (net.faults then_link)) quiet ends, notes, refl)
-loads-stopped log gave net words link via then_link clock then_clock before mid later out
-    start run quiet NoMemory which ends notes = (ends ∙ quiet, notes, refl)
-loads-stopped log gave net words link via then_link clock then_clock before mid later out
-    start run quiet told (inl e) ends notes = cc
-loads-stopped log gave net words link via then_link clock then_clock before mid later out
-    start run quiet told (inr e) ends notes = cc
+-- and its line was written
+pub loads-printed : {L C R : Type 0} (o : Outside L C R) (words : LoadWords) (old : Edges L C R)
+    (last : Moment LoadsSoFar L C R) (page then_page : Written)
+    → HasRun o words old last → (told : Status) → Prints last.run told page then_page
+    → Loads told o words old last.edges page then_page
+loads-printed o words old last page then_page has LinkFault prints =
+    absurd (end-known last.run LinkFault prints.0)
+loads-printed o words old last page then_page has NoMemory prints =
+    absurd (end-known last.run NoMemory prints.0)
+loads-printed o words old last page then_page has told prints = (last.run, has, prints)

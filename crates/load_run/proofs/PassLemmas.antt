@@ -6,20 +6,20 @@ use Rattle.std.specs.Prelude.{◌==◌}
 use Rattle.std.proofs.Common.{◌+◌, ◌≤◌, add-zero, ap, ap₂, le-ltb, arith, length, refl, sym, subst, ◌∙◌}
 use Rattle.std.specs.List.{find}
 use Rattle.endpoint_loop.specs.PlainMembers.{plain_members}
-use Rattle.endpoint_loop.specs.Finishing.{staff_of}
+use Rattle.endpoint_node.specs.Jobs.{staff_of}
 use Rattle.rpc_outside.specs.Recording.{Log}
-use Rattle.endpoint_loop.specs.Applying.{Leaves}
-use Rattle.endpoint_loop.specs.Noting.{Makes, asked_in, is_asked, is_end_event, sent_by, sent_of}
-use Rattle.endpoint_loop.specs.Running.{asks_of, told}
-use Rattle.endpoint_loop.specs.Seen.{asking}
-use Rattle.endpoint_loop.proofs.GivingLemmas.{staffed-still}
-use Rattle.endpoint_loop.proofs.NotesLemmas.{ends-append, me-goes, no_asks}
-use Rattle.endpoint_loop.proofs.PollLemmas.{still-answers}
-use Rattle.endpoint_loop.proofs.StandingLemmas.{is_labour, me-more, none-ran}
-use Rattle.endpoint_loop.proofs.StandingLemmas.{none-worked, stands-more}
-use Rattle.endpoint_loop.proofs.StillLemmas.{AllStill, Stills, still-by, still-none}
-use Rattle.endpoint_loop.proofs.TurnLemmas.{many-append, many-none}
-use Rattle.endpoint_loop.proofs.NotingLemmas.{sent-append}
+use Rattle.endpoint_loop.specs.Endpoints.{Leaves}
+use Rattle.endpoint_node.specs.Notes.{Makes, asked_in, is_asked, is_end_event, sent_by, sent_of}
+use Rattle.endpoint_loop.specs.Endpoints.{asks_of, told}
+use Rattle.endpoint_node.specs.Seen.{asking}
+use Rattle.endpoint_node.proofs.PacketCrew.{staffed-still}
+use Rattle.endpoint_node.proofs.NoteEnds.{ends-append, me-goes, no_asks}
+use Rattle.endpoint_loop.proofs.PollLaw.{still-answers}
+use Rattle.endpoint_loop.proofs.StandingLaw.{is_labour, me-more, none-ran}
+use Rattle.endpoint_loop.proofs.StandingLaw.{none-worked, stands-more}
+use Rattle.endpoint_node.proofs.NoteStill.{AllStill, Stills, still-by, still-none}
+use Rattle.endpoint_node.proofs.NoteCounts.{many-append, many-none}
+use Rattle.endpoint_node.proofs.NoteSteps.{sent-append}
 use Rattle.load_plan.specs.Calls.{Calls, asked_bytes, room_of}
 use Rattle.load_run.specs.Loading.{AsksInOrder, Passes, ask_noted}
 use Rattle.load_run.proofs.OrderLemmas.{asked-stands, order-none, order-then}
@@ -46,8 +46,8 @@ use Rattle.rpc_laws.specs.Steps.{Rel}
 use Rattle.rpc_outside.specs.PlainAnswer.{background_answer}
 use Rattle.worker_crew.specs.Crews.{CrewState}
 use Rattle.worker_crew.specs.Dispatching.{jobs_in}
-use Rattle.plain_turns.specs.PlainTurns.{End, Stands, crew_members}
-use Rattle.plain_turns.proofs.RunLemmas.{goes-none, goes-then}
+use Rattle.rpc_turns.specs.Plain.{End, Stands, crew_members}
+use Rattle.rpc_turns.proofs.RunLemmas.{goes-none, goes-then}
 
 -- a handler ran, a job was worked, a datagram was sent, or a call ended
 abbrev pub is_loud : Event → Bool

@@ -6,21 +6,26 @@ use Rattle.std.specs.List.{filter, find, range_with_len}
 use Rattle.client_core.specs.Shown.{done_fact}
 use Rattle.count_line.specs.declared.word.Word.TheVariants as word
 use Rattle.count_line.specs.Line.{line_text}
-use Rattle.endpoint_loop.specs.declared.polling.Turn.{Turn}
-use Rattle.endpoint_loop.specs.Noting.{Makes, asked_in, is_asked, is_end, sent_of}
-use Rattle.endpoint_loop.specs.Reading.{pending_told}
+use Rattle.endpoint_loop.specs.declared.endpoint.poll.Turn.{Turn}
+use Rattle.endpoint_node.specs.Notes.{Makes, asked_in, is_asked, is_end, sent_of}
+use Rattle.endpoint_loop.specs.PlainMembers.{plain_members}
+use Rattle.endpoint_node.specs.Status.{pending_told}
 use Rattle.command_line.specs.Words.{LoadWords}
 use Rattle.load_plan.specs.Calls.{Calls, asked_bytes, calls_of, room_of}
-use Rattle.message_buffer.specs.Buffer.{Buffer, bytes_of, capacity_of}
-use Rattle.rpc_base.specs.declared.limits.TheConstants.{MOST_MESSAGE_BYTES}
-use Rattle.load_run.specs.declared.ended.Ended.{Ended}
+use Rattle.message_buffer.specs.Buffer.{Buffer}
 use Rattle.load_run.specs.declared.ledger.Ledger.{Ledger}
-use Rattle.load_run.specs.Tallies.{Counts, KeepsAll, Tallies}
-use Rattle.plain_turns.specs.Chains.{Moment, Turns, where_at}
-use Rattle.plain_turns.specs.PlainTurns.{End, GoesOnBy, HasTurned, RunsOn, Stands, TakesTurn}
-use Rattle.plain_turns.specs.PlainTurns.{limits_at}
-use Rattle.plain_turns.specs.Resting.{resting}
-use Rattle.plain_turns.specs.declared.rest.Rest.{Rest}
+use Rattle.load_run.specs.Tallies.{Counts, Tallies}
+use Rattle.rpc_turns.specs.Buffers.{AreBuffersFor}
+use Rattle.rpc_turns.specs.Chains.{Turns}
+use Rattle.rpc_turns.specs.Moments.{Edges, Moment, Outside, Rested, rested, where_at}
+use Rattle.rpc_turns.specs.Plain.{End, GoesOnBy, Stands, crew_members, limits_at}
+use Rattle.rpc_turns.specs.Queue.{KeepsAll}
+use Rattle.rpc_turns.specs.Rests.{resting}
+use Rattle.rpc_turns.specs.Turns.{HasTurned, RunsOn, TakesTurn}
+use Rattle.rpc_turns.specs.declared.ended.Ended.{Ended}
+use Rattle.rpc_turns.specs.declared.rest.Rest.{Rest}
+use Rattle.run_status.specs.Words.{sleeps}
+use Rattle.worker_crew.specs.Crews.{CrewState}
 use Rattle.load_run.specs.declared.run.TheConstants.{LOAD_CREDITS}
 use Rattle.rpc_base.specs.declared.event.Event.TheVariants.{Asked, Opened}
 use Rattle.rpc_base.specs.declared.fact.Fact.{Fact}
@@ -34,7 +39,7 @@ use Rattle.rpc_laws.specs.Groups.{Asks, Disconnects, state_of}
 use Rattle.rpc_laws.specs.Sessions.{is_client}
 use Rattle.rpc_laws.specs.Steps.{Rel, Visits}
 use Rattle.rpc_outside.specs.Faults.{HasRisen}
-use Rattle.rpc_outside.specs.Linking.{Carried}
+use Rattle.rpc_outside.specs.Linking.{NoneComes}
 use Rattle.rpc_outside.specs.Recording.{Grew, Log}
 use Rattle.rpc_outside.specs.Writing.{Broke, Wrote, Written}
 use Rattle.rpc_outside.specs.declared.link.Link as Link
@@ -64,11 +69,9 @@ pending_in s = pending_told (find (is_client s.session) s.endpoint.timed.lists.c
 abbrev pub unasked : LoadsSoFar → ℕ
 unasked s = s.ledger.plan.calls - s.asked
 
--- the buffers that a call is asked with: its bytes, which are not too many, and room for its answer
-pub record AreBuffersOf (c : Calls) (call : ℕ) (req resp : Buffer) : Type 0 where
-  pub asks : bytes_of req ≡ asked_bytes c call
-  pub len : req.len ≤ MOST_MESSAGE_BYTES
-  pub room : capacity_of resp ≡ room_of c
+-- the buffers that a call is asked with
+abbrev pub AreBuffersOf : Calls → (call : ℕ) → (req resp : Buffer) → Type 0
+AreBuffersOf c call req resp = AreBuffersFor (asked_bytes c call) (room_of c) req resp
 
 -- call k of a session, as it is noted where it is asked
 abbrev pub ask_noted : Calls → (session k : ℕ) → Fact
@@ -141,20 +144,29 @@ pub record Passes {R : Type 0} (log : R → Log) (old new : End) (before now : R
   pub sends : sent_of goes.noted ≡ []
   pub ends : filter is_end goes.noted ≡ []
 
+-- the same moment, of its endpoint alone, and with what it does where nothing comes
+abbrev pub end_at : {L C R : Type 0} → Moment LoadsSoFar L C R → Moment End L C R
+end_at m = record { run = m.run.endpoint; edges = m.edges }
+
+abbrev pub rested_by : {L C R : Type 0} → (endpoint : End) → Rest → Edges L C R
+    → Moment (Rested ℕ CrewState) L C R
+rested_by endpoint rest edges = record { run = rested endpoint rest; edges = edges }
+
 -- a turn was made: it was prepared, and the endpoint made a turn. The calls that were over then
 -- were counted, where there was memory for each
-pub record HasLoaded {R L C : Type 0} (log : R → Log) (net : Link.Ghosts L)
-    (gave : C → List ℕ → Type 0) (old new : Moment LoadsSoFar R L C) : Type 0 where
+pub record HasLoaded {L C R : Type 0} (o : Outside L C R) (old new : Moment LoadsSoFar L C R)
+    : Type 0 where
   pub ready : LoadsSoFar
   pub mid : R
-  pub prepares : Prepares log old.run ready old.rec mid
+  pub prepares : Prepares o.log old.run ready old.edges.rec mid
   pub keeps : Keeps old.run ready
   pub told : Option Turn
   pub none : Ended
   pub none_over : KeepsAll none []
   pub ended : Ended
-  pub takes : TakesTurn log net KeepsAll gave ready.rest new.run.rest told old.link new.link
-      old.clock new.clock ready.endpoint new.run.endpoint mid new.rec none ended
+  pub takes : TakesTurn plain_members crew_members o KeepsAll told
+      (rested_by ready.endpoint ready.rest (record old.edges { rec = mid }))
+      (rested_by new.run.endpoint new.run.rest new.edges) none ended
   pub counts : ended.whole ≡ true
       → Counts (map (done_fact 0) ended.dones.items) ready.ledger new.run.ledger
   pub then_is : new.run ≡ record ready {
@@ -166,27 +178,25 @@ pub record HasLoaded {R L C : Type 0} (log : R → Log) (net : Link.Ghosts L)
 
 -- n turns were made: its endpoint goes on by what was noted, and the calls that were asked and those
 -- that ended among that were counted
-pub record LoadsOn {R C : Type 0} (log : R → Log) (gave : C → List ℕ → Type 0)
-    (sent then_sent : Option (List Carried)) (clock then_clock : C) (old new : LoadsSoFar)
-    (before later : R) (n : ℕ) : Type 0 where
-  pub runs : RunsOn log gave sent then_sent clock then_clock old.endpoint new.endpoint
-      before later n
-  pub asks : (limits : Limits) → (past : List Fact) → Stands limits past old.endpoint
-      → new.asked ≡ old.asked + asked_in runs.goes.noted
-  pub order : (limits : Limits) → (past : List Fact) → Stands limits past old.endpoint
-      → old.asked ≡ asked_in past → AsksInOrder old.ledger.plan old.session old.asked runs.goes.noted
-  pub counts : (limits : Limits) → (past : List Fact) → Stands limits past old.endpoint
-      → Counts runs.goes.noted old.ledger new.ledger
-  pub session : new.session ≡ old.session
-  pub turns : new.turns ≡ old.turns
-  pub made : new.made ≡ old.made + n
+pub record LoadsOn {L C R : Type 0} (o : Outside L C R) (old new : Moment LoadsSoFar L C R) (n : ℕ)
+    : Type 0 where
+  pub runs : RunsOn plain_members crew_members o (end_at old) (end_at new) n
+  pub asks : (limits : Limits) → (past : List Fact) → Stands limits past old.run.endpoint
+      → new.run.asked ≡ old.run.asked + asked_in runs.goes.noted
+  pub order : (limits : Limits) → (past : List Fact) → Stands limits past old.run.endpoint
+      → old.run.asked ≡ asked_in past
+      → AsksInOrder old.run.ledger.plan old.run.session old.run.asked runs.goes.noted
+  pub counts : (limits : Limits) → (past : List Fact) → Stands limits past old.run.endpoint
+      → Counts runs.goes.noted old.run.ledger new.run.ledger
+  pub session : new.run.session ≡ old.run.session
+  pub turns : new.run.turns ≡ old.run.turns
+  pub made : new.run.made ≡ old.run.made + n
 
 -- so many turns were made, one after another: what follows from them stands beside them
-pub record LoadsTurns {R L C : Type 0} (log : R → Log) (gave : C → List ℕ → Type 0)
-    (net : Link.Ghosts L) (many : ℕ) (old new : Moment LoadsSoFar R L C) : Type 0 where
-  pub each : Turns (HasLoaded log net gave) many old new
-  pub on : LoadsOn log gave (net.sent old.link) (net.sent new.link) old.clock new.clock old.run
-      new.run old.rec new.rec many
+pub record LoadsTurns {L C R : Type 0} (o : Outside L C R) (many : ℕ)
+    (old new : Moment LoadsSoFar L C R) : Type 0 where
+  pub each : Turns (HasLoaded o) many old new
+  pub on : LoadsOn o old new many
 
 -- unless there was no memory
 abbrev pub UnlessNoMemory : Going → Type 0 → Type 0
@@ -249,17 +259,21 @@ pub record Reaches {L : Type 0} (net : Link.Ghosts L) (words : LoadWords) (link 
   pub bound : IfSome (net.bound link) (λ bytes. bytes ≡ words.bind)
   pub number : IfSome (net.numbers link words.addr) (λ number. number ≡ peer)
 
--- a client was started: its link reaches the server, a session was opened with it, and nothing asked
--- yet
-pub record StartsAs {R L : Type 0} (log : R → Log) (net : Link.Ghosts L) (words : LoadWords)
-    (link : L) (before now : R) (s : LoadsSoFar) : Type 0 where
+-- a client was started: its link reaches the server, and tells else what it told; a session was
+-- opened with the server, and nothing asked yet
+pub record StartsAs {L R : Type 0} (log : R → Log) (net : Link.Ghosts L) (words : LoadWords)
+    (link then_link : L) (before now : R) (s : LoadsSoFar) : Type 0 where
   pub noted : List Fact
   pub peer : ℕ
-  pub reaches : Reaches net words link peer
+  pub reaches : Reaches net words then_link peer
+  pub sent : net.sent then_link ≡ net.sent link
+  pub lists : NoneComes net.waiting net.received link then_link
+  pub faults : net.faults then_link ≡ net.faults link
+  pub busies : net.busies then_link ≡ net.busies link
   pub opens : noted ≡ plain 0 (Opened s.session peer LOAD_CREDITS) ∷ []
   pub grew : Grew (log before) (log now) noted
   pub stands : Stands (limits_at words.timeout) noted s.endpoint
-  pub rest : s.rest ≡ resting words.idle words.timeout
+  pub rest : s.rest ≡ resting (sleeps words.idle) words.timeout
   pub sends : sent_of noted ≡ []
   pub ends : filter is_end noted ≡ []
   pub none : asked_in noted ≡ 0
@@ -271,40 +285,38 @@ pub record StartsAs {R L : Type 0} (log : R → Log) (net : Link.Ghosts L) (word
 
 -- how the turns of a run end: the link failed; or there was no memory, and it didn't; or the run is
 -- over, and it didn't
-abbrev pub TurnsEnd : {R L C : Type 0} → Status → (R → Log) → (C → List ℕ → Type 0)
-    → (net : Link.Ghosts L) → (old new : Moment LoadsSoFar R L C) → Type 0
-TurnsEnd status.LinkFault log gave net old new =
-    HasRisen (net.faults old.link) (net.faults new.link)
-TurnsEnd status.NoMemory log gave net old new = net.faults new.link ≡ net.faults old.link
-TurnsEnd told log gave net old new =
+abbrev pub TurnsEnd : {L C R : Type 0} → Status → Outside L C R
+    → (old new : Moment LoadsSoFar L C R) → Type 0
+TurnsEnd status.LinkFault o old new =
+    HasRisen (o.net.faults old.edges.link) (o.net.faults new.edges.link)
+TurnsEnd status.NoMemory o old new = o.net.faults new.edges.link ≡ o.net.faults old.edges.link
+TurnsEnd told o old new =
     (going_at new.run ≡ Over told)
-    × (net.faults new.link ≡ net.faults old.link)
+    × (o.net.faults new.edges.link ≡ o.net.faults old.edges.link)
     × (many : ℕ)
-    × LoadsTurns log gave net many old new
+    × LoadsTurns o many old new
 
 -- what `load` did once its run was over: it was started, and made its turns, one after another; the
 -- calls that were asked are the first of its calls, in their order; how many were and how calls
 -- ended are counts of what was noted, and the link didn't fail
-pub record HasRun {R L C : Type 0} (log : R → Log) (gave : C → List ℕ → Type 0)
-    (net : Link.Ghosts L) (words : LoadWords) (link then_link : L) (clock then_clock : C)
-    (before later : R) (run : LoadsSoFar) : Type 0 where
+pub record HasRun {L C R : Type 0} (o : Outside L C R) (words : LoadWords) (old : Edges L C R)
+    (new : Moment LoadsSoFar L C R) : Type 0 where
   pub ready : L
   pub mid : R
   pub start : LoadsSoFar
-  pub starts : StartsAs log net words ready before mid start
-  pub each : Turns (HasLoaded log net gave) run.made (where_at start ready clock mid)
-      (where_at run then_link then_clock later)
-  pub over : going_at run ≢ On
-  pub plan : run.ledger.plan ≡ calls_of words
-  pub turns : run.turns ≡ words.turns
-  pub turned : HasTurned log gave (limits_at words.timeout) (net.sent link) (net.sent then_link)
-      clock then_clock before later run.made run.endpoint
+  pub starts : StartsAs o.log o.net words old.link ready old.rec mid start
+  pub each : Turns (HasLoaded o) new.run.made (where_at start ready old.clock mid) new
+  pub over : going_at new.run ≢ On
+  pub plan : new.run.ledger.plan ≡ calls_of words
+  pub turns : new.run.turns ≡ words.turns
+  pub turned : HasTurned plain_members crew_members o (limits_at words.timeout) old (end_at new)
+      new.run.made
   pub opens : (peer : ℕ) × (rest : List Fact)
-      × (turned.noted ≡ plain 0 (Opened run.session peer LOAD_CREDITS) ∷ rest)
-  pub asked : run.asked ≡ asked_in turned.noted
-  pub order : AsksInOrder run.ledger.plan run.session 0 turned.noted
-  pub tallies : Tallies run.ledger.plan run.ledger.tally turned.noted
-  pub quiet : net.faults then_link ≡ net.faults link
+      × (turned.noted ≡ plain 0 (Opened new.run.session peer LOAD_CREDITS) ∷ rest)
+  pub asked : new.run.asked ≡ asked_in turned.noted
+  pub order : AsksInOrder new.run.ledger.plan new.run.session 0 turned.noted
+  pub tallies : Tallies new.run.ledger.plan new.run.ledger.tally turned.noted
+  pub quiet : o.net.faults new.edges.link ≡ o.net.faults old.link
 
 -- the facts that were noted are a run of node 0 with these limits
 pub record NotesRun {R : Type 0} (log : R → Log) (limits : Limits) (before later : R)
@@ -315,18 +327,15 @@ pub record NotesRun {R : Type 0} (log : R → Log) (limits : Limits) (before lat
 
 -- how `load` ends: the link failed, or there was no memory and it didn't, and nothing was written;
 -- or its run was over, and the line was written, or a front of it where the sink failed
-abbrev pub Loads : {R L C : Type 0} → Status → (R → Log) → (C → List ℕ → Type 0)
-    → (net : Link.Ghosts L) → LoadWords → (link then_link : L) → (clock then_clock : C)
-    → (before later : R) → (old new : Written) → Type 0
-Loads status.LinkFault log gave net words link then_link clock then_clock before later
-    old new =
-    HasRisen (net.faults link) (net.faults then_link)
-    × NotesRun log (limits_at words.timeout) before later × (new ≡ old)
-Loads status.NoMemory log gave net words link then_link clock then_clock before later
-    old new =
-    (net.faults then_link ≡ net.faults link)
-    × NotesRun log (limits_at words.timeout) before later × (new ≡ old)
-Loads told log gave net words link then_link clock then_clock before later old new =
+abbrev pub Loads : {L C R : Type 0} → Status → Outside L C R → LoadWords
+    → (old new : Edges L C R) → (page then_page : Written) → Type 0
+Loads status.LinkFault o words old new page then_page =
+    HasRisen (o.net.faults old.link) (o.net.faults new.link)
+    × NotesRun o.log (limits_at words.timeout) old.rec new.rec × (then_page ≡ page)
+Loads status.NoMemory o words old new page then_page =
+    (o.net.faults new.link ≡ o.net.faults old.link)
+    × NotesRun o.log (limits_at words.timeout) old.rec new.rec × (then_page ≡ page)
+Loads told o words old new page then_page =
     (run : LoadsSoFar)
-    × HasRun log gave net words link then_link clock then_clock before later run
-    × Prints run told old new
+    × HasRun o words old (record { run = run; edges = new })
+    × Prints run told page then_page

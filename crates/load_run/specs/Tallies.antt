@@ -1,8 +1,6 @@
 -- How the calls of a load ended.
-use Rattle.std.specs.Prelude.{◌≡◌, ℕ, Bool, true, false, not, List, ◌++◌, count_by, min}
-use Rattle.client_core.specs.declared.outcome.Done.{Done}
+use Rattle.std.specs.Prelude.{ℕ, Bool, true, false, not, List, ◌++◌, ◌≡◌, count_by, min}
 use Rattle.load_plan.specs.Calls.{Calls, is_right}
-use Rattle.load_run.specs.declared.ended.Ended.{Ended}
 use Rattle.load_run.specs.declared.ledger.Ledger.{Ledger}
 use Rattle.load_run.specs.declared.tally.Ending.{Ending}
 use Rattle.load_run.specs.declared.tally.Ending.TheVariants.{Right, Small, Lost, Wrong}
@@ -40,7 +38,3 @@ pub record Counts (x : List Fact) (from to : Ledger) : Type 0 where
   pub plan : to.plan ≡ from.plan
   pub tally : (past : List Fact) → Tallies from.plan from.tally past
       → Tallies from.plan to.tally (past ++ x)
-
--- the calls that are over may be these: they are, where each was kept
-abbrev pub KeepsAll : Ended → List Done → Type 0
-KeepsAll k dones = k.whole ≡ true → k.dones.items ≡ dones

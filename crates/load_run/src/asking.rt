@@ -1,10 +1,10 @@
 //! Calls are asked before a turn, and the session is closed once all are over.
 ghost use Rattle.std.specs.Prelude.{◌≡◌, ◌+◌, ◌<◌, OnErr, OnOk};
-ghost use Rattle.endpoint_loop.specs.Noting.{Makes};
+ghost use Rattle.endpoint_node.specs.Notes.{Makes};
 ghost use Rattle.load_plan.specs.Calls.{asked_bytes, room_of};
 ghost use Rattle.load_run.specs.Loading.{AsksMany, ClosesIdle, Keeps, Passes, Prepares, state_in};
 ghost use Rattle.load_run.specs.Loading.{unasked};
-ghost use Rattle.plain_turns.specs.PlainTurns.{GoesOnBy};
+ghost use Rattle.rpc_turns.specs.Plain.{GoesOnBy};
 ghost use Rattle.rpc_base.specs.declared.state.SessionState.TheVariants.{Connected};
 ghost use Rattle.rpc_laws.specs.Groups.{Asks};
 
@@ -36,7 +36,7 @@ impl<H: Wait> LoadRun<H> {
     {
         let tag = u64::from(self.asked);
         let req_type = self.ledger.plan.req_type;
-        let (req, resp) = self.ledger.buffers(self.alloc, &mut self.spare, tag)?;
+        let (req, resp) = self.ledger.buffers(&mut self.buffers, tag)?;
         match self
             .endpoint
             .ask(self.session, req_type, req, resp, tag, rec)

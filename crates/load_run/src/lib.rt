@@ -3,7 +3,6 @@
 #![tactic(auto)]
 
 mod asking;
-mod ended;
 mod ledger;
 mod loading;
 mod run;

@@ -2,8 +2,8 @@
 ghost use Rattle.std.specs.Prelude.{◌<◌};
 ghost use Rattle.command_line.specs.Answers.{IsLoadInRange};
 ghost use Rattle.load_run.specs.Loading.{Loads, TurnsEnd};
-ghost use Rattle.plain_turns.specs.Chains.{where_at};
-ghost use Rattle.plain_turns.specs.PlainTurns.{GoesOnBy};
+ghost use Rattle.rpc_turns.specs.Moments.{edges_of, outside, where_at};
+ghost use Rattle.rpc_turns.specs.Plain.{GoesOnBy};
 
 use crate::run::LoadRun;
 use command_line::LoadSpec;
@@ -20,7 +20,7 @@ fn turn_all<H: Wait + Drop, L: Link, C: Clock, R: Recorder>(
     rec: &mut R,
 ) -> Status
     requires left { run.old.made < run.old.turns }
-    ensures ends { TurnsEnd result R.log C.gave L.Link
+    ensures ends { TurnsEnd result (outside L.Link C.gave R.log)
         (where_at run.old link.old clock.old rec.old)
         (where_at run.new link.new clock.new rec.new) }
     ensures goes_on { GoesOnBy R.log run.old.endpoint run.new.endpoint rec.old rec.new }
@@ -47,8 +47,9 @@ pub fn load<H: Wait + Drop, K: Sink, L: Link, C: Clock, R: Recorder>(
     rec: &mut R,
 ) -> Status
     requires { IsLoadInRange spec.now }
-    ensures { Loads result R.log C.gave L.Link spec.now link.old link.new clock.old clock.new
-        rec.old rec.new (K.page sink.old) (K.page sink.new) }
+    ensures { Loads result (outside L.Link C.gave R.log) spec.now
+        (edges_of link.old clock.old rec.old) (edges_of link.new clock.new rec.new)
+        (K.page sink.old) (K.page sink.new) }
 {
     let mut run = match LoadRun::start(rt, alloc, spec, link, rec) {
         Ok(run) => run,

@@ -6,24 +6,23 @@ ghost use Rattle.load_run.specs.Loading.{calls_line};
 ghost use Rattle.load_run.specs.Loading.{Answers, HasLoaded, LoadsOn, Prints, Reaches, StartsAs};
 ghost use Rattle.load_run.specs.Loading.{UnlessFailed, UnlessNoMemory, going_at, is_clean};
 ghost use Rattle.load_run.specs.Loading.{pending_in, state_in, unasked};
-ghost use Rattle.plain_turns.specs.Chains.{where_at};
-ghost use Rattle.plain_turns.specs.PlainTurns.{GoesOnBy, WhyNot};
-ghost use Rattle.plain_turns.specs.Resting.{TellsNothingNew};
+ghost use Rattle.rpc_turns.specs.Moments.{outside, where_at};
+ghost use Rattle.rpc_turns.specs.Plain.{GoesOnBy};
+ghost use Rattle.rpc_turns.specs.Rests.{TellsNothingNew};
+ghost use Rattle.run_status.specs.Words.{WhyNot};
 ghost use Rattle.rpc_outside.specs.Faults.{HasCause};
 ghost use Rattle.rpc_outside.specs.Linking.{NoneComes};
 ghost use Rattle.run_status.specs.declared.going.Going.TheVariants.{On, Over};
 
-use crate::ended::Ended;
 use crate::ledger::Ledger;
 use crate::tally::Tally;
 use command_line::LoadSpec;
 use count_line::{Count, Word, write_counts};
 use load_plan::Plan;
-use message_buffer::MsgBuf;
-use plain_turns::{PlainEndpoint, Rest, let_go, plain_endpoint, take_turn};
 use rpc_base::{Peer, SessionNo, SessionState};
 use rpc_outside::{Clock, Failed, Link, Recorder, Sink};
-use run_status::{Going, Status};
+use rpc_turns::{Buffers, Ended, PlainEndpoint, Rest, let_go, plain_endpoint, take_turn};
+use run_status::{Going, Status, sleeps};
 use std::alloc::Global;
 use std::marker::Model;
 use std::sync::Wait;
@@ -43,7 +42,7 @@ pub struct LoadRun<H: Wait> {
     pub(crate) ledger: Ledger,
     pub(crate) asked: u32,
     // The buffers of calls that are over.
-    pub(crate) spare: Vec<(MsgBuf, MsgBuf)>,
+    pub(crate) buffers: Buffers,
     turns: u32,
     made: u32,
 }
@@ -154,7 +153,8 @@ impl<H: Wait + Drop> LoadRun<H> {
         rec: &mut R,
     ) -> Result<LoadRun<H>, Status>
         requires { IsLoadInRange spec.now }
-        ensures starts { IfOk result (StartsAs R.log L.Link spec.now link.new rec.old rec.new) }
+        ensures starts { IfOk result (StartsAs R.log L.Link spec.now link.old link.new rec.old
+            rec.new) }
         ensures sent { L.sent link.new ≡ L.sent link.old }
         ensures lists { NoneComes L.waiting L.received link.old link.new }
         ensures busies { L.busies link.new ≡ L.busies link.old }
@@ -179,14 +179,14 @@ impl<H: Wait + Drop> LoadRun<H> {
         Ok(LoadRun {
             alloc,
             endpoint,
-            rest: Rest::new(spec.idle, spec.timeout),
+            rest: Rest::new(sleeps(spec.idle), spec.timeout),
             session,
             ledger: Ledger {
                 plan,
                 tally: Tally::new(),
             },
             asked: 0,
-            spare: Vec::new(alloc),
+            buffers: Buffers::new(alloc),
             turns: spec.turns,
             made: 0,
         })
@@ -207,10 +207,12 @@ impl<H: Wait + Drop> LoadRun<H> {
     ) -> Going
         requires left { self.old.made < self.old.turns }
         ensures loads { UnlessNoMemory result
-            (HasLoaded R.log L.Link C.gave (where_at self.old link.old clock.old rec.old)
+            (HasLoaded (outside L.Link C.gave R.log)
+            (where_at self.old link.old clock.old rec.old)
             (where_at self.new link.new clock.new rec.new)) }
-        ensures on { UnlessFailed result (LoadsOn R.log C.gave (L.sent link.old)
-            (L.sent link.new) clock.old clock.new self.old self.new rec.old rec.new 1) }
+        ensures on { UnlessFailed result (LoadsOn (outside L.Link C.gave R.log)
+            (where_at self.old link.old clock.old rec.old)
+            (where_at self.new link.new clock.new rec.new) 1) }
         ensures goes_on { GoesOnBy R.log self.old.endpoint self.new.endpoint rec.old
             rec.new }
         ensures answers { Answers (L.faults link.old) (L.faults link.new) self.new result }
@@ -229,7 +231,7 @@ impl<H: Wait + Drop> LoadRun<H> {
             rec,
         );
         self.made += 1;
-        match (turned, self.ledger.count(ended, &mut self.spare)) {
+        match (turned, self.ledger.count(ended, &mut self.buffers)) {
             (Err(_), _) => Going::Over(Status::LinkFault),
             (Ok(_), Err(_)) => Going::Over(Status::NoMemory),
             (Ok(_), Ok(())) => self.going(),

@@ -8,6 +8,7 @@ ghost use Rattle.rpc_tools.specs.Alone.{StartsNone, StaysAlone};
 ghost use Rattle.rpc_outside.specs.Faults.{IsQuiet};
 ghost use Rattle.rpc_tools.specs.Drills.{Drills, Succeeds as DrillSucceeds};
 ghost use Rattle.rpc_tools.specs.Outcomes.{NothingDone, Simulates, Succeeds, Unmoved};
+ghost use Rattle.rpc_turns.specs.Moments.{edges_of, outside};
 ghost use Rattle.script_grammar.specs.declared.line.Line.{Line};
 ghost use Rattle.script_grammar.specs.Script.{script_of};
 ghost use Rattle.serve_run.specs.Serving.{Serves};
@@ -75,12 +76,14 @@ where
         → Unmoved (S.input source.old) (S.input source.new) }
     ensures serves { (words' : ServeWords)
         → task_of (map string_bytes words.now) ≡ Some (Task.Serve words')
-        → Serves result R.log C.gave L.Link words' link.old link.new clock.old clock.new rec.old
-        rec.new (K.page sink.old) (K.page sink.new) }
+        → Serves result (outside L.Link C.gave R.log) words'
+        (edges_of link.old clock.old rec.old) (edges_of link.new clock.new rec.new)
+        (K.page sink.old) (K.page sink.new) }
     ensures loads { (words' : LoadWords)
         → task_of (map string_bytes words.now) ≡ Some (Task.Load words')
-        → Loads result R.log C.gave L.Link words' link.old link.new clock.old clock.new rec.old
-        rec.new (K.page sink.old) (K.page sink.new) }
+        → Loads result (outside L.Link C.gave R.log) words'
+        (edges_of link.old clock.old rec.old) (edges_of link.new clock.new rec.new)
+        (K.page sink.old) (K.page sink.new) }
     ensures alone { StaysAlone (task_of (map string_bytes words.now)) link.old link.new clock.old
         clock.new rec.old rec.new }
     ensures drilled { (seed calls : ℕ)

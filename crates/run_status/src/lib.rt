@@ -3,6 +3,8 @@
 
 mod going;
 mod status;
+mod words;
 
 pub use going::Going;
 pub use status::Status;
+pub use words::sleeps;

@@ -1,10 +1,13 @@
 //! A run of a server.
 ghost use Rattle.std.specs.Prelude.{◌≡◌, ◌<◌, [], IfOk, IfErr, IfSome, OnErr, OnOk};
 ghost use Rattle.command_line.specs.Answers.{IsServeInRange};
-ghost use Rattle.plain_turns.specs.Chains.{where_at};
-ghost use Rattle.plain_turns.specs.PlainTurns.{IsCrewed, RunsOn, WhyNot, limits_at};
+ghost use Rattle.endpoint_loop.specs.PlainMembers.{plain_members};
+ghost use Rattle.rpc_turns.specs.Moments.{outside, where_at};
+ghost use Rattle.rpc_turns.specs.Plain.{IsCrewed, crew_members, limits_at};
+ghost use Rattle.rpc_turns.specs.Turns.{RunsOn};
 ghost use Rattle.rpc_outside.specs.Faults.{HasCause};
 ghost use Rattle.rpc_outside.specs.Linking.{NoneComes};
+ghost use Rattle.run_status.specs.Words.{WhyNot};
 ghost use Rattle.run_status.specs.declared.going.Going.TheVariants.{On};
 ghost use Rattle.serve_run.specs.Serving.{Answers, HasServed, Prints, StartsServing, Writes};
 ghost use Rattle.serve_run.specs.Serving.{one_more, turns_line};
@@ -14,10 +17,10 @@ use client_core::Done;
 use command_line::ServeSpec;
 use count_line::{Count, Word, write_counts};
 use endpoint_loop::Continuation;
-use plain_turns::{PlainEndpoint, Rest, plain_endpoint, stop, take_turn};
 use rpc_laws::Counted;
 use rpc_outside::{Clock, Failed, Link, PlainDuty, Recorder, Sink};
-use run_status::{Going, Status};
+use rpc_turns::{PlainEndpoint, Rest, plain_endpoint, stop, take_turn};
+use run_status::{Going, Status, sleeps};
 use std::alloc::Global;
 use std::marker::Model;
 use std::sync::Wait;
@@ -132,7 +135,7 @@ impl<H: Wait + Drop> ServeRun<H> {
         };
         Ok(ServeRun {
             endpoint,
-            rest: Rest::new(spec.idle, spec.timeout),
+            rest: Rest::new(sleeps(spec.idle), spec.timeout),
             turns: spec.turns,
             made: 0,
         })
@@ -149,11 +152,12 @@ impl<H: Wait + Drop> ServeRun<H> {
         rec: &mut R,
     ) -> Going
         requires left { self.old.made < self.old.turns }
-        ensures serves { HasServed R.log L.Link C.gave
+        ensures serves { HasServed (outside L.Link C.gave R.log)
             (where_at self.old link.old clock.old rec.old)
             (where_at self.new link.new clock.new rec.new) }
-        ensures tells { RunsOn R.log C.gave (L.sent link.old) (L.sent link.new) clock.old
-            clock.new self.old.endpoint self.new.endpoint rec.old rec.new 1 }
+        ensures tells { RunsOn plain_members crew_members (outside L.Link C.gave R.log)
+            (where_at self.old.endpoint link.old clock.old rec.old)
+            (where_at self.new.endpoint link.new clock.new rec.new) 1 }
         ensures counted { self.new ≡ one_more self.new.endpoint self.new.rest self.old }
         ensures answers { Answers (L.faults link.old) (L.faults link.new) self.new result }
         ensures left { result ≡ On → self.new.made < self.new.turns }

@@ -1,7 +1,7 @@
 //! `serve`, from its start to its end.
 ghost use Rattle.std.specs.Prelude.{◌≡◌, ◌<◌, []};
 ghost use Rattle.command_line.specs.Answers.{IsServeInRange};
-ghost use Rattle.plain_turns.specs.Chains.{where_at};
+ghost use Rattle.rpc_turns.specs.Moments.{edges_of, outside, where_at};
 ghost use Rattle.serve_run.specs.Serving.{Serves, TurnsEnd};
 ghost use Rattle.worker_crew.specs.Crews.{team_of};
 
@@ -22,7 +22,7 @@ fn turn_all<H: Wait + Drop, L: Link, C: Clock, R: Recorder>(
 ) -> Status
     requires left { run.old.made < run.old.turns }
     ensures team { team_of run.new.endpoint.workers ≡ team_of run.old.endpoint.workers }
-    ensures ends { TurnsEnd result R.log C.gave L.Link
+    ensures ends { TurnsEnd result (outside L.Link C.gave R.log)
         (where_at run.old link.old clock.old rec.old)
         (where_at run.new link.new clock.new rec.new) }
 {
@@ -57,8 +57,9 @@ where
     requires range { IsServeInRange spec.now }
     requires none { P.hands_out spawner.old ≡ [] }
     ensures none { P.hands_out spawner.new ≡ [] }
-    ensures serves { Serves result R.log C.gave L.Link spec.now link.old link.new clock.old
-        clock.new rec.old rec.new (K.page sink.old) (K.page sink.new) }
+    ensures serves { Serves result (outside L.Link C.gave R.log) spec.now
+        (edges_of link.old clock.old rec.old) (edges_of link.new clock.new rec.new)
+        (K.page sink.old) (K.page sink.new) }
 {
     let mut run = match ServeRun::start(rt, alloc, spec, link, spawner) {
         Ok(run) => run,

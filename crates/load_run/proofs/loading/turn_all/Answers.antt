@@ -1,26 +1,26 @@
 use Rattle.load_run.proofs.EndLemmas.{some-ends, some-goes, some-more, some-none}
-use Rattle.plain_turns.specs.Chains.{where_at}
+use Rattle.rpc_turns.specs.Moments.{outside, where_at}
 use Rattle.load_run.proofs.loading.turn_all.Goals as goal
 
 pub turns-init : goal.turns-init
-turns-init g c = some-none g.R.Recorder.log g.C.Clock.gave g.L.Link _ c.requires.left
+turns-init g c = some-none (outside g.L.Link g.C.Clock.gave g.R.Recorder.log) _ c.requires.left
 
 pub returns-in-Over-clause-ends : goal.returns-in-Over-clause-ends
 returns-in-Over-clause-ends g c =
-    some-ends g.R.Recorder.log g.C.Clock.gave g.L.Link _ _
+    some-ends (outside g.L.Link g.C.Clock.gave g.R.Recorder.log) _ _
     (where_at c.turn.new.self c.turn.new.link c.turn.new.clock c.turn.new.rec) c.turns.invariant
     c.turn.ensures.goes_on c.in-Over.status c.in-Over.ensures.answers c.in-Over.ensures.loads
     c.in-Over.ensures.on
 
 pub returns-in-Over-clause-goes_on : goal.returns-in-Over-clause-goes_on
 returns-in-Over-clause-goes_on g c =
-    some-goes g.R.Recorder.log g.C.Clock.gave g.L.Link _ _
+    some-goes (outside g.L.Link g.C.Clock.gave g.R.Recorder.log) _ _
     (where_at c.turn.new.self c.turn.new.link c.turn.new.clock c.turn.new.rec) c.turns.invariant
     c.turn.ensures.goes_on
 
 pub turns-preserved : goal.turns-preserved
 turns-preserved g c =
-    some-more g.R.Recorder.log g.C.Clock.gave g.L.Link _ _
+    some-more (outside g.L.Link g.C.Clock.gave g.R.Recorder.log) _ _
     (where_at c.turn.new.self c.turn.new.link c.turn.new.clock c.turn.new.rec) c.turns.invariant
     c.turn.ensures.goes_on c.turn.result c.in_default.is c.turn.ensures.answers
     c.turn.ensures.loads c.turn.ensures.on

@@ -1,12 +1,12 @@
 -- turns were made, and more are left
 use Rattle.std.proofs.Common.{◌-◌}
 use Rattle.load_run.proofs.EndLemmas.{GoesSome}
-use Rattle.plain_turns.specs.Chains.{where_at}
+use Rattle.rpc_turns.specs.Moments.{outside, where_at}
 use Rattle.load_run.proofs.loading.turn_all.Given as goal
 
 abbrev pub invariant-turns : goal.invariant-turns
 invariant-turns g l =
-    GoesSome g.R.Recorder.log g.C.Clock.gave g.L.Link
+    GoesSome (outside g.L.Link g.C.Clock.gave g.R.Recorder.log)
     (where_at l.initial.run l.initial.link l.initial.clock l.initial.rec)
     (where_at l.run l.link l.clock l.rec)
 

@@ -1,13 +1,13 @@
 -- turns were made, and some are left
 use Rattle.std.proofs.Common.{◌≡◌, ◌<◌, ◌-◌}
-use Rattle.plain_turns.specs.Chains.{where_at}
+use Rattle.rpc_turns.specs.Moments.{outside, where_at}
 use Rattle.serve_run.specs.Serving.{ServesOn}
 use Rattle.worker_crew.specs.Crews.{team_of}
 use Rattle.serve_run.proofs.serving.turn_all.Given as goal
 
 abbrev pub invariant-turns : goal.invariant-turns
 invariant-turns g l =
-    ServesOn g.R.Recorder.log g.C.Clock.gave g.L.Link
+    ServesOn (outside g.L.Link g.C.Clock.gave g.R.Recorder.log)
     (where_at l.initial.run l.initial.link l.initial.clock l.initial.rec)
     (where_at l.run l.link l.clock l.rec)
     × (g.L.Link.faults l.link ≡ g.L.Link.faults l.initial.link)

@@ -1,5 +1,5 @@
 use Rattle.load_run.proofs.AskLemmas.{asks-more, asks-none}
-use Rattle.plain_turns.proofs.RunLemmas.{goes-then}
+use Rattle.rpc_turns.proofs.RunLemmas.{goes-then}
 use Rattle.load_run.proofs.run.LoadRun.ask_many.Goals as goal
 
 pub calls-init : goal.calls-init

@@ -6,7 +6,7 @@ use Rattle.load_run.specs.Loading.{LoadsSoFar, Passes, state_in}
 use Rattle.message_buffer.specs.Buffer.{bytes_of}
 use Rattle.load_run.proofs.AskLemmas.{wants-memory}
 use Rattle.load_run.proofs.PassLemmas.{asks-pass, passes-none}
-use Rattle.plain_turns.specs.PlainTurns.{End}
+use Rattle.rpc_turns.specs.Plain.{End}
 use Rattle.rpc_base.specs.declared.state.SessionState.TheVariants.{Connected}
 use Rattle.load_run.proofs.run.LoadRun.ask_next.Goals as goal
 

@@ -9,8 +9,8 @@ returns-then-pending-eq0-clause-passes g c =
     subst (λ (s : LoadsSoFar). Passes g.R.Recorder.log s.endpoint
     c.disconnect-closing.new.self c.args.rec.now c.disconnect-closing.new.rec s.ledger.plan s.session
     s.asked c.self.inside.asked) c.self.view_is
-    (close-passes g.R.Recorder.log _ _ _ _ c.disconnect-closing.ensures.leaves
-    _ _ _ c.disconnect-closing.ensures.makes)
+    (close-passes g.R.Recorder.log _ _ _ _ c.disconnect-closing.ensures.call.leaves
+    _ _ _ c.disconnect-closing.ensures.call.makes)
 
 pub returns-else-pending-eq0-clause-passes : goal.returns-else-pending-eq0-clause-passes
 returns-else-pending-eq0-clause-passes g c =

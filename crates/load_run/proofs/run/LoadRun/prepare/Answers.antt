@@ -1,6 +1,6 @@
 -- calls are asked, and the session begins to close where none is pending
 use Rattle.std.proofs.Common.{refl}
-use Rattle.plain_turns.proofs.RunLemmas.{goes-then}
+use Rattle.rpc_turns.proofs.RunLemmas.{goes-then}
 use Rattle.load_run.proofs.PassLemmas.{passes-none, passes-then}
 use Rattle.load_run.proofs.run.LoadRun.prepare.Goals as goal
 

@@ -1,8 +1,9 @@
 -- a session is opened
 use Rattle.std.proofs.Common.{[], ◌∷◌, ◌∙◌, ap, ap₂, arith, refl, subst, sym}
 use Rattle.command_line.specs.Words.{LoadWords}
-use Rattle.plain_turns.specs.PlainTurns.{Stands, limits_at}
-use Rattle.plain_turns.specs.Resting.{resting}
+use Rattle.rpc_turns.specs.Plain.{Stands, limits_at}
+use Rattle.rpc_turns.specs.Rests.{resting}
+use Rattle.run_status.specs.Words.{sleeps}
 use Rattle.load_run.proofs.PassLemmas.{connect-passes}
 use Rattle.rpc_base.specs.declared.event.Event.TheVariants.{Opened}
 use Rattle.rpc_laws.specs.Facts.{plain}
@@ -22,11 +23,17 @@ returns-clause-starts g c =
       grew = passes.goes.grew;
       peer = c.in-Ok.peer;
       reaches = c.in-Ok.ensures.reaches;
+      sent = c.reach.ensures.sent;
+      lists = c.reach.ensures.lists;
+      faults = c.in-Ok.ensures.cause;
+      busies = c.reach.ensures.busies;
       opens = opened.opens ∙ ap₂ (λ m n. plain m (Opened n c.in-Ok.peer 32) ∷ []) stands.node
           (sym c.in-Ok-connect.ensures.number);
       stands = subst (λ (w : LoadWords). Stands (limits_at w.timeout) passes.goes.noted
           c.connect.new.self) c.spec.view_is stands;
-      rest = c.new.ensures ∙ ap (λ (w : LoadWords). resting w.idle w.timeout) c.spec.view_is;
+      rest = c.new.ensures ∙ ap₂ (λ s t. resting s t) (c.sleeps.ensures
+          ∙ ap (λ (w : LoadWords). sleeps w.idle) c.spec.view_is)
+          (ap (λ (w : LoadWords). w.timeout) c.spec.view_is);
       sends = passes.sends;
       ends = passes.ends;
       none = let asks = passes.asks in omega (arith, asks);

@@ -1,21 +1,24 @@
 -- a turn is prepared and made
 use Rattle.std.proofs.Common.{subst}
-use Rattle.plain_turns.proofs.RunLemmas.{goes-then}
-use Rattle.endpoint_loop.specs.Polling.{turn_of}
+use Rattle.endpoint_loop.specs.Polls.{turn_of}
 use Rattle.load_run.specs.Loading.{LoadsSoFar}
 use Rattle.load_run.proofs.TurnLemmas.{counted-or, has-loaded, loads-turn, unless-failed}
 use Rattle.load_run.proofs.TurnLemmas.{unless-wanting}
-use Rattle.plain_turns.specs.PlainTurns.{GoesOnBy}
+use Rattle.rpc_turns.proofs.RunLemmas.{goes-then}
+use Rattle.rpc_turns.specs.Moments.{edges_of, outside, where_at}
+use Rattle.rpc_turns.specs.Plain.{GoesOnBy}
 use Rattle.load_run.proofs.run.LoadRun.turn.Goals as goal
 
 pub returns-in-Err-default-clause-loads : goal.returns-in-Err-default-clause-loads
 returns-in-Err-default-clause-loads g c =
-    has-loaded g.R.Recorder.log g.L.Link
-    g.C.Clock.gave c.args.link.now c.take_turn-turned.new.link c.args.clock.now c.take_turn-turned.new.clock
-    c.args.self.now c.prepare.new.self _ c.args.rec.now c.prepare.new.rec c.take_turn-turned.new.rec
-    c.take_turn-turned.new.endpoint c.take_turn-turned.new.rest c.count.new.self c.new-ended.result c.take_turn-turned.new.k
-    c.self.view_is c.in-Ok.ensures.keeps c.new-ended.ensures (turn_of c.take_turn-turned.result)
-    c.in-Ok.ensures.prepares c.take_turn-turned.ensures.takes
+    has-loaded (outside g.L.Link g.C.Clock.gave g.R.Recorder.log)
+    (where_at c.args.self.now c.args.link.now c.args.clock.now c.args.rec.now)
+    c.prepare.new.self _ c.prepare.new.rec
+    (edges_of c.take_turn-turned.new.link c.take_turn-turned.new.clock c.take_turn-turned.new.rec)
+    c.take_turn-turned.new.endpoint c.take_turn-turned.new.rest c.count.new.self
+    c.new-ended.result c.take_turn-turned.new.k c.self.view_is c.in-Ok.ensures.keeps
+    c.new-ended.ensures.none (turn_of c.take_turn-turned.result) c.in-Ok.ensures.prepares
+    c.take_turn-turned.ensures.takes
     (counted-or c.count.result _ _ c.count.ensures.counts c.count.ensures.lost)
 
 pub returns-in-Err-default-clause-goes_on : goal.returns-in-Err-default-clause-goes_on
@@ -35,23 +38,25 @@ returns-in-Ok-Err-clause-goes_on g c =
 pub returns-in-Ok-Ok-clause-loads : goal.returns-in-Ok-Ok-clause-loads
 returns-in-Ok-Ok-clause-loads g c =
     unless-wanting c.going.result _
-    (has-loaded g.R.Recorder.log g.L.Link
-    g.C.Clock.gave
-    c.args.link.now c.take_turn-turned.new.link c.args.clock.now c.take_turn-turned.new.clock
-    c.args.self.now c.prepare.new.self _ c.args.rec.now c.prepare.new.rec c.take_turn-turned.new.rec
-    c.take_turn-turned.new.endpoint c.take_turn-turned.new.rest c.count.new.self c.new-ended.result c.take_turn-turned.new.k
-    c.self.view_is c.in-Ok.ensures.keeps c.new-ended.ensures (turn_of c.take_turn-turned.result)
-    c.in-Ok.ensures.prepares c.take_turn-turned.ensures.takes (λ kept. c.in-Ok-Ok.ensures.counts))
+    (has-loaded (outside g.L.Link g.C.Clock.gave g.R.Recorder.log)
+    (where_at c.args.self.now c.args.link.now c.args.clock.now c.args.rec.now)
+    c.prepare.new.self _ c.prepare.new.rec
+    (edges_of c.take_turn-turned.new.link c.take_turn-turned.new.clock c.take_turn-turned.new.rec)
+    c.take_turn-turned.new.endpoint c.take_turn-turned.new.rest c.count.new.self
+    c.new-ended.result c.take_turn-turned.new.k c.self.view_is c.in-Ok.ensures.keeps
+    c.new-ended.ensures.none (turn_of c.take_turn-turned.result) c.in-Ok.ensures.prepares
+    c.take_turn-turned.ensures.takes (λ kept. c.in-Ok-Ok.ensures.counts))
 
 pub returns-in-Ok-Ok-clause-on : goal.returns-in-Ok-Ok-clause-on
 returns-in-Ok-Ok-clause-on g c =
     unless-failed c.going.result _
-    (loads-turn g.R.Recorder.log g.L.Link
-    g.C.Clock.gave
-    c.args.link.now c.take_turn-turned.new.link c.args.clock.now c.take_turn-turned.new.clock
-    c.args.self.now c.prepare.new.self _ c.args.rec.now c.prepare.new.rec c.take_turn-turned.new.rec
-    c.take_turn-turned.new.endpoint c.take_turn-turned.new.rest c.count.new.self c.new-ended.result c.take_turn-turned.new.k
-    c.self.view_is c.in-Ok.ensures.keeps c.new-ended.ensures
+    (loads-turn (outside g.L.Link g.C.Clock.gave g.R.Recorder.log)
+    (where_at c.args.self.now c.args.link.now c.args.clock.now c.args.rec.now)
+    c.prepare.new.self _ c.prepare.new.rec
+    (edges_of c.take_turn-turned.new.link c.take_turn-turned.new.clock c.take_turn-turned.new.rec)
+    c.take_turn-turned.new.endpoint c.take_turn-turned.new.rest c.count.new.self
+    c.new-ended.result c.take_turn-turned.new.k c.self.view_is c.in-Ok.ensures.keeps
+    c.new-ended.ensures.none
     c.take_turn-turned.ensures.takes.now c.in-Ok.ensures.passes c.take_turn-turned.ensures.tells
     c.take_turn-turned.ensures.takes.ticks c.in-Ok-Ok.ensures.whole c.in-Ok-Ok.ensures.counts)
 

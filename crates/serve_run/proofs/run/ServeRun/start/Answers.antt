@@ -1,9 +1,10 @@
 -- the link is bound, and the endpoint is new
-use Rattle.std.proofs.Common.{[], ◌∙◌, ap, refl, subst}
+use Rattle.std.proofs.Common.{[], ◌∙◌, ap, ap₂, refl, subst}
 use Rattle.command_line.specs.Words.{ServeWords}
-use Rattle.plain_turns.specs.PlainTurns.{Stands, limits_at}
-use Rattle.plain_turns.specs.Resting.{resting}
 use Rattle.rpc_laws.specs.NodeLists.{new_node}
+use Rattle.rpc_turns.specs.Plain.{Stands, limits_at}
+use Rattle.rpc_turns.specs.Rests.{resting}
+use Rattle.run_status.specs.Words.{sleeps}
 use Rattle.serve_run.proofs.run.ServeRun.start.Goals as goal
 
 pub returns-clause-starts : goal.returns-clause-starts
@@ -19,7 +20,8 @@ returns-clause-starts g c =
       timed = made.timed ∙ ap (λ (w : ServeWords). new_node 0 (limits_at w.timeout)) same;
       stands = subst (λ (w : ServeWords). Stands (limits_at w.timeout) []
           c.in-Ok-plain_endpoint.endpoint) same made.stands;
-      rest = c.new.ensures ∙ ap (λ (w : ServeWords). resting w.idle w.timeout) same;
+      rest = c.new.ensures ∙ ap₂ (λ s t. resting s t) (c.sleeps.ensures
+          ∙ ap (λ (w : ServeWords). sleeps w.idle) same) (ap (λ (w : ServeWords). w.timeout) same);
       turns = ap (λ (w : ServeWords). w.turns) same;
       made = refl;
     }

@@ -1,0 +1,25 @@
+-- turns, one after another, until a call is over
+use Rattle.std.proofs.Common.{refl}
+use Rattle.endpoint_loop.proofs.StandingLaw.{goes-nowhere}
+use Rattle.rpc_turns.proofs.RunLemmas.{on-then}
+use Rattle.rpc_turns.proofs.running.Running.wait_ended.Goals as goal
+
+pub turns-init : goal.turns-init
+turns-init g c = goes-nowhere g.R.Recorder.log g.V.Service g.W.Workers _ _ _ _ refl refl
+
+pub turns-preserved : goal.turns-preserved
+turns-preserved g c =
+    on-then g.R.Recorder.log g.V.Service g.W.Workers _ _ _ _ _ _
+    (on-then g.R.Recorder.log g.V.Service g.W.Workers _ _ _ _ _ _ c.turns.invariant
+    (goes-nowhere g.R.Recorder.log g.V.Service g.W.Workers _ _ _ _ c.ended.ensures.endpoint
+    c.ended.ensures.rec))
+    c.turn.ensures.goes_on
+
+pub returns-in_err-turn : goal.returns-in_err-turn
+returns-in_err-turn g c = record {
+  goes_on = on-then g.R.Recorder.log g.V.Service g.W.Workers _ _ _ _ _ _
+      (on-then g.R.Recorder.log g.V.Service g.W.Workers _ _ _ _ _ _ c.turns.invariant
+      (goes-nowhere g.R.Recorder.log g.V.Service g.W.Workers _ _ _ _ c.ended.ensures.endpoint
+      c.ended.ensures.rec))
+      c.turn.ensures.goes_on;
+}
