@@ -1,0 +1,2 @@
+pub use Rattle.rpc_outside.specs.Served
+pub use Rattle.rpc_outside.specs.declared.service.Mode
