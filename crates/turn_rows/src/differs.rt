@@ -5,7 +5,7 @@ use std::alloc::{AllocError, AllocFailed};
 use std::fmt;
 
 /// The first thing of a row that isn't as expected.
-#[derive(Debug, Drop)]
+#[derive(Drop)]
 pub enum Differs {
     /// There was no memory for the row.
     Memory,
@@ -13,8 +13,8 @@ pub enum Differs {
     Ended(Status),
     /// What was sent.
     Sent,
-    /// How many calls of the link there were, this number.
-    Calls(u64),
+    /// How the run ended of which this call of the link failed.
+    Fault(u64),
     /// How many hands were offered to the spawner.
     Hands,
     /// The line that was written, this one.
@@ -27,7 +27,7 @@ impl fmt::Display for Differs {
             Differs::Memory => f.write_str("no memory"),
             Differs::Ended(status) => write!(f, "it ended otherwise: {status}"),
             Differs::Sent => f.write_str("something else was sent"),
-            Differs::Calls(count) => write!(f, "it made {count} calls of the link"),
+            Differs::Fault(call) => write!(f, "it went on after the fault of call {call}"),
             Differs::Hands => f.write_str("another number of hands was offered"),
             Differs::Wrote(line) => write!(f, "it wrote {line}"),
         }
