@@ -1,0 +1,10 @@
+mod EventLemmas
+mod FactLemmas
+mod HexLemmas
+mod LineLemmas
+mod NumberLemmas
+mod OctetLemmas
+mod ReadLemmas
+mod ReportLemmas
+mod TellingLemmas
+mod WordLemmas

@@ -1,0 +1,123 @@
+//! The reader of reports, line by line.
+ghost use Rattle.std.specs.Prelude.{◌≡◌, ◌<◌, ◌==◌, ◌∷◌, [], length, Some};
+ghost use Rattle.std.specs.Prelude.{true, false, ◌^◌, IfOk, IfSome, IfNone};
+ghost use Rattle.std.specs.List.{position};
+ghost use Rattle.report_reader.specs.Lines.{end_line, parts_of};
+ghost use Rattle.report_reader.specs.Reading.{Ends, IsReading, IsReadingBelow, ReadsNext};
+
+use crate::line::read_line;
+use crate::ranges::in_range;
+use crate::words::is_word;
+use itoa::Buffer;
+use rpc_base::{Fact, Listed, NoMemory};
+use std::alloc::Global;
+
+/// Ends a line.
+const LINE_FEED: u8 = b'\n';
+
+/// The first line of a report.
+const HEAD: &[u8] = b"erpc-report 1";
+
+/// What the last line of a report begins with; the number of facts stands behind it.
+const END: &[u8] = b"end ";
+
+/// What was read of a report.
+#[derive(Debug, Drop)]
+pub enum Reading {
+    /// It is the report of these facts.
+    Whole(Listed<Fact>),
+    /// It is no report: this line, counted from 1, isn't spelled as one of a report, or isn't
+    /// there; the lines before it are.
+    Bad(u64),
+}
+
+// Where the first line feed stands.
+fn first_feed(text: &[u8]) -> Option<usize>
+    ensures position { result ≡ position (λ b. b == 10) text.now }
+    ensures within { IfSome result (λ end. end < length text.now) }
+{
+    text.iter().position(|b| *b == LINE_FEED)
+}
+
+// The first line of a text, and what stands after its line feed; None where there is none.
+fn next_line(text: &[u8]) -> Option<(&[u8], &[u8])>
+    ensures none { IfNone result (parts_of text.now ≡ text.now ∷ []) }
+    ensures line { IfSome result (λ p. parts_of text.now ≡ p.0.now ∷ parts_of p.1.now) }
+    ensures shorter { IfSome result (λ p. length p.1.now < length text.now) }
+{
+    match first_feed(text) {
+        None => None,
+        Some(end) => Some((&text[..end], &text[end + 1..])),
+    }
+}
+
+// Whether a line is the last one of a report of so many facts.
+fn is_end(line: &[u8], facts: u64) -> bool
+    ensures yes { result ≡ true → line.now ≡ end_line facts }
+    ensures no { result ≡ false → line.now ≡ end_line facts → ⊥ }
+{
+    if !line.starts_with(END) {
+        return false;
+    }
+    let mut digits = Buffer::new();
+    let count = digits.format(facts).as_bytes();
+    is_word(&line[END.len()..], count)
+}
+
+// Reads a line as a fact.
+fn read_fact(alloc: Global, line: &[u8]) -> Result<Option<Fact>, NoMemory>
+    ensures { IfOk result (ReadsNext line.now) }
+{
+    let fact = read_line(alloc, line)?;
+    if let Some(fact) = &fact {
+        in_range(fact);
+    }
+    Ok(fact)
+}
+
+// What was read where a line of no fact comes after these facts, and then this text.
+fn ended(facts: Listed<Fact>, line: &[u8], after: &[u8]) -> Reading
+    requires { length facts < 2 ^ 63 }
+    ensures { Ends line.now after.now facts result }
+{
+    let count = facts.len() as u64;
+    if !is_end(line, count) {
+        return Reading::Bad(count + 2);
+    }
+    if !after.is_empty() {
+        return Reading::Bad(count + 3);
+    }
+    Reading::Whole(facts)
+}
+
+// Reads the lines below the first one.
+fn read_facts(alloc: Global, text: &[u8]) -> Result<Reading, NoMemory>
+    requires { length text.now < 2 ^ 63 }
+    ensures { IfOk result (IsReadingBelow text.now) }
+{
+    let mut text = text;
+    let mut facts = Listed::new(alloc);
+    while let Some((line, after)) = next_line(text) {
+        let Some(fact) = read_fact(alloc, line)? else {
+            return Ok(ended(facts, line, after));
+        };
+        facts.push(fact)?;
+        text = after;
+    }
+    Ok(Reading::Bad(facts.len() as u64 + 2))
+}
+
+/// Reads a report: the facts that it is the report of, or the first line that isn't spelled as one
+/// of a report. `NoMemory` comes only where there is no memory for the facts or a line of them.
+pub fn read_report(alloc: Global, bytes: &[u8]) -> Result<Reading, NoMemory>
+    requires { length bytes.now < 2 ^ 63 }
+    ensures { IfOk result (IsReading bytes.now) }
+{
+    let Some((head, rest)) = next_line(bytes) else {
+        return Ok(Reading::Bad(1));
+    };
+    if !is_word(head, HEAD) {
+        return Ok(Reading::Bad(1));
+    }
+    read_facts(alloc, rest)
+}

@@ -1,0 +1,57 @@
+//! A sink that grows with what is written.
+ghost use Rattle.std.specs.Prelude.{◌≡◌, ◌<◌, ◌≤◌, [], length, take, Some, IfOk, OnErr};
+ghost use Rattle.std.specs.Io.KnownBytes.{Appends, Keeps};
+ghost use Rattle.rpc_outside.specs.Faults.{HasCause};
+ghost use Rattle.rpc_outside.specs.Writing.{Written};
+
+use rpc_outside::{Failed, Sink};
+use std::alloc::Global;
+
+/// What was written so far. A write fails where there is no memory for it.
+#[derive(Debug, Drop)]
+pub struct Text {
+    bytes: Vec<u8>,
+    faults: u64,
+}
+
+impl Text {
+    /// Nothing was written yet.
+    pub fn new(alloc: Global) -> Text
+        ensures bytes { result.bytes.items ≡ [] }
+    {
+        Text {
+            bytes: Vec::new(alloc),
+            faults: 0,
+        }
+    }
+
+    /// Lends what was written.
+    pub fn bytes(&self) -> &[u8]
+        ensures { result.now ≡ self.now.bytes.items }
+    {
+        self.bytes.as_slice()
+    }
+}
+
+impl Sink for Text {
+    ghost page = { λ t. record { written = Some t.bytes.items; faults = t.faults } };
+
+    /// Takes the whole piece, or fails where there is no memory for it.
+    fn write(&mut self, piece: &[u8]) -> Result<usize, Failed>
+        ensures within { IfOk result (λ n. n ≤ length piece.now) }
+        ensures some { IfOk result (λ n. 0 < length piece.now → 0 < n) }
+        ensures bytes { IfOk result (λ n. Appends (Some self.old.bytes.items)
+            (Some self.new.bytes.items) (take n piece.now)) }
+        ensures kept { OnErr result (Keeps (Some self.old.bytes.items)
+            (Some self.new.bytes.items)) }
+        ensures cause { HasCause self.old.faults self.new.faults result }
+    {
+        match self.bytes.extend_from_slice(piece) {
+            Ok(()) => Ok(piece.len()),
+            Err(_) => {
+                self.faults = self.faults.saturating_add(1);
+                Err(Failed)
+            }
+        }
+    }
+}
