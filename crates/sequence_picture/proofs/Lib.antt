@@ -1,0 +1,4 @@
+mod ArrivalLemmas
+mod DrawLemmas
+mod JoinLemmas
+mod SideLemmas

@@ -1,0 +1,4 @@
+pub mod Arrival
+pub mod Copies
+pub mod Drawing
+pub mod Tracks
