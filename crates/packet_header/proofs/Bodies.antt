@@ -1,4 +1,5 @@
 -- The bodies of datagrams, by the kind of their packets.
+use Rattle.rpc_base.specs.declared.limits.TheConstants.{HEAD_BYTES}
 use Rattle.std.proofs.Common.{◌≡◌, ◌≤◌, ◌+◌, ◌∙◌, ℕ, ◌⊎◌, inl, inr, List, [], length, arith, Some}
 use Rattle.std.proofs.Math.ListN.{drop_of_length-le}
 use Rattle.std.proofs.lemmas.List.{length-drop}
@@ -14,11 +15,11 @@ pub message_of-length : (m : MessageHeader) (bytes : List ℕ) → message_of by
     → MessageLength m.kind m.size m.number (length bytes)
 message_of-length m bytes h = (message_of-spells m bytes h).long
 
-body_size : (bytes : List ℕ) (n : ℕ) → length bytes ≡ 16 + n → length (body_of bytes) ≡ n
-body_size bytes n h = length-drop 16 bytes ∙ omega arith
+body_size : (bytes : List ℕ) (n : ℕ) → length bytes ≡ HEAD_BYTES + n → length (body_of bytes) ≡ n
+body_size bytes n h = length-drop HEAD_BYTES bytes ∙ omega arith
 
-no_body : (bytes : List ℕ) → length bytes ≡ 16 → body_of bytes ≡ []
-no_body bytes h = drop_of_length-le bytes {i = 16} (omega arith)
+no_body : (bytes : List ℕ) → length bytes ≡ HEAD_BYTES → body_of bytes ≡ []
+no_body bytes h = drop_of_length-le bytes {i = HEAD_BYTES} (omega arith)
 
 -- a request packet has its part of the message
 pub request-body : (m : MessageHeader) (bytes : List ℕ) → message_of bytes ≡ Some m
@@ -32,8 +33,8 @@ rfr-body m bytes h kind = no_body bytes (rw kind at (message_of-length m bytes h
 pub cr-body : (m : MessageHeader) (bytes : List ℕ) → message_of bytes ≡ Some m → m.kind ≡ Cr → body_of bytes ≡ []
 cr-body m bytes h kind = no_body bytes (rw kind at (message_of-length m bytes h))
 
-response_sizes : (bytes : List ℕ) (size : ℕ) → (length bytes ≡ 16 + tail size)
-    ⊎ ((1024 ≤ size) × (length bytes ≡ 1040)) → (length (body_of bytes) ≡ tail size)
+response_sizes : (bytes : List ℕ) (size : ℕ) → (length bytes ≡ HEAD_BYTES + tail size)
+    ⊎ ((1024 ≤ size) × (length bytes ≡ 1044)) → (length (body_of bytes) ≡ tail size)
     ⊎ ((1024 ≤ size) × (length (body_of bytes) ≡ 1024))
 response_sizes bytes size (inl last) = inl (body_size bytes _ last)
 response_sizes bytes size (inr (full, long)) = inr (full, body_size bytes 1024 long)

@@ -1,4 +1,6 @@
 -- Heads: two of one packet are equal, and what follows a head changes nothing of it.
+use Rattle.rpc_base.specs.declared.limits.TheConstants.{HEAD_BYTES}
+use Rattle.packet_header.specs.declared.layout.TheConstants.{TO_LIFE}
 use Rattle.std.proofs.Common.{◌≡◌, ◌≤◌, ◌<◌, ◌+◌, ◌*◌, ◌^◌, ◌∙◌, ℕ, zero, suc, List, [], ◌∷◌, ◌++◌}
 use Rattle.std.proofs.Common.{length, drop, slice_index, sym, ap, arith, Ok, length-append}
 use Rattle.std.proofs.Math.ListN.{get_or-append, drop_of_length-le}
@@ -35,6 +37,7 @@ message_head-append m head body h =
       session = number-append 6 2 head body (omega arith) ∙ h.session;
       number = number-append 8 2 head body (omega arith) ∙ h.number;
       request = number-append 10 6 head body (omega arith) ∙ h.request;
+      to_life = number-append TO_LIFE 4 head body (omega arith) ∙ h.to_life;
     }
 
 control_head-append : (c : ControlHeader) (head body : List ℕ) → HasControlHead c head
@@ -49,35 +52,37 @@ control_head-append c head body h =
       server = number-append 4 2 head body (omega arith) ∙ h.server;
       credits = number-append 6 2 head body (omega arith) ∙ h.credits;
       status = get_or-append head body 0 8 (omega arith) ∙ h.status;
-      padding = number-append 9 7 head body (omega arith) ∙ h.padding;
+      from_life = number-append 9 4 head body (omega arith) ∙ h.from_life;
+      padding = number-append 13 3 head body (omega arith) ∙ h.padding;
+      to_life = number-append TO_LIFE 4 head body (omega arith) ∙ h.to_life;
     }
 
 head-append : (p : Packet) (head body : List ℕ) → HasHead p head → HasHead p (head ++ body)
 head-append (Message m) head body h = message_head-append m head body h
 head-append (Control c) head body h = control_head-append c head body h
 
-long-append : (p : Packet) (head body : List ℕ) → length head ≡ 16 → HasLength p (16 + length body)
+long-append : (p : Packet) (head body : List ℕ) → length head ≡ HEAD_BYTES → HasLength p (HEAD_BYTES + length body)
     → HasLength p (length (head ++ body))
 long-append p head body h long =
-    let e : length (head ++ body) ≡ 16 + length body = omega (arith, length-append head body) in
+    let e : length (head ++ body) ≡ HEAD_BYTES + length body = omega (arith, length-append head body) in
     rw e long
 
 -- a head of a packet in range and a body of a length for it are a datagram of this packet
 pub spells-append : (p : Packet) (head body : List ℕ) → InRange p → HasHead p head
-    → length head ≡ 16 → HasLength p (16 + length body) → Spells p (head ++ body)
-spells-append p head body range h sixteen long =
-    record { head = head-append p head body h; in_range = range; long = long-append p head body sixteen long }
+    → length head ≡ HEAD_BYTES → HasLength p (HEAD_BYTES + length body) → Spells p (head ++ body)
+spells-append p head body range h twenty long =
+    record { head = head-append p head body h; in_range = range; long = long-append p head body twenty long }
 
 -- such a datagram is read as this packet
 pub decoded-append : (p : Packet) (head body : List ℕ) → InRange p → HasHead p head
-    → length head ≡ 16 → HasLength p (16 + length body) → decoded (head ++ body) ≡ Ok p
-decoded-append p head body range h sixteen long =
-    spells-decoded p (head ++ body) (spells-append p head body range h sixteen long)
+    → length head ≡ HEAD_BYTES → HasLength p (HEAD_BYTES + length body) → decoded (head ++ body) ≡ Ok p
+decoded-append p head body range h twenty long =
+    spells-decoded p (head ++ body) (spells-append p head body range h twenty long)
 
-pub body_of-append : (head body : List ℕ) → length head ≡ 16 → body_of (head ++ body) ≡ body
+pub body_of-append : (head body : List ℕ) → length head ≡ HEAD_BYTES → body_of (head ++ body) ≡ body
 body_of-append head body h =
-    drop-append-le 16 head body (omega arith)
-    ∙ ap (λ front. front ++ body) (drop_of_length-le head {i = 16} (omega arith))
+    drop-append-le HEAD_BYTES head body (omega arith)
+    ∙ ap (λ front. front ++ body) (drop_of_length-le head {i = HEAD_BYTES} (omega arith))
 
 -- the first digits of equal numbers are equal
 less : (x y p r s : ℕ) → x * p + r ≡ y * p + s → r < p → s < p → x < y → ⊥
@@ -125,13 +130,14 @@ byte_at : (i : ℕ) (a b : List ℕ) → i < length a → i < length b → slice
 byte_at i a b h k e d =
     drop_more a i 0 h ∙ (rw (e, d) (sym (drop_more b i 0 k)))
 
-message-one_head : (m : MessageHeader) (a b : List ℕ) → AreBytes a → AreBytes b → length a ≡ 16
-    → length b ≡ 16 → HasMessageHead m a → HasMessageHead m b → a ≡ b
+message-one_head : (m : MessageHeader) (a b : List ℕ) → AreBytes a → AreBytes b → length a ≡ HEAD_BYTES
+    → length b ≡ HEAD_BYTES → HasMessageHead m a → HasMessageHead m b → a ≡ b
 message-one_head m a b f g la lb h k =
-    let end : drop 16 a ≡ drop 16 b =
-    drop_of_length-le a {i = 16} (omega arith)
-    ∙ sym (drop_of_length-le b {i = 16} (omega arith)) in
-    let request = same_at 10 6 a b f g (omega arith) (omega arith) (h.request ∙ sym k.request) end in
+    let end : drop HEAD_BYTES a ≡ drop HEAD_BYTES b =
+    drop_of_length-le a {i = HEAD_BYTES} (omega arith)
+    ∙ sym (drop_of_length-le b {i = HEAD_BYTES} (omega arith)) in
+    let to_life = same_at TO_LIFE 4 a b f g (omega arith) (omega arith) (h.to_life ∙ sym k.to_life) end in
+    let request = same_at 10 6 a b f g (omega arith) (omega arith) (h.request ∙ sym k.request) to_life in
     let number = same_at 8 2 a b f g (omega arith) (omega arith) (h.number ∙ sym k.number) request in
     let session = same_at 6 2 a b f g (omega arith) (omega arith) (h.session ∙ sym k.session) number in
     let size = same_at 3 3 a b f g (omega arith) (omega arith) (h.size ∙ sym k.size) session in
@@ -139,14 +145,16 @@ message-one_head m a b f g la lb h k =
     let kind = byte_at 1 a b (omega arith) (omega arith) (h.kind ∙ sym k.kind) req_type in
     byte_at 0 a b (omega arith) (omega arith) (h.magic ∙ sym k.magic) kind
 
-control-one_head : (c : ControlHeader) (a b : List ℕ) → AreBytes a → AreBytes b → length a ≡ 16
-    → length b ≡ 16 → HasControlHead c a → HasControlHead c b → a ≡ b
+control-one_head : (c : ControlHeader) (a b : List ℕ) → AreBytes a → AreBytes b → length a ≡ HEAD_BYTES
+    → length b ≡ HEAD_BYTES → HasControlHead c a → HasControlHead c b → a ≡ b
 control-one_head c a b f g la lb h k =
-    let end : drop 16 a ≡ drop 16 b =
-    drop_of_length-le a {i = 16} (omega arith)
-    ∙ sym (drop_of_length-le b {i = 16} (omega arith)) in
-    let padding = same_at 9 7 a b f g (omega arith) (omega arith) (h.padding ∙ sym k.padding) end in
-    let status = byte_at 8 a b (omega arith) (omega arith) (h.status ∙ sym k.status) padding in
+    let end : drop HEAD_BYTES a ≡ drop HEAD_BYTES b =
+    drop_of_length-le a {i = HEAD_BYTES} (omega arith)
+    ∙ sym (drop_of_length-le b {i = HEAD_BYTES} (omega arith)) in
+    let to_life = same_at TO_LIFE 4 a b f g (omega arith) (omega arith) (h.to_life ∙ sym k.to_life) end in
+    let padding = same_at 13 3 a b f g (omega arith) (omega arith) (h.padding ∙ sym k.padding) to_life in
+    let from_life = same_at 9 4 a b f g (omega arith) (omega arith) (h.from_life ∙ sym k.from_life) padding in
+    let status = byte_at 8 a b (omega arith) (omega arith) (h.status ∙ sym k.status) from_life in
     let credits = same_at 6 2 a b f g (omega arith) (omega arith) (h.credits ∙ sym k.credits) status in
     let server = same_at 4 2 a b f g (omega arith) (omega arith) (h.server ∙ sym k.server) credits in
     let client = same_at 2 2 a b f g (omega arith) (omega arith) (h.client ∙ sym k.client) server in
@@ -154,7 +162,7 @@ control-one_head c a b f g la lb h k =
     byte_at 0 a b (omega arith) (omega arith) (h.magic ∙ sym k.magic) kind
 
 -- a packet has one head
-pub one_head : (p : Packet) (a b : List ℕ) → AreBytes a → AreBytes b → length a ≡ 16 → length b ≡ 16
+pub one_head : (p : Packet) (a b : List ℕ) → AreBytes a → AreBytes b → length a ≡ HEAD_BYTES → length b ≡ HEAD_BYTES
     → HasHead p a → HasHead p b → a ≡ b
 one_head (Message m) a b f g la lb h k = message-one_head m a b f g la lb h k
 one_head (Control c) a b f g la lb h k = control-one_head c a b f g la lb h k

@@ -12,12 +12,12 @@ one_length n w h = grind (arith, nat_tests)
 length_one : (n w : ℕ) → n ≡ w → (n == w || false) ≡ true
 length_one n w h = grind (arith, nat_tests)
 
-two_lengths : (n w size : ℕ) → (n == w || (nat_le 1024 size && n == 1040)) ≡ true → (n ≡ w)
-    ⊎ ((1024 ≤ size) × (n ≡ 1040))
+two_lengths : (n w size : ℕ) → (n == w || (nat_le 1024 size && n == 1044)) ≡ true → (n ≡ w)
+    ⊎ ((1024 ≤ size) × (n ≡ 1044))
 two_lengths n w size h = grind (arith, nat_tests)
 
-lengths_two : (n w size : ℕ) → (n ≡ w) ⊎ ((1024 ≤ size) × (n ≡ 1040))
-    → (n == w || (nat_le 1024 size && n == 1040)) ≡ true
+lengths_two : (n w size : ℕ) → (n ≡ w) ⊎ ((1024 ≤ size) × (n ≡ 1044))
+    → (n == w || (nat_le 1024 size && n == 1044)) ≡ true
 lengths_two n w size h = grind (arith, nat_tests)
 
 pub tested-length : (kind : Kind) (size number n : ℕ)

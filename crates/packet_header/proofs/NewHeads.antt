@@ -1,4 +1,5 @@
 -- Each packet in range has a head.
+use Rattle.packet_header.specs.declared.layout.TheConstants.{MAGIC}
 use Rattle.std.proofs.Common.{◌≡◌, ◌<◌, ◌/◌, ◌^◌, ℕ, zero, suc, List, [], ◌∷◌, ◌++◌, unwrap_or}
 use Rattle.std.proofs.Common.{Bool, true, false, Option, Some, None, ◌⊎◌, refl, arith}
 use Rattle.std.proofs.Math.Nat.{mod-lt}
@@ -17,7 +18,7 @@ use Rattle.packet_header.specs.declared.packet.ControlHeader.{ControlHeader}
 use Rattle.packet_header.specs.declared.packet.Packet.{Packet}
 use Rattle.packet_header.specs.declared.packet.Packet.TheVariants.{Message, Control}
 use Rattle.packet_header.specs.Ranges.{Within, message_row, control_row}
-use Rattle.packet_header.specs.Header.{AreBytes, ControlInRange, InRange, IsServer, MessageInRange}
+use Rattle.packet_header.specs.Header.{AreBytes, ControlInRange, InRange, IsLife, IsServer, MessageInRange}
 use Rattle.packet_header.specs.Header.{control_code, kind_code}
 use Rattle.packet_header.specs.Laws.{HasOneHead, IsHeadOf, RequestFits}
 use Rattle.packet_header.proofs.Heads.{one_head}
@@ -59,27 +60,31 @@ code_below Response = omega arith
 -- the fields in turn
 abbrev message_head : MessageHeader → List ℕ
 message_head m =
-    225 ∷ kind_code m.kind ∷ m.req_type ∷ (big_bytes 3 m.size
-    ++ (big_bytes 2 m.session ++ (big_bytes 2 m.number ++ big_bytes 6 m.request)))
+    MAGIC ∷ kind_code m.kind ∷ m.req_type ∷ (big_bytes 3 m.size
+    ++ (big_bytes 2 m.session ++ (big_bytes 2 m.number
+    ++ (big_bytes 6 m.request ++ big_bytes 4 m.to_life))))
 
 message-bytes : (m : MessageHeader) → m.req_type < 256 → AreBytes (message_head m)
 message-bytes m h =
-    let request : List ℕ = big_bytes 6 m.request in
+    let request : List ℕ = big_bytes 6 m.request ++ big_bytes 4 m.to_life in
+    let z = bytes-append (big_bytes 6 m.request) (big_bytes 4 m.to_life) (bytes_high 6 m.request)
+    (bytes_high 4 m.to_life) in
     let number : List ℕ = big_bytes 2 m.number ++ request in
     let session : List ℕ = big_bytes 2 m.session ++ number in
     let size : List ℕ = big_bytes 3 m.size ++ session in
-    let a = bytes-append (big_bytes 2 m.number) request (bytes_high 2 m.number) (bytes_high 6 m.request) in
+    let a = bytes-append (big_bytes 2 m.number) request (bytes_high 2 m.number) z in
     let b = bytes-append (big_bytes 2 m.session) number (bytes_high 2 m.session) a in
     let c = bytes-append (big_bytes 3 m.size) session (bytes_high 3 m.size) b in
     let d = bytes-cons m.req_type size h c in
     let e = bytes-cons (kind_code m.kind) (m.req_type ∷ size) (code_below m.kind) d in
-    bytes-cons 225 (kind_code m.kind ∷ m.req_type ∷ size) (omega arith) e
+    bytes-cons MAGIC (kind_code m.kind ∷ m.req_type ∷ size) (omega arith) e
 
 message-made : (m : MessageHeader) → MessageInRange m → m.request < 2 ^ 48 → IsHeadOf (Message m) (message_head m)
 message-made m range below =
     let (types, sizes, numbers) =
     message_fits m.kind m.req_type m.size m.number range.req_type range.size range.number in
-    let (low, session) = range.session in (
+    let (low, session) = range.session in
+    let (some, to_life) = range.to_life in (
       message-bytes m types,
       refl,
       record {
@@ -90,7 +95,8 @@ message-made m range below =
         size = big_number-reads_back 3 m.size [] sizes;
         session = big_number-reads_back 2 m.session [] (omega arith);
         number = big_number-reads_back 2 m.number [] numbers;
-        request = big_number-reads_back 6 m.request [] below;
+        request = big_number-reads_back 6 m.request (big_bytes 4 m.to_life) below;
+        to_life = big_number-reads_back 4 m.to_life [] (omega arith);
       },
     )
 
@@ -114,31 +120,48 @@ server_fits false None h = omega arith
 server_fits true None h = absurd h
 server_fits false (Some server) h = absurd h
 
--- the fields in turn
+-- the two lives with the zeros between them, and the fields in turn
+abbrev life_bytes : ControlHeader → List ℕ
+life_bytes c = big_bytes 4 c.from_life ++ (big_bytes 3 0 ++ big_bytes 4 (unwrap_or c.to_life 0))
+
 abbrev control_head : ControlHeader → List ℕ
 control_head c =
-    225 ∷ control_code c.kind ∷ (big_bytes 2 c.client
+    MAGIC ∷ control_code c.kind ∷ (big_bytes 2 c.client
     ++ (big_bytes 2 (unwrap_or c.server 65535)
-    ++ (big_bytes 2 c.credits ++ (c.status ∷ big_bytes 7 0))))
+    ++ (big_bytes 2 c.credits ++ (c.status ∷ life_bytes c))))
+
+life-bytes : (c : ControlHeader) → AreBytes (life_bytes c)
+life-bytes c =
+    let to_life : List ℕ = big_bytes 4 (unwrap_or c.to_life 0) in
+    let zeros = bytes-append (big_bytes 3 0) to_life (bytes_high 3 0) (bytes_high 4 (unwrap_or c.to_life 0)) in
+    bytes-append (big_bytes 4 c.from_life) (big_bytes 3 0 ++ to_life) (bytes_high 4 c.from_life) zeros
+
+life_fits : (b : Bool) (life : Option ℕ) → IsLife b life → unwrap_or life 0 < 256 ^ 4
+life_fits true (Some life) (low, high) = omega arith
+life_fits false None h = omega arith
+life_fits true None h = absurd h
+life_fits false (Some life) h = absurd h
 
 control-bytes : (c : ControlHeader) → c.status < 256 → AreBytes (control_head c)
 control-bytes c h =
-    let status : List ℕ = c.status ∷ big_bytes 7 0 in
+    let status : List ℕ = c.status ∷ life_bytes c in
     let credits : List ℕ = big_bytes 2 c.credits ++ status in
     let server : List ℕ = big_bytes 2 (unwrap_or c.server 65535) ++ credits in
     let client : List ℕ = big_bytes 2 c.client ++ server in
-    let p = bytes-cons c.status (big_bytes 7 0) h (bytes_high 7 0) in
+    let p = bytes-cons c.status (life_bytes c) h (life-bytes c) in
     let q = bytes-append (big_bytes 2 c.credits) status (bytes_high 2 c.credits) p in
     let r = bytes-append (big_bytes 2 (unwrap_or c.server 65535)) credits
     (bytes_high 2 (unwrap_or c.server 65535)) q in
     let s = bytes-append (big_bytes 2 c.client) server (bytes_high 2 c.client) r in
     let t = bytes-cons (control_code c.kind) client (control_below c.kind) s in
-    bytes-cons 225 (control_code c.kind ∷ client) (omega arith) t
+    bytes-cons MAGIC (control_code c.kind ∷ client) (omega arith) t
 
 control-made : (c : ControlHeader) → ControlInRange c → IsHeadOf (Control c) (control_head c)
 control-made c range =
     let (credits, status) = control_fits c.kind c.credits c.status range.credits range.status in
-    let (low, client) = range.client in (
+    let (low, client) = range.client in
+    let (some, from_life) = range.from_life in
+    let to_life : List ℕ = big_bytes 4 (unwrap_or c.to_life 0) in (
       control-bytes c status,
       refl,
       record {
@@ -149,7 +172,9 @@ control-made c range =
         server = big_number-reads_back 2 (unwrap_or c.server 65535) [] (server_fits _ c.server range.server);
         credits = big_number-reads_back 2 c.credits [] credits;
         status = refl;
-        padding = refl;
+        from_life = big_number-reads_back 4 c.from_life (big_bytes 3 0 ++ to_life) (omega arith);
+        padding = big_number-reads_back 3 0 to_life (omega arith);
+        to_life = big_number-reads_back 4 (unwrap_or c.to_life 0) [] (life_fits _ c.to_life range.to_life);
       },
     )
 

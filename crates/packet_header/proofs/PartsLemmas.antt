@@ -1,4 +1,5 @@
 -- The parts of a message: how long each is, and that together they are the message.
+use Rattle.rpc_base.specs.declared.limits.TheConstants.{HEAD_BYTES}
 use Rattle.std.proofs.Common.{◌≡◌, ◌≤◌, ◌<◌, ◌+◌, ◌-◌, ◌*◌, ◌∙◌, inl, inr, ℕ, min, nat_lt, Bool}
 use Rattle.std.proofs.Common.{true, false, List, ◌++◌, length, take, drop, refl, sym, ap, arith}
 use Rattle.std.proofs.lemmas.List.{length-drop, length-take, take_all}
@@ -48,14 +49,14 @@ pub front-whole : {T : Type 0} → (q : List T) (k : ℕ) → packet_count (leng
 front-whole q k h = take_all (1024 * k) q (omega arith)
 
 response_part : (n k number : ℕ) (more : Bool) → nat_lt (k + 1) (packet_count n) ≡ more
-    → k < packet_count n → MessageLength Response n number (16 + part_size n k)
+    → k < packet_count n → MessageLength Response n number (HEAD_BYTES + part_size n k)
 response_part n k number true h g =
     let below = ltb-true (k + 1) (packet_count n) h in
-    inr (omega arith, ap (λ size. 16 + size) (part_size-full n k below))
+    inr (omega arith, ap (λ size. HEAD_BYTES + size) (part_size-full n k below))
 response_part n k number false h g =
     let above = ltb-false (k + 1) (packet_count n) h in
-    inl (ap (λ size. 16 + size) (part_size-last n k (omega arith)))
+    inl (ap (λ size. HEAD_BYTES + size) (part_size-last n k (omega arith)))
 
 -- each part of a response has a length for its header
-pub response_length : (n k number : ℕ) → k < packet_count n → MessageLength Response n number (16 + part_size n k)
+pub response_length : (n k number : ℕ) → k < packet_count n → MessageLength Response n number (HEAD_BYTES + part_size n k)
 response_length n k number h = response_part n k number _ refl h

@@ -3,9 +3,9 @@ use Rattle.std.proofs.Common.{◌≡◌, ◌≤◌, ℕ, nat_le, ◌==◌, ◌&&
 use Rattle.std.proofs.Common.{if◌then◌else◌, Option, Some, None, ◌⊎◌, refl, arith}
 use Rattle.std.proofs.lemmas.Bool.Decides.{nat_tests}
 use Rattle.packet_header.specs.declared.ranges.Span.{Span}
-use Rattle.packet_header.specs.Ranges.{Within, within, sessions}
-use Rattle.packet_header.specs.Header.{IsServer}
-use Rattle.packet_header.specs.Reading.{is_server}
+use Rattle.packet_header.specs.Ranges.{Within, within, lives, sessions}
+use Rattle.packet_header.specs.Header.{IsLife, IsServer}
+use Rattle.packet_header.specs.Reading.{is_life, is_server}
 
 numbers_within : (low high n : ℕ) → (nat_le low n && nat_le n high) ≡ true → (low ≤ n) × (n ≤ high)
 numbers_within low high n h = grind (arith, nat_tests)
@@ -31,6 +31,18 @@ holds-server false None h = refl
 holds-server true None h = absurd h
 holds-server false (Some server) h = absurd h
 
+pub life-holds : (b : Bool) (life : Option ℕ) → is_life b life ≡ true → IsLife b life
+life-holds true (Some life) h = within-holds lives life h
+life-holds false None h = tt
+life-holds true None h = absurd (cc)
+life-holds false (Some life) h = absurd (cc)
+
+pub holds-life : (b : Bool) (life : Option ℕ) → IsLife b life → is_life b life ≡ true
+holds-life true (Some life) h = holds-within lives life h
+holds-life false None h = refl
+holds-life true None h = absurd h
+holds-life false (Some life) h = absurd h
+
 pub either-holds : (n a : ℕ) → (n == 0 || n == a) ≡ true → (n ≡ 0) ⊎ (n ≡ a)
 either-holds n a h = grind (arith, nat_tests)
 
@@ -38,16 +50,6 @@ pub holds-either : (n a : ℕ) → (n ≡ 0) ⊎ (n ≡ a) → (n == 0 || n == a
 holds-either n a h = grind (arith, nat_tests)
 
 -- a chain of tests that finds no fault has passed each
-pub passed_four : (k0 k1 k2 k3 : ℕ) (a b c d : Bool)
-    → (if not a then Some k0 else (if not b then Some k1
-    else (if not c then Some k2 else (if not d then Some k3 else (None))))) ≡ None → (a ≡ true)
-    × (b ≡ true) × (c ≡ true) × (d ≡ true)
-passed_four k0 k1 k2 k3 false b c d h = absurd (cc)
-passed_four k0 k1 k2 k3 true false c d h = absurd (cc)
-passed_four k0 k1 k2 k3 true true false d h = absurd (cc)
-passed_four k0 k1 k2 k3 true true true false h = absurd (cc)
-passed_four k0 k1 k2 k3 true true true true h = (refl, refl, refl, refl)
-
 pub passed_five : (k0 k1 k2 k3 k4 : ℕ) (a b c d e : Bool)
     → (if not a then Some k0 else (if not b then Some k1
     else (if not c then Some k2 else (if not d then Some k3
@@ -59,6 +61,18 @@ passed_five k0 k1 k2 k3 k4 true true false d e h = absurd (cc)
 passed_five k0 k1 k2 k3 k4 true true true false e h = absurd (cc)
 passed_five k0 k1 k2 k3 k4 true true true true false h = absurd (cc)
 passed_five k0 k1 k2 k3 k4 true true true true true h = (refl, refl, refl, refl, refl)
+
+pub passed_seven : (k0 k1 k2 k3 k4 k5 k6 : ℕ) (a b c d e f g : Bool)
+    → (if not a then Some k0 else (if not b then Some k1
+    else (if not c then Some k2 else (if not d then Some k3
+    else (if not e then Some k4 else (if not f then Some k5
+    else (if not g then Some k6 else (None)))))))) ≡ None → (a ≡ true) × (b ≡ true) × (c ≡ true)
+    × (d ≡ true) × (e ≡ true) × (f ≡ true) × (g ≡ true)
+passed_seven k0 k1 k2 k3 k4 k5 k6 false b c d e f g h = absurd (cc)
+passed_seven k0 k1 k2 k3 k4 k5 k6 true false c d e f g h = absurd (cc)
+passed_seven k0 k1 k2 k3 k4 k5 k6 true true c d e f g h =
+    let (third, fourth, fifth, sixth, seventh) = passed_five k2 k3 k4 k5 k6 c d e f g h in
+    (refl, refl, third, fourth, fifth, sixth, seventh)
 
 pub eqb_zero : (n : ℕ) → (n == 0) ≡ true → n ≡ 0
 eqb_zero n h = grind (arith, nat_tests)

@@ -1,4 +1,5 @@
 -- The packets of a call are read back: a head and its part of the message, or a head alone.
+use Rattle.rpc_base.specs.declared.limits.TheConstants.{HEAD_BYTES}
 use Rattle.std.proofs.Common.{◌≡◌, ◌<◌, ◌≤◌, ◌+◌, ℕ, List, [], ◌++◌, length, refl, ap, Ok, arith}
 use Rattle.packet_header.specs.declared.packet.Kind.TheVariants.{Request, Rfr, Cr, Response}
 use Rattle.packet_header.specs.declared.packet.MessageHeader.{MessageHeader}
@@ -10,8 +11,8 @@ use Rattle.packet_header.proofs.Heads.{decoded-append}
 use Rattle.packet_header.proofs.PartsLemmas.{length-part, response_length}
 
 -- part k of the request q
-pub request-read : (q : List ℕ) (req_type session k request : ℕ) (head : List ℕ) →
-    req_type < 256 → length q ≤ 1048576 → session < 65535 → k < packet_count (length q) → length head ≡ 16 →
+pub request-read : (q : List ℕ) (req_type session k request to_life : ℕ) (head : List ℕ) →
+    req_type < 256 → length q ≤ 1048576 → session < 65535 → k < packet_count (length q) → 0 < to_life → to_life < 4294967296 → length head ≡ HEAD_BYTES →
     HasHead (Message (record {
       kind = Request;
       req_type = req_type;
@@ -19,6 +20,7 @@ pub request-read : (q : List ℕ) (req_type session k request : ℕ) (head : Lis
       session = session;
       number = k;
       request = request;
+      to_life = to_life;
     })) head →
     decoded (head ++ part q k) ≡ Ok (Message (record {
       kind = Request;
@@ -27,8 +29,9 @@ pub request-read : (q : List ℕ) (req_type session k request : ℕ) (head : Lis
       session = session;
       number = k;
       request = request;
+      to_life = to_life;
     }))
-request-read q req_type session k request head types sizes sessions numbers sixteen h =
+request-read q req_type session k request to_life head types sizes sessions numbers low_life high_life twenty h =
     let m : MessageHeader =
     record {
       kind = Request;
@@ -37,6 +40,7 @@ request-read q req_type session k request head types sizes sessions numbers sixt
       session = session;
       number = k;
       request = request;
+      to_life = to_life;
     } in
     decoded-append (Message m) head (part q k)
     (record {
@@ -44,13 +48,14 @@ request-read q req_type session k request head types sizes sessions numbers sixt
       size = (omega arith, omega arith);
       session = (omega arith, omega arith);
       number = (omega arith, omega arith);
+      to_life = (omega arith, omega arith);
     })
-    h sixteen (ap (λ n. 16 + n) (length-part q k))
+    h twenty (ap (λ n. HEAD_BYTES + n) (length-part q k))
 
 -- part k of the response a, in server packet j
-pub response-read : (a : List ℕ) (req_type session k j request : ℕ) (head : List ℕ) →
+pub response-read : (a : List ℕ) (req_type session k j request to_life : ℕ) (head : List ℕ) →
     req_type < 256 → length a ≤ 1048576 → session < 65535 → k < packet_count (length a) → j ≤ 2046
-    → length head ≡ 16 →
+    → 0 < to_life → to_life < 4294967296 → length head ≡ HEAD_BYTES →
     HasHead (Message (record {
       kind = Response;
       req_type = req_type;
@@ -58,6 +63,7 @@ pub response-read : (a : List ℕ) (req_type session k j request : ℕ) (head : 
       session = session;
       number = j;
       request = request;
+      to_life = to_life;
     })) head →
     decoded (head ++ part a k) ≡ Ok (Message (record {
       kind = Response;
@@ -66,8 +72,9 @@ pub response-read : (a : List ℕ) (req_type session k j request : ℕ) (head : 
       session = session;
       number = j;
       request = request;
+      to_life = to_life;
     }))
-response-read a req_type session k j request head types sizes sessions parts numbers sixteen h =
+response-read a req_type session k j request to_life head types sizes sessions parts numbers low_life high_life twenty h =
     let m : MessageHeader =
     record {
       kind = Response;
@@ -76,6 +83,7 @@ response-read a req_type session k j request head types sizes sessions parts num
       session = session;
       number = j;
       request = request;
+      to_life = to_life;
     } in
     let long = response_length (length a) k j parts in
     decoded-append (Message m) head (part a k)
@@ -84,11 +92,12 @@ response-read a req_type session k j request head types sizes sessions parts num
       size = (omega arith, omega arith);
       session = (omega arith, omega arith);
       number = (omega arith, omega arith);
+      to_life = (omega arith, omega arith);
     })
-    h sixteen (rw (length-part a k) long)
+    h twenty (rw (length-part a k) long)
 
-pub rfr-read : (session number request : ℕ) (head : List ℕ) →
-    session < 65535 → 0 < number → number ≤ 2046 → length head ≡ 16 →
+pub rfr-read : (session number request to_life : ℕ) (head : List ℕ) →
+    session < 65535 → 0 < number → number ≤ 2046 → 0 < to_life → to_life < 4294967296 → length head ≡ HEAD_BYTES →
     HasHead (Message (record {
       kind = Rfr;
       req_type = 0;
@@ -96,6 +105,7 @@ pub rfr-read : (session number request : ℕ) (head : List ℕ) →
       session = session;
       number = number;
       request = request;
+      to_life = to_life;
     })) head →
     decoded (head ++ []) ≡ Ok (Message (record {
       kind = Rfr;
@@ -104,8 +114,9 @@ pub rfr-read : (session number request : ℕ) (head : List ℕ) →
       session = session;
       number = number;
       request = request;
+      to_life = to_life;
     }))
-rfr-read session number request head sessions low high sixteen h =
+rfr-read session number request to_life head sessions low high low_life high_life twenty h =
     let m : MessageHeader =
     record {
       kind = Rfr;
@@ -114,6 +125,7 @@ rfr-read session number request head sessions low high sixteen h =
       session = session;
       number = number;
       request = request;
+      to_life = to_life;
     } in
     decoded-append (Message m) head []
     (record {
@@ -121,11 +133,12 @@ rfr-read session number request head sessions low high sixteen h =
       size = (omega arith, omega arith);
       session = (omega arith, omega arith);
       number = (omega arith, omega arith);
+      to_life = (omega arith, omega arith);
     })
-    h sixteen refl
+    h twenty refl
 
-pub cr-read : (session number request : ℕ) (head : List ℕ) →
-    session < 65535 → number ≤ 1022 → length head ≡ 16 →
+pub cr-read : (session number request to_life : ℕ) (head : List ℕ) →
+    session < 65535 → number ≤ 1022 → 0 < to_life → to_life < 4294967296 → length head ≡ HEAD_BYTES →
     HasHead (Message (record {
       kind = Cr;
       req_type = 0;
@@ -133,6 +146,7 @@ pub cr-read : (session number request : ℕ) (head : List ℕ) →
       session = session;
       number = number;
       request = request;
+      to_life = to_life;
     })) head →
     decoded (head ++ []) ≡ Ok (Message (record {
       kind = Cr;
@@ -141,8 +155,9 @@ pub cr-read : (session number request : ℕ) (head : List ℕ) →
       session = session;
       number = number;
       request = request;
+      to_life = to_life;
     }))
-cr-read session number request head sessions high sixteen h =
+cr-read session number request to_life head sessions high low_life high_life twenty h =
     let m : MessageHeader =
     record {
       kind = Cr;
@@ -151,6 +166,7 @@ cr-read session number request head sessions high sixteen h =
       session = session;
       number = number;
       request = request;
+      to_life = to_life;
     } in
     decoded-append (Message m) head []
     (record {
@@ -158,5 +174,6 @@ cr-read session number request head sessions high sixteen h =
       size = (omega arith, omega arith);
       session = (omega arith, omega arith);
       number = (omega arith, omega arith);
+      to_life = (omega arith, omega arith);
     })
-    h sixteen refl
+    h twenty refl

@@ -1,4 +1,6 @@
 -- What is read is what is spelled, and each refusal has its reason.
+use Rattle.rpc_base.specs.declared.limits.TheConstants.{HEAD_BYTES}
+use Rattle.packet_header.specs.declared.layout.TheConstants.{MAGIC, PADDING, PADDING_BYTES, TO_LIFE}
 use Rattle.std.proofs.Common.{◌≡◌, ◌≢◌, ◌↔◌, ◌≤◌, ◌∙◌, ℕ, ◌==◌, nat_lt, ◌||◌, not, Bool, true, false}
 use Rattle.std.proofs.Common.{if◌then◌else◌, List, length, slice_index, Option, Some, None, Result}
 use Rattle.std.proofs.Common.{Ok, Err, IfOk, unwrap_or, inl, inr, refl, sym, ap, arith}
@@ -15,11 +17,11 @@ use Rattle.packet_header.specs.declared.packet.BadPacket.TheVariants.{Short, Mag
 use Rattle.packet_header.specs.declared.decoding.AnyKind.{AnyKind}
 use Rattle.packet_header.specs.declared.decoding.AnyKind.TheVariants.{OfMessage, OfControl}
 use Rattle.packet_header.specs.Header.{HasControlHead, HasHead, HasLength, HasMessageHead, InRange}
-use Rattle.packet_header.specs.Header.{MessageLength, ControlInRange, MessageInRange, IsServer}
+use Rattle.packet_header.specs.Header.{MessageLength, ControlInRange, MessageInRange, IsLife, IsServer}
 use Rattle.packet_header.specs.Header.{Spells, control_code, kind_code, number_at}
 use Rattle.packet_header.specs.Reading.{checked, control_at, control_fault, control_fields}
 use Rattle.packet_header.specs.Reading.{first_outside, message_fields, control_read, decoded}
-use Rattle.packet_header.specs.Reading.{is_full_part, kind_of, message_at, message_fault}
+use Rattle.packet_header.specs.Reading.{is_full_part, kind_of, life_of, message_at, message_fault}
 use Rattle.packet_header.specs.Reading.{message_in, message_of, message_read, read_as, server_of}
 use Rattle.packet_header.specs.Reading.{wanted}
 use Rattle.packet_header.specs.Refusals.{FirstOutside, IsOfKind, Refuses, length_of}
@@ -29,13 +31,13 @@ use Rattle.packet_header.proofs.Lengths.{length-tested, tested-length}
 use Rattle.rpc_base.proofs.BasicLemmas.{unless-true}
 
 -- the two tests before the kind
-short_no : (n : ℕ) → 16 ≤ n → nat_lt n 16 ≡ false
+short_no : (n : ℕ) → HEAD_BYTES ≤ n → nat_lt n HEAD_BYTES ≡ false
 short_no n h = grind (arith, nat_tests)
 
-other_magic : (n : ℕ) → (n ≡ 225 → ⊥) → not (n == 225) ≡ true
+other_magic : (n : ℕ) → (n ≡ MAGIC → ⊥) → not (n == MAGIC) ≡ true
 other_magic n h = grind (arith, nat_tests)
 
-magic_no : (n : ℕ) → n ≡ 225 → not (n == 225) ≡ false
+magic_no : (n : ℕ) → n ≡ MAGIC → not (n == MAGIC) ≡ false
 magic_no n h = grind (arith, nat_tests)
 
 -- a header of a kind is read as that kind
@@ -57,7 +59,7 @@ message_read-ok m n range long =
 
 message_at-same : (m : MessageHeader) (bytes : List ℕ) → HasMessageHead m bytes → message_at m.kind bytes ≡ m
 unfolding message_at
-message_at-same m bytes h = rw (h.req_type, h.size, h.session, h.number, h.request) refl
+message_at-same m bytes h = rw (h.req_type, h.size, h.session, h.number, h.request, h.to_life) refl
 
 -- a message header is read as it stands
 message-decoded : (m : MessageHeader) (bytes : List ℕ) → HasMessageHead m bytes
@@ -67,12 +69,12 @@ message-decoded m bytes h =
     ∙ ap (λ kind. read_as kind bytes) (kind_of-message m.kind)
     ∙ ap (λ x. message_read x (length bytes)) (message_at-same m bytes h)
 
-sixteen : (n : ℕ) → n ≡ 16 → (n == 16) ≡ true
-sixteen n h = grind (arith, nat_tests)
+twenty : (n : ℕ) → n ≡ HEAD_BYTES → (n == HEAD_BYTES) ≡ true
+twenty n h = grind (arith, nat_tests)
 
-control_read-ok : (c : ControlHeader) (n : ℕ) → ControlInRange c → n ≡ 16 → control_read c 0 n ≡ Ok (Control c)
+control_read-ok : (c : ControlHeader) (n : ℕ) → ControlInRange c → n ≡ HEAD_BYTES → control_read c 0 n ≡ Ok (Control c)
 unfolding control_read
-control_read-ok c n range long = passes _ _ (Control c) 16 n (control-no_fault c range) (sixteen n long)
+control_read-ok c n range long = passes _ _ (Control c) HEAD_BYTES n (control-no_fault c range) (twenty n long)
 
 no_session : (n : ℕ) → n ≤ 65534 → (n == 65535) ≡ false
 no_session n h = grind (arith, nat_tests)
@@ -83,12 +85,22 @@ server_of-same false None h = refl
 server_of-same true None h = absurd h
 server_of-same false (Some server) h = absurd h
 
+no_life : (n : ℕ) → 1 ≤ n → (n == 0) ≡ false
+no_life n h = grind (arith, nat_tests)
+
+life_of-same : (b : Bool) (life : Option ℕ) → IsLife b life → life_of (unwrap_or life 0) ≡ life
+life_of-same true (Some life) h = rw (no_life life h.0) refl
+life_of-same false None h = refl
+life_of-same true None h = absurd h
+life_of-same false (Some life) h = absurd h
+
 control_at-same : (c : ControlHeader) (bytes : List ℕ) → HasControlHead c bytes → ControlInRange c
     → control_at c.kind bytes ≡ c
 unfolding control_at
 control_at-same c bytes h range =
     let server = ap server_of h.server ∙ server_of-same _ c.server range.server in
-    rw (h.client, server, h.credits, h.status) refl
+    let to_life = ap life_of h.to_life ∙ life_of-same _ c.to_life range.to_life in
+    rw (h.client, server, h.credits, h.status, h.from_life, to_life) refl
 
 -- a control header is read as it stands
 control-decoded : (c : ControlHeader) (bytes : List ℕ) → HasControlHead c bytes → ControlInRange c
@@ -96,7 +108,7 @@ control-decoded : (c : ControlHeader) (bytes : List ℕ) → HasControlHead c by
 control-decoded c bytes h range =
     decoded-of_kind bytes (control_code c.kind) (record { whole = h.whole; magic = h.magic; kind = h.kind })
     ∙ ap (λ kind. read_as kind bytes) (kind_of-control c.kind)
-    ∙ ap (λ x. control_read x (number_at 9 7 bytes) (length bytes)) (control_at-same c bytes h range)
+    ∙ ap (λ x. control_read x (number_at PADDING PADDING_BYTES bytes) (length bytes)) (control_at-same c bytes h range)
     ∙ ap (λ padding. control_read c padding (length bytes)) h.padding
 
 -- a datagram that spells a packet is read as that packet
@@ -124,6 +136,7 @@ message_at-head kind bytes h =
       session = refl;
       number = refl;
       request = refl;
+      to_life = refl;
     }
 
 not_both : (b : Bool) → b ≡ true → b ≡ false → ⊥
@@ -165,8 +178,12 @@ server_number : (b : Bool) (n : ℕ) → (n == 65535) ≡ b → n ≡ unwrap_or 
 server_number true n h = eqb-true n 65535 h
 server_number false n h = refl
 
+life_number : (b : Bool) (n : ℕ) → (n == 0) ≡ b → n ≡ unwrap_or (if b then None else Some n) 0
+life_number true n h = eqb-true n 0 h
+life_number false n h = refl
+
 control_at-head : (kind : ControlKind) (bytes : List ℕ) → IsOfKind (control_code kind) bytes
-    → number_at 9 7 bytes ≡ 0 → HasControlHead (control_at kind bytes) bytes
+    → number_at PADDING PADDING_BYTES bytes ≡ 0 → HasControlHead (control_at kind bytes) bytes
 unfolding control_at
 control_at-head kind bytes h padding =
     record {
@@ -176,21 +193,22 @@ control_at-head kind bytes h padding =
       client = refl;
       server = server_number _ (number_at 4 2 bytes) refl;
       credits = refl;
-      status =
-          refl;
+      status = refl;
+      from_life = refl;
       padding = padding;
+      to_life = life_number _ (number_at TO_LIFE 4 bytes) refl;
     }
 
 control-tells : (kind : ControlKind) (bytes : List ℕ) → IsOfKind (control_code kind) bytes →
     (fault : Option ℕ) (fits : Bool) →
-    control_fault (control_at kind bytes) (number_at 9 7 bytes) ≡ fault →
-    (length bytes == 16) ≡ fits →
-    Tells (checked fault fits (Control (control_at kind bytes)) 16 (length bytes)) bytes
+    control_fault (control_at kind bytes) (number_at PADDING PADDING_BYTES bytes) ≡ fault →
+    (length bytes == HEAD_BYTES) ≡ fits →
+    Tells (checked fault fits (Control (control_at kind bytes)) HEAD_BYTES (length bytes)) bytes
 unfolding control_fault
 control-tells kind bytes of_kind (Some offset) fits f g = inr (kind, of_kind, f)
 control-tells kind bytes of_kind None true f g =
     let (range, padding) = no_fault-control _ _ f in
-    record { head = control_at-head kind bytes of_kind padding; in_range = range; long = eqb-true _ 16 g }
+    record { head = control_at-head kind bytes of_kind padding; in_range = range; long = eqb-true _ HEAD_BYTES g }
 control-tells kind bytes of_kind None false f g =
     let (range, padding) = no_fault-control _ _ f in
     record {
@@ -199,15 +217,15 @@ control-tells kind bytes of_kind None false f g =
       in_range = range;
       wanted_length = refl;
       own_length = refl;
-      other = λ long. eqb-false _ 16 g long;
+      other = λ long. eqb-false _ HEAD_BYTES g long;
     }
 
 control_read-tells : (kind : ControlKind) (bytes : List ℕ) → IsOfKind (control_code kind) bytes
-    → Tells (control_read (control_at kind bytes) (number_at 9 7 bytes) (length bytes)) bytes
+    → Tells (control_read (control_at kind bytes) (number_at PADDING PADDING_BYTES bytes) (length bytes)) bytes
 unfolding control_read
 control_read-tells kind bytes of_kind = control-tells kind bytes of_kind _ _ refl refl
 
-read_as-tells : (bytes : List ℕ) → 16 ≤ length bytes → slice_index bytes 0 ≡ 225
+read_as-tells : (bytes : List ℕ) → HEAD_BYTES ≤ length bytes → slice_index bytes 0 ≡ MAGIC
     → (kind : Option AnyKind) → IsKindOf (slice_index bytes 1) kind
     → Tells (read_as kind bytes) bytes
 read_as-tells bytes whole magic None h = (record { whole = whole; magic = magic; kind = refl }, h)
@@ -216,16 +234,16 @@ read_as-tells bytes whole magic (Some (OfMessage kind)) h =
 read_as-tells bytes whole magic (Some (OfControl kind)) h =
     control_read-tells kind bytes (record { whole = whole; magic = magic; kind = h })
 
-tests-tell : (bytes : List ℕ) → (short other : Bool) → nat_lt (length bytes) 16 ≡ short
-    → not (slice_index bytes 0 == 225) ≡ other →
+tests-tell : (bytes : List ℕ) → (short other : Bool) → nat_lt (length bytes) HEAD_BYTES ≡ short
+    → not (slice_index bytes 0 == MAGIC) ≡ other →
     Tells (if short then Err (Short (length bytes))
     else (if other then Err (Magic (slice_index bytes 0)) else read_as
     (kind_of (slice_index bytes 1)) bytes)) bytes
-tests-tell bytes true other h g = (refl, ltb-true (length bytes) 16 h)
-tests-tell bytes false true h g = (ltb-false (length bytes) 16 h, refl, eqb-false _ 225 (not-true _ g))
+tests-tell bytes true other h g = (refl, ltb-true (length bytes) HEAD_BYTES h)
+tests-tell bytes false true h g = (ltb-false (length bytes) HEAD_BYTES h, refl, eqb-false _ MAGIC (not-true _ g))
 tests-tell bytes false false h g =
-    read_as-tells bytes (ltb-false (length bytes) 16 h)
-    (eqb-true _ 225 (not-false _ g)) _ (kind_of-byte (slice_index bytes 1))
+    read_as-tells bytes (ltb-false (length bytes) HEAD_BYTES h)
+    (eqb-true _ MAGIC (not-false _ g)) _ (kind_of-byte (slice_index bytes 1))
 
 decoded-tells : (bytes : List ℕ) → Tells (decoded bytes) bytes
 unfolding decoded
@@ -252,7 +270,7 @@ control_read-faulty : (c : ControlHeader) (padding n offset : ℕ)
     → first_outside (control_fields c padding) ≡ Some offset
     → control_read c padding n ≡ Err (Field offset)
 unfolding control_read control_fault
-control_read-faulty c padding n offset h = faulty _ _ (Control c) 16 n offset h
+control_read-faulty c padding n offset h = faulty _ _ (Control c) HEAD_BYTES n offset h
 
 first_outside-decoded : (offset : ℕ) (bytes : List ℕ) → FirstOutside offset bytes → decoded bytes ≡ Err (Field offset)
 first_outside-decoded offset bytes (inl (kind, of_kind, fault)) =
@@ -262,7 +280,7 @@ first_outside-decoded offset bytes (inl (kind, of_kind, fault)) =
 first_outside-decoded offset bytes (inr (kind, of_kind, fault)) =
     decoded-of_kind bytes _ of_kind
     ∙ ap (λ k. read_as k bytes) (kind_of-control kind)
-    ∙ control_read-faulty (control_at kind bytes) (number_at 9 7 bytes) (length bytes) offset fault
+    ∙ control_read-faulty (control_at kind bytes) (number_at PADDING PADDING_BYTES bytes) (length bytes) offset fault
 
 misfits : (fault : Option ℕ) (fits : Bool) (p : Packet) (want got : ℕ) → fault ≡ None → fits ≡ false
     → checked fault fits p want got ≡ Err (Length want got)
@@ -276,11 +294,11 @@ message_read-misfits m n range other =
     misfits _ _ (Message m) _ n (message-no_fault m range)
     (unless-true _ (λ t. other (tested-length m.kind m.size m.number n t)))
 
-control_read-misfits : (c : ControlHeader) (n : ℕ) → ControlInRange c → (n ≡ 16 → ⊥)
-    → control_read c 0 n ≡ Err (Length 16 n)
+control_read-misfits : (c : ControlHeader) (n : ℕ) → ControlInRange c → (n ≡ HEAD_BYTES → ⊥)
+    → control_read c 0 n ≡ Err (Length HEAD_BYTES n)
 unfolding control_read
 control_read-misfits c n range other =
-    misfits _ _ (Control c) 16 n (control-no_fault c range) (unless-true _ (λ t. other (eqb-true n 16 t)))
+    misfits _ _ (Control c) HEAD_BYTES n (control-no_fault c range) (unless-true _ (λ t. other (eqb-true n HEAD_BYTES t)))
 
 misfit-decoded : (p : Packet) (bytes : List ℕ) → HasHead p bytes → InRange p
     → ¬ HasLength p (length bytes) → decoded bytes ≡ Err (Length (length_of p) (length bytes))
@@ -292,7 +310,7 @@ misfit-decoded (Control c) bytes h range other =
 -- a reason is told
 pub refuses-decoded : (bad : BadPacket) (bytes : List ℕ) → Refuses bad bytes → decoded bytes ≡ Err bad
 unfolding decoded
-refuses-decoded (Short len) bytes (e, h) = rw (lt-ltb (length bytes) 16 h, e) refl
+refuses-decoded (Short len) bytes (e, h) = rw (lt-ltb (length bytes) HEAD_BYTES h, e) refl
 refuses-decoded (Magic byte) bytes (whole, e, other) =
     rw (short_no _ whole, other_magic _ (λ same. other (e ∙ same)), e) refl
 refuses-decoded (NoKind byte) bytes (of_kind, h) =
@@ -344,7 +362,7 @@ control-no_message c bytes s = ap message_in (spells-decoded (Control c) bytes s
 
 -- a packet of a call begins with a header of its kind, which is read as it stands
 pub record BeginsWith (m : MessageHeader) (bytes : List ℕ) : Type 0 where
-  pub whole : 16 ≤ length bytes
+  pub whole : HEAD_BYTES ≤ length bytes
   pub kind : kind_of (slice_index bytes 1) ≡ Some (OfMessage m.kind)
   pub fields : message_at m.kind bytes ≡ m
 

@@ -9,7 +9,7 @@ use Rattle.packet_header.specs.Header.{AreBytes, HasHead, InRange, Spells}
 abbrev pub NoBytesSpellTwo : Type 0
 NoBytesSpellTwo = (p q : Packet) (bytes : List ℕ) → Spells p bytes → Spells q bytes → p ≡ q
 
--- these are 16 bytes and the packet's header
+-- these are 20 bytes and the packet's header
 abbrev pub IsHeadOf : Packet → List ℕ → Type 0
 IsHeadOf p head = AreBytes head × (length head ≡ HEAD_BYTES) × HasHead p head
 

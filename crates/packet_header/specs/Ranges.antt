@@ -29,6 +29,10 @@ within s n = nat_le s.lowest n && nat_le n s.highest
 abbrev pub sessions : Span
 sessions = span 0 (SESSION_NUMBERS - 1)
 
+-- lives: all 4-byte numbers but 0
+abbrev pub lives : Span
+lives = span 1 4294967295
+
 -- types, sizes and packet numbers of the packets that carry a call; size is the size field's number
 abbrev pub message_row : Kind → ℕ → MessageRow
 message_row Request size =
@@ -43,12 +47,19 @@ message_row Cr size = record { types = span 0 0; sizes = span 0 0; numbers = spa
 message_row Response size =
     record { types = span 0 255; sizes = span 0 MOST_MESSAGE_BYTES; numbers = span 0 2046 }
 
--- whether there is a server session, the credits, and the status besides 0, of the packets that
--- open and close sessions; status is the status field's number
+-- whether there is a server session, the credits, the status besides 0, and whether the receiver's
+-- life is known, of the packets that open and close sessions; status is the status field's number
 abbrev pub control_row : ControlKind → ℕ → ControlRow
 control_row ConnectRequest status =
-    record { has_server = false; credits = span 1 MOST_CREDITS; refusal = 0 }
+    record { has_server = false; credits = span 1 MOST_CREDITS; refusal = 0; has_life = false }
 control_row ConnectReply status =
-    record { has_server = not (status == 1); credits = span 1 MOST_CREDITS; refusal = 1 }
-control_row DisconnectRequest status = record { has_server = true; credits = span 0 0; refusal = 0 }
-control_row DisconnectReply status = record { has_server = true; credits = span 0 0; refusal = 2 }
+    record {
+      has_server = not (status == 1);
+      credits = span 1 MOST_CREDITS;
+      refusal = 1;
+      has_life = true;
+    }
+control_row DisconnectRequest status =
+    record { has_server = true; credits = span 0 0; refusal = 0; has_life = true }
+control_row DisconnectReply status =
+    record { has_server = true; credits = span 0 0; refusal = 2; has_life = true }

@@ -1,4 +1,6 @@
 -- What a datagram is read as: a packet, or the first reason why it is none.
+use Rattle.packet_header.specs.declared.layout.TheConstants.{FROM_LIFE, MAGIC, PADDING}
+use Rattle.packet_header.specs.declared.layout.TheConstants.{PADDING_BYTES, TO_LIFE}
 use Rattle.std.specs.Prelude.{ℕ, ◌+◌, ◌==◌, nat_lt, nat_le, ◌&&◌, ◌||◌, not, Bool, true, false}
 use Rattle.std.specs.Prelude.{if◌then◌else◌, List, [], ◌∷◌, length, drop, slice_index, Option, Some}
 use Rattle.std.specs.Prelude.{None, Result, Ok, Err}
@@ -20,7 +22,7 @@ use Rattle.packet_header.specs.declared.packet.BadPacket.TheVariants.{Short, Mag
 use Rattle.packet_header.specs.declared.decoding.AnyKind.{AnyKind}
 use Rattle.packet_header.specs.declared.decoding.AnyKind.TheVariants.{OfMessage, OfControl}
 use Rattle.packet_header.specs.Parts.{part_size, tail}
-use Rattle.packet_header.specs.Ranges.{within, sessions, message_row, control_row}
+use Rattle.packet_header.specs.Ranges.{within, lives, sessions, message_row, control_row}
 use Rattle.packet_header.specs.Header.{number_at}
 
 -- the kind that a byte stands for, if any
@@ -45,11 +47,16 @@ message_at kind bytes = record {
   session = number_at 6 2 bytes;
   number = number_at 8 2 bytes;
   request = number_at 10 6 bytes;
+  to_life = number_at TO_LIFE 4 bytes;
 }
 
 -- 0xFFFF is no server
 abbrev pub server_of : ℕ → Option ℕ
 server_of number = if number == SESSION_NUMBERS then None else Some number
+
+-- 0 is nobody's life
+abbrev pub life_of : ℕ → Option ℕ
+life_of number = if number == 0 then None else Some number
 
 -- the fields as they stand
 unfoldable pub control_at : ControlKind → List ℕ → ControlHeader
@@ -59,6 +66,8 @@ control_at kind bytes = record {
   server = server_of (number_at 4 2 bytes);
   credits = number_at 6 2 bytes;
   status = slice_index bytes 8;
+  from_life = number_at FROM_LIFE 4 bytes;
+  to_life = life_of (number_at TO_LIFE 4 bytes);
 }
 
 -- there is a server session, by its number, exactly where the row has one: as a test
@@ -68,6 +77,13 @@ is_server true None = false
 is_server false (Some server) = false
 is_server false None = true
 
+-- there is a life exactly where the row has one: as a test
+abbrev pub is_life : Bool → Option ℕ → Bool
+is_life true (Some life) = within lives life
+is_life true None = false
+is_life false (Some life) = false
+is_life false None = true
+
 -- the fields of a message header: the offset of each, and whether it is in range
 abbrev pub message_fields : MessageHeader → List (ℕ × Bool)
 message_fields m =
@@ -75,6 +91,7 @@ message_fields m =
     ∷ (3, within (message_row m.kind m.size).sizes m.size)
     ∷ (6, within sessions m.session)
     ∷ (8, within (message_row m.kind m.size).numbers m.number)
+    ∷ (TO_LIFE, within lives m.to_life)
     ∷ []
 
 -- the fields of a control header; padding is the number in the bytes that should be zero
@@ -84,7 +101,9 @@ control_fields c padding =
     ∷ (4, is_server (control_row c.kind c.status).has_server c.server)
     ∷ (6, within (control_row c.kind c.status).credits c.credits)
     ∷ (8, c.status == 0 || c.status == (control_row c.kind c.status).refusal)
-    ∷ (9, padding == 0)
+    ∷ (FROM_LIFE, within lives c.from_life)
+    ∷ (PADDING, padding == 0)
+    ∷ (TO_LIFE, is_life (control_row c.kind c.status).has_life c.to_life)
     ∷ []
 
 -- the offset of the first field outside its range
@@ -133,13 +152,13 @@ abbrev pub read_as : Option AnyKind → List ℕ → Result Packet BadPacket
 read_as None bytes = Err (NoKind (slice_index bytes 1))
 read_as (Some (OfMessage kind)) bytes = message_read (message_at kind bytes) (length bytes)
 read_as (Some (OfControl kind)) bytes =
-    control_read (control_at kind bytes) (number_at 9 7 bytes) (length bytes)
+    control_read (control_at kind bytes) (number_at PADDING PADDING_BYTES bytes) (length bytes)
 
--- a datagram: the first 16 bytes are wanted, then the magic byte, and then a kind
+-- a datagram: the first 20 bytes are wanted, then the magic byte, and then a kind
 unfoldable pub decoded : List ℕ → Result Packet BadPacket
 decoded bytes =
     if nat_lt (length bytes) HEAD_BYTES then Err (Short (length bytes))
-    else (if not (slice_index bytes 0 == 225) then Err (Magic (slice_index bytes 0))
+    else (if not (slice_index bytes 0 == MAGIC) then Err (Magic (slice_index bytes 0))
     else read_as (kind_of (slice_index bytes 1)) bytes)
 
 -- the message header that was read, if one was

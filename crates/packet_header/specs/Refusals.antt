@@ -1,4 +1,5 @@
 -- Why a datagram is refused: the first of these reasons that holds.
+use Rattle.packet_header.specs.declared.layout.TheConstants.{MAGIC, PADDING, PADDING_BYTES}
 use Rattle.std.specs.Prelude.{◌≡◌, ◌≢◌, ◌≤◌, ◌<◌, ℕ, ◌⊎◌, List, length, slice_index, Some}
 use Rattle.rpc_base.specs.declared.limits.TheConstants.{HEAD_BYTES}
 use Rattle.packet_header.specs.declared.packet.Kind.{Kind}
@@ -13,7 +14,7 @@ use Rattle.packet_header.specs.Reading.{control_at, control_fields, first_outsid
 -- a whole header with the magic byte and this kind
 pub record IsOfKind (code : ℕ) (bytes : List ℕ) : Type 0 where
   pub whole : HEAD_BYTES ≤ length bytes
-  pub magic : slice_index bytes 0 ≡ 225
+  pub magic : slice_index bytes 0 ≡ MAGIC
   pub kind : slice_index bytes 1 ≡ code
 
 -- the first field outside its range stands at this offset
@@ -22,7 +23,8 @@ FirstOutside offset bytes =
     ((kind : Kind) × IsOfKind (kind_code kind) bytes
     × (first_outside (message_fields (message_at kind bytes)) ≡ Some offset))
     ⊎ ((kind : ControlKind) × IsOfKind (control_code kind) bytes
-    × (first_outside (control_fields (control_at kind bytes) (number_at 9 7 bytes))
+    × (first_outside
+    (control_fields (control_at kind bytes) (number_at PADDING PADDING_BYTES bytes))
     ≡ Some offset))
 
 -- the length that a refusal names
@@ -42,7 +44,8 @@ pub record HasOtherLength (want got : ℕ) (bytes : List ℕ) : Type 0 where
 -- this is why the datagram is refused
 abbrev pub Refuses : BadPacket → List ℕ → Type 0
 Refuses (Short len) bytes = (len ≡ length bytes) × (length bytes < HEAD_BYTES)
-Refuses (Magic byte) bytes = (HEAD_BYTES ≤ length bytes) × (byte ≡ slice_index bytes 0) × (byte ≢ 225)
+Refuses (Magic byte) bytes =
+    (HEAD_BYTES ≤ length bytes) × (byte ≡ slice_index bytes 0) × (byte ≢ MAGIC)
 Refuses (NoKind byte) bytes = IsOfKind byte bytes × (7 < byte)
 Refuses (Field offset) bytes = FirstOutside offset bytes
 Refuses (Length want got) bytes = HasOtherLength want got bytes

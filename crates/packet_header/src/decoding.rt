@@ -7,14 +7,16 @@ ghost use Rattle.packet_header.specs.declared.packet.BadPacket.{BadPacket};
 ghost use Rattle.packet_header.specs.declared.packet.Packet.{Packet};
 ghost use Rattle.packet_header.specs.declared.packet.Packet.TheVariants.{Message};
 ghost use Rattle.packet_header.specs.Reading.{control_at, control_fault, control_read, decoded};
-ghost use Rattle.packet_header.specs.Reading.{kind_of, message_at, message_fault, is_full_part};
-ghost use Rattle.packet_header.specs.Reading.{is_server, message_of, message_read, server_of, wanted};
+ghost use Rattle.packet_header.specs.Reading.{is_full_part, is_life, is_server, kind_of, life_of};
+ghost use Rattle.packet_header.specs.Reading.{message_at, message_fault, message_of, message_read};
+ghost use Rattle.packet_header.specs.Reading.{server_of, wanted};
 ghost use Rattle.packet_header.specs.Parts.{packet_count};
 
 use crate::layout::{
-    CLIENT, CREDITS, KIND, MAGIC, NO_SESSION, NUMBER, PADDING, PADDING_BYTES, REQUEST, SERVER,
-    SESSION, SIZE, STATUS, TYPE,
+    CLIENT, CREDITS, FROM_LIFE, KIND, MAGIC, NO_LIFE, NO_SESSION, NUMBER, PADDING, PADDING_BYTES,
+    REQUEST, REQUEST_HIGH, REQUEST_LOW, SERVER, SESSION, SIZE, STATUS, TO_LIFE, TYPE,
 };
+use crate::life::Life;
 use crate::packet::{ACCEPTED, BadPacket, ControlHeader, ControlKind, Kind, MessageHeader, Packet};
 use crate::parts::{count, part_len};
 use crate::ranges::{ControlRow, MessageRow, Span};
@@ -97,6 +99,7 @@ fn message_at(kind: Kind, bytes: &[u8]) -> MessageHeader
         session: SessionNo(BigEndian::read_u16(&bytes[SESSION..])),
         number: BigEndian::read_u16(&bytes[NUMBER..]),
         request: request_at(bytes),
+        to_life: Life(BigEndian::read_u32(&bytes[TO_LIFE..])),
     }
 }
 
@@ -105,7 +108,9 @@ fn request_at(bytes: &[u8]) -> RequestNo
     requires { HEAD_BYTES ≤ length bytes.now }
     ensures { result ≡ number_at 10 6 bytes.now }
 {
-    let number = BigEndian::read_u48(&bytes[REQUEST..]);
+    let high = BigEndian::read_u16(&bytes[REQUEST..]);
+    let low = BigEndian::read_u32(&bytes[REQUEST_LOW..]);
+    let number = REQUEST_HIGH * u64::from(high) + u64::from(low);
     RequestNo::of((number % 8) as u8, number / 8)
 }
 
@@ -121,15 +126,17 @@ fn control_at(kind: ControlKind, bytes: &[u8]) -> ControlHeader
         server: server_of(BigEndian::read_u16(&bytes[SERVER..])),
         credits: BigEndian::read_u16(&bytes[CREDITS..]),
         status: bytes[STATUS],
+        from_life: Life(BigEndian::read_u32(&bytes[FROM_LIFE..])),
+        to_life: life_of(BigEndian::read_u32(&bytes[TO_LIFE..])),
     }
 }
 
 /// What stands in the bytes that should be zero.
-fn padding_at(bytes: &[u8]) -> u64
+fn padding_at(bytes: &[u8]) -> u32
     requires { HEAD_BYTES ≤ length bytes.now }
-    ensures { result ≡ number_at 9 7 bytes.now }
+    ensures { result ≡ number_at PADDING PADDING_BYTES bytes.now }
 {
-    BigEndian::read_uint(&bytes[PADDING..], PADDING_BYTES)
+    BigEndian::read_u24(&bytes[PADDING..])
 }
 
 /// The server session that a number stands for.
@@ -140,6 +147,17 @@ fn server_of(number: u16) -> Option<SessionNo>
         None
     } else {
         Some(SessionNo(number))
+    }
+}
+
+/// The life that a number stands for.
+fn life_of(number: u32) -> Option<Life>
+    ensures { result ≡ life_of number }
+{
+    if number == NO_LIFE {
+        None
+    } else {
+        Some(Life(number))
     }
 }
 
@@ -161,7 +179,7 @@ fn check_message(header: MessageHeader, len: usize) -> Result<Packet, BadPacket>
 
 /// The same, where `padding` stands in the bytes that should be zero.
 #[tactic(auto, unfolding(crate::specs::Reading::control_read))]
-fn check_control(header: ControlHeader, padding: u64, len: usize) -> Result<Packet, BadPacket>
+fn check_control(header: ControlHeader, padding: u32, len: usize) -> Result<Packet, BadPacket>
     ensures { result ≡ control_read header padding len }
 {
     if let Some(at) = control_fault(&header, padding) {
@@ -191,14 +209,16 @@ pub fn message_fault(header: &MessageHeader) -> Option<u8>
         Some(SESSION as u8)
     } else if !row.numbers.contains(u32::from(header.number)) {
         Some(NUMBER as u8)
+    } else if !Span::lives().contains(header.to_life.0) {
+        Some(TO_LIFE as u8)
     } else {
         None
     }
 }
 
-/// The same; what isn't zero where it should be is the last field.
+/// The same, where `padding` stands in the bytes that should be zero.
 #[tactic(auto, unfolding(crate::specs::Reading::control_fault))]
-pub fn control_fault(header: &ControlHeader, padding: u64) -> Option<u8>
+pub fn control_fault(header: &ControlHeader, padding: u32) -> Option<u8>
     ensures { result ≡ control_fault header.now padding }
 {
     let row = ControlRow::of(header.kind, header.status);
@@ -210,8 +230,12 @@ pub fn control_fault(header: &ControlHeader, padding: u64) -> Option<u8>
         Some(CREDITS as u8)
     } else if header.status != ACCEPTED && header.status != row.refusal {
         Some(STATUS as u8)
+    } else if !Span::lives().contains(header.from_life.0) {
+        Some(FROM_LIFE as u8)
     } else if padding != 0 {
         Some(PADDING as u8)
+    } else if !is_life(row.has_life, header.to_life) {
+        Some(TO_LIFE as u8)
     } else {
         None
     }
@@ -223,6 +247,16 @@ fn is_server(wanted: bool, server: Option<SessionNo>) -> bool
 {
     match server {
         Some(session) => wanted && Span::sessions().contains(u32::from(session.0)),
+        None => !wanted,
+    }
+}
+
+/// Whether the receiver's life is there exactly where one is wanted.
+fn is_life(wanted: bool, life: Option<Life>) -> bool
+    ensures { result ≡ is_life wanted life }
+{
+    match life {
+        Some(life) => wanted && Span::lives().contains(life.0),
         None => !wanted,
     }
 }

@@ -4,7 +4,8 @@ ghost use Rattle.byteorder.specs.Endian.{big_number};
 ghost use Rattle.packet_header.specs.Header.{AreBytes, HasControlHead, HasHead, HasMessageHead};
 ghost use Rattle.packet_header.specs.Header.{InRange, control_code, kind_code};
 
-use crate::layout::{MAGIC, NO_SESSION};
+use crate::layout::{MAGIC, NO_LIFE, NO_SESSION};
+use crate::life::Life;
 use crate::packet::{ControlHeader, ControlKind, Kind, MessageHeader, Packet};
 use byteorder::{BigEndian, ByteOrder};
 use rpc_base::{HEAD_BYTES, SESSION_NUMBERS, SessionNo};
@@ -38,6 +39,7 @@ fn message_head(header: &MessageHeader) -> [u8; HEAD_BYTES]
     let session = bytes_of_16(header.session.0);
     let number = bytes_of_16(header.number);
     let request = bytes_of_48(header.request.get());
+    let to_life = bytes_of_32(header.to_life.0);
     [
         MAGIC,
         kind_code(header.kind),
@@ -55,6 +57,10 @@ fn message_head(header: &MessageHeader) -> [u8; HEAD_BYTES]
         request[3],
         request[4],
         request[5],
+        to_life[0],
+        to_life[1],
+        to_life[2],
+        to_life[3],
     ]
 }
 
@@ -64,6 +70,8 @@ fn control_head(header: &ControlHeader) -> [u8; HEAD_BYTES]
     let client = bytes_of_16(header.client.0);
     let server = bytes_of_16(server_number(header.server));
     let credits = bytes_of_16(header.credits);
+    let from_life = bytes_of_32(header.from_life.0);
+    let to_life = bytes_of_32(life_number(header.to_life));
     [
         MAGIC,
         control_code(header.kind),
@@ -74,13 +82,17 @@ fn control_head(header: &ControlHeader) -> [u8; HEAD_BYTES]
         credits[0],
         credits[1],
         header.status,
+        from_life[0],
+        from_life[1],
+        from_life[2],
+        from_life[3],
         0,
         0,
         0,
-        0,
-        0,
-        0,
-        0,
+        to_life[0],
+        to_life[1],
+        to_life[2],
+        to_life[3],
     ]
 }
 
@@ -91,6 +103,16 @@ fn server_number(server: Option<SessionNo>) -> u16
     match server {
         Some(session) => session.0,
         None => NO_SESSION,
+    }
+}
+
+/// What stands in the place of the receiver's life.
+fn life_number(life: Option<Life>) -> u32
+    ensures { result ≡ unwrap_or life NO_LIFE }
+{
+    match life {
+        Some(life) => life.0,
+        None => NO_LIFE,
     }
 }
 
@@ -131,6 +153,14 @@ fn bytes_of_24(number: u32) -> [u8; 3]
 {
     let mut out = [0; 3];
     BigEndian::write_u24(&mut out, number);
+    out
+}
+
+fn bytes_of_32(number: u32) -> [u8; 4]
+    ensures { big_number 4 result ≡ number }
+{
+    let mut out = [0; 4];
+    BigEndian::write_u32(&mut out, number);
     out
 }
 

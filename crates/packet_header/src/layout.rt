@@ -1,13 +1,20 @@
 //! Where the fields of a header stand. Numbers of more than one byte have their highest byte first.
 
 /// The first byte of every header.
-pub const MAGIC: u8 = 0xE1;
+pub const MAGIC: u8 = 0xE2;
 
 /// What stands in the server's place of a control header where there is no server session.
 pub const NO_SESSION: u16 = 0xFFFF;
 
 /// The offset of the kind, in every header.
 pub const KIND: usize = 1;
+
+/// The offset of the receiver's life, in every header; the life has four bytes.
+pub const TO_LIFE: usize = 16;
+
+/// What stands in the place of the receiver's life of a control header where it isn't known. It is
+/// nobody's life.
+pub const NO_LIFE: u32 = 0;
 
 // The offsets of a message header's fields: the type has one byte, the size three, the session and
 // the number two each, the request six.
@@ -21,8 +28,13 @@ pub const NUMBER: usize = 8;
 
 pub const REQUEST: usize = 10;
 
+/// The offset of the four low bytes of the request's number, and what the two before them count.
+pub const REQUEST_LOW: usize = 12;
+
+pub const REQUEST_HIGH: u64 = 1 << 32;
+
 // The offsets of a control header's fields: the two sessions and the credits have two bytes each,
-// the status one. The rest is zero.
+// the status one, the sender's life four. The rest before the receiver's life is zero.
 pub const CLIENT: usize = 2;
 
 pub const SERVER: usize = 4;
@@ -31,7 +43,9 @@ pub const CREDITS: usize = 6;
 
 pub const STATUS: usize = 8;
 
-pub const PADDING: usize = 9;
+pub const FROM_LIFE: usize = 9;
 
-/// How many zero bytes end a control header.
-pub const PADDING_BYTES: usize = 7;
+pub const PADDING: usize = 13;
+
+/// How many zero bytes a control header has.
+pub const PADDING_BYTES: usize = 3;

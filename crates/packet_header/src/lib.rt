@@ -1,4 +1,4 @@
-//! The 16 bytes that head every datagram: the packets, their ranges and lengths, reading and
+//! The 20 bytes that head every datagram: the packets, their ranges and lengths, reading and
 //! writing. It knows nothing of sessions, calls or queues.
 #![tactic(auto)]
 
@@ -6,6 +6,7 @@ mod decoding;
 mod encoding;
 mod laws;
 mod layout;
+mod life;
 mod packet;
 mod parts;
 mod range_test;
@@ -15,6 +16,7 @@ pub use decoding::{decode, message_header};
 pub use encoding::encode;
 pub use laws::{every_packet_has_one_head, no_bytes_spell_two_packets};
 pub use layout::MAGIC;
+pub use life::{FIRST_LIFE, Life};
 pub use packet::{
     ACCEPTED, BadPacket, ControlHeader, ControlKind, GONE, Kind, MessageHeader, NO_ROOM, Packet,
 };

@@ -2,6 +2,7 @@
 ghost use Rattle.std.specs.Prelude.{◌≡◌};
 ghost use Rattle.packet_header.specs.Kinds.{is_asking, is_cr, is_last, is_response, is_rfr};
 
+use crate::life::Life;
 use crate::parts::count;
 use rpc_base::{RequestNo, SessionNo};
 use std::error::Error;
@@ -72,6 +73,8 @@ pub struct MessageHeader {
     /// The number of this packet, counted from 0 in its direction of the call.
     pub number: u16,
     pub request: RequestNo,
+    /// The receiver's life.
+    pub to_life: Life,
 }
 
 impl MessageHeader {
@@ -104,6 +107,10 @@ pub struct ControlHeader {
     pub credits: u16,
     /// `ACCEPTED`, `NO_ROOM` or `GONE`.
     pub status: u8,
+    /// The sender's life.
+    pub from_life: Life,
+    /// The receiver's life, if the sender knows it.
+    pub to_life: Option<Life>,
 }
 
 /// The header of a datagram.

@@ -1,8 +1,9 @@
 //! The ranges of the fields: a row for each kind of packet.
 ghost use Rattle.std.specs.Prelude.{◌≡◌};
-ghost use Rattle.packet_header.specs.Ranges.{control_row, message_row, sessions, span, within};
+ghost use Rattle.packet_header.specs.Ranges.{control_row, lives, message_row, sessions, span};
+ghost use Rattle.packet_header.specs.Ranges.{within};
 
-use crate::layout::NO_SESSION;
+use crate::layout::{NO_LIFE, NO_SESSION};
 use crate::packet::{ControlKind, GONE, Kind, NO_ROOM};
 use crate::parts::count;
 use rpc_base::{MOST_CREDITS, MOST_MESSAGE_BYTES};
@@ -33,6 +34,13 @@ impl Span {
         ensures { result ≡ sessions }
     {
         Span::new(0, u32::from(NO_SESSION) - 1)
+    }
+
+    /// The numbers of lives.
+    pub fn lives() -> Span
+        ensures { result ≡ lives }
+    {
+        Span::new(NO_LIFE + 1, u32::MAX)
     }
 
     pub fn contains(&self, number: u32) -> bool
@@ -80,6 +88,8 @@ pub struct ControlRow {
     pub credits: Span,
     /// The status that tells a refusal, and 0 where the kind has none. Status 0 is always in range.
     pub refusal: u8,
+    /// Whether the receiver's life is known.
+    pub has_life: bool,
 }
 
 impl ControlRow {
@@ -89,16 +99,17 @@ impl ControlRow {
     {
         let some = Span::new(1, u32::from(MOST_CREDITS));
         let none = Span::new(0, 0);
-        let (has_server, credits, refusal) = match kind {
-            ControlKind::ConnectRequest => (false, some, 0),
-            ControlKind::ConnectReply => (status != NO_ROOM, some, NO_ROOM),
-            ControlKind::DisconnectRequest => (true, none, 0),
-            ControlKind::DisconnectReply => (true, none, GONE),
+        let (has_server, credits, refusal, has_life) = match kind {
+            ControlKind::ConnectRequest => (false, some, 0, false),
+            ControlKind::ConnectReply => (status != NO_ROOM, some, NO_ROOM, true),
+            ControlKind::DisconnectRequest => (true, none, 0, true),
+            ControlKind::DisconnectReply => (true, none, GONE, true),
         };
         ControlRow {
             has_server,
             credits,
             refusal,
+            has_life,
         }
     }
 }

@@ -5,7 +5,7 @@ ghost use Rattle.packet_rings.specs.Values.{datagram};
 use rpc_base::{MOST_DATAGRAM_BYTES, Peer};
 use std::marker::Model;
 
-/// A datagram of at most 1,040 bytes, and the peer that it came from.
+/// A datagram of at most 1,044 bytes, and the peer that it came from.
 #[derive(Drop)]
 pub struct Datagram {
     peer: Peer,
@@ -37,7 +37,7 @@ impl Datagram {
         }
     }
 
-    /// Writes at most 1,040 bytes over what it was. Just these are copied.
+    /// Writes at most 1,044 bytes over what it was. Just these are copied.
     pub(crate) fn write(&mut self, peer: Peer, bytes: &[u8])
         requires fits { length bytes.now ≤ MOST_DATAGRAM_BYTES }
         ensures { self.new ≡ datagram peer bytes.now }
@@ -55,7 +55,7 @@ impl Datagram {
         self.peer
     }
 
-    /// Lends its bytes, at most 1,040.
+    /// Lends its bytes, at most 1,044.
     pub fn bytes(&self) -> &[u8]
         ensures bytes { result.now ≡ self.now.bytes }
         ensures limit { length result.now ≤ MOST_DATAGRAM_BYTES }

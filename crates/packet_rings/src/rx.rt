@@ -82,7 +82,7 @@ impl RxRing {
         self.datagrams.is_empty()
     }
 
-    /// Copies a datagram of at most 1,040 bytes to the back of a ring that isn't full. It takes no
+    /// Copies a datagram of at most 1,044 bytes to the back of a ring that isn't full. It takes no
     /// memory.
     pub fn push(&mut self, peer: Peer, bytes: &[u8])
         requires room { length self.old.items < self.old.size }

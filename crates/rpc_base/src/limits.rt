@@ -3,13 +3,13 @@ ghost use Rattle.std.specs.Prelude.{◌≡◌, ℕ, ◌≤◌, ◌↔◌, IsTrue
 ghost use Rattle.rpc_base.specs.Limits.{Fits};
 
 /// The bytes of a header.
-pub const HEAD_BYTES: usize = 16;
+pub const HEAD_BYTES: usize = 20;
 
 /// The bytes of a message that one packet carries at most.
 pub const PART_BYTES: u32 = 1_024;
 
 /// The bytes of the largest datagram that a packet fills: a header and a part.
-pub const MOST_DATAGRAM_BYTES: usize = 1_040;
+pub const MOST_DATAGRAM_BYTES: usize = 1_044;
 
 /// The bytes of the largest message.
 pub const MOST_MESSAGE_BYTES: u32 = 1_048_576;

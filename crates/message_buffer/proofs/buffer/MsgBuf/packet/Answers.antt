@@ -1,3 +1,4 @@
+use Rattle.rpc_base.specs.declared.limits.TheConstants.{HEAD_BYTES}
 use Rattle.std.proofs.Common.{◌≡◌, ◌+◌, ◌-◌, ◌*◌, ap, arith}
 use Rattle.message_buffer.specs.Buffer.{Buffer, bytes_of}
 use Rattle.message_buffer.specs.Block.{heads_in}
@@ -10,7 +11,7 @@ returns-clause-head c =
     let len : fields.len ≡ c.args.self.now.len = ap (λ (b : Buffer). b.len) c.self.view_is in
     let heads : heads_in fields.block.items fields.capacity ≡ c.args.self.now.heads =
     ap (λ (b : Buffer). b.heads) c.self.view_is in
-    let width : c.head_at-head.result + 16 - c.head_at-head.result ≡ 16 = omega arith in
+    let width : c.head_at-head.result + HEAD_BYTES - c.head_at-head.result ≡ HEAD_BYTES = omega arith in
     rw (← heads, c.deref.ensures.value, width, c.head_at-head.ensures)
     (heads-get fields.block.items fields.capacity c.args.index
     (omega (arith, c.self.invariant.within)))
@@ -20,7 +21,7 @@ returns-clause-part c =
     let fields = c.self.inside in
     let len : fields.len ≡ c.args.self.now.len = ap (λ (b : Buffer). b.len) c.self.view_is in
     let bytes = ap bytes_of c.self.view_is in
-    let width : (16 + 1024 * c.args.index + c.part_len.result) - (16 + 1024 * c.args.index)
+    let width : (HEAD_BYTES + 1024 * c.args.index + c.part_len.result) - (HEAD_BYTES + 1024 * c.args.index)
     ≡ c.part_len.result = omega arith in
     rw (c.deref-2.ensures.value, width, ← bytes)
     (part-in fields.block.items fields.capacity fields.len c.args.index c.part_len.result
