@@ -30,17 +30,52 @@ use Rattle.rpc_laws.specs.UsualLimits.{with_ring}
 
 -- the requests of client session 0, with 4 credits, and the answers to them
 abbrev connect : ControlHeader
-connect = record { kind = ConnectRequest; client = 0; server = None; credits = 4; status = 0 }
+connect =
+    record {
+      kind = ConnectRequest;
+      client = 0;
+      server = None;
+      credits = 4;
+      status = 0;
+      from_life = 1;
+      to_life = None;
+    }
 
 abbrev connected : (server credits : ℕ) → ControlHeader
 connected server credits =
-    record { kind = ConnectReply; client = 0; server = Some server; credits = credits; status = 0 }
+    record {
+      kind = ConnectReply;
+      client = 0;
+      server = Some server;
+      credits = credits;
+      status = 0;
+      from_life = 1;
+      to_life = Some 1;
+    }
 
 abbrev declined : ℕ → ControlHeader
-declined credits = record { kind = ConnectReply; client = 0; server = None; credits = credits; status = 1 }
+declined credits =
+    record {
+      kind = ConnectReply;
+      client = 0;
+      server = None;
+      credits = credits;
+      status = 1;
+      from_life = 1;
+      to_life = Some 1;
+    }
 
 abbrev disconnect : ℕ → ControlHeader
-disconnect server = record { kind = DisconnectRequest; client = 0; server = Some server; credits = 0; status = 0 }
+disconnect server =
+    record {
+      kind = DisconnectRequest;
+      client = 0;
+      server = Some server;
+      credits = 0;
+      status = 0;
+      from_life = 1;
+      to_life = Some 1;
+    }
 
 abbrev disconnected : (server status : ℕ) → ControlHeader
 disconnected server status =
@@ -50,11 +85,13 @@ disconnected server status =
       server = Some server;
       credits = 0;
       status = status;
+      from_life = 1;
+      to_life = Some 1;
     }
 
 -- node 1 with a ring of 32, new, and once it accepted that session of peer 0
 abbrev fresh : Lists
-fresh = new_lists 1 (with_ring 32)
+fresh = new_lists 1 1 (with_ring 32)
 
 abbrev serving : Lists
 serving = after 0 fresh (plain 1 (Accepted 0 0 0 4))
@@ -65,14 +102,14 @@ row-accepts = refl
 row-accepted : control_facts fresh 0 connect (Accepts 0) ≡ plain 1 (Accepted 0 0 0 4) ∷ []
 row-accepted = refl
 
-row-answer : control_reply connect (Accepts 0) ≡ Some (connected 0 4)
+row-answer : control_reply 1 connect (Accepts 0) ≡ Some (connected 0 4)
 row-answer = refl
 
 -- a repeated request is answered with the same number; another peer's makes a session of its own
 row-confirms : control_row false 0 connect serving ≡ Confirms 0 4
 row-confirms = refl
 
-row-again : control_reply connect (Confirms 0 4) ≡ Some (connected 0 4)
+row-again : control_reply 1 connect (Confirms 0 4) ≡ Some (connected 0 4)
 row-again = refl
 
 row-other : control_row false 2 connect serving ≡ Accepts 1
@@ -88,7 +125,7 @@ row-declines = refl
 row-declined : control_facts serving 2 (record connect { credits = 29 }) Declines ≡ plain 1 (Declined 2 0 29) ∷ []
 row-declined = refl
 
-row-no-room : control_reply (record connect { credits = 29 }) Declines ≡ Some (declined 29)
+row-no-room : control_reply 1 (record connect { credits = 29 }) Declines ≡ Some (declined 29)
 row-no-room = refl
 
 row-starves : control_row true 2 connect serving ≡ Starves
@@ -97,7 +134,7 @@ row-starves = refl
 row-starved : control_facts serving 2 connect Starves ≡ plain 1 (Starved 2 0 4) ∷ []
 row-starved = refl
 
-row-silent : control_reply connect Starves ≡ None
+row-silent : control_reply 1 connect Starves ≡ None
 row-silent = refl
 
 -- the session ends: the replies of its slots are taken out in the order of the slots
@@ -111,7 +148,7 @@ abbrev busy : Lists
 busy = record serving {
   queued = reply_of 9 ∷ reply_of 0 ∷ reply_of 9 ∷ [];
   servers = record {
-    way = record { number = 0; peer = 0; other = 0 };
+    way = record { number = 0; peer = 0; other = 0; life = 1 };
     credits = 4;
     slots = in_slot 9 ∷ in_slot 0 ∷ [];
   } ∷ [];
@@ -125,7 +162,7 @@ row-flushes : control_facts busy 0 (disconnect 0) Ends
     ∷ plain 1 (Flushed (Reply 0 9) 0) ∷ plain 1 (Ended 0) ∷ []
 row-flushes = refl
 
-row-ended : control_reply (disconnect 0) Ends ≡ Some (disconnected 0 0)
+row-ended : control_reply 1 (disconnect 0) Ends ≡ Some (disconnected 0 0)
 row-ended = refl
 
 -- a second request, and one of another peer, find no session; a late connect request gets the next number
@@ -141,7 +178,7 @@ row-misses = refl
 row-other-misses : control_row false 2 (disconnect 0) busy ≡ Misses
 row-other-misses = refl
 
-row-gone : control_reply (disconnect 0) Misses ≡ Some (disconnected 0 2)
+row-gone : control_reply 1 (disconnect 0) Misses ≡ Some (disconnected 0 2)
 row-gone = refl
 
 row-late : control_row false 0 connect ended ≡ Accepts 1
@@ -149,16 +186,16 @@ row-late = refl
 
 -- at the client: session 0 is opened to peer 1
 abbrev opened : Lists
-opened = after 0 (new_lists 0 (with_ring 32)) (plain 0 (Opened 0 1 4))
+opened = after 0 (new_lists 0 1 (with_ring 32)) (plain 0 (Opened 0 1 4))
 
-row-opens : connect_by (client_refusal 4 (new_lists 0 (with_ring 32))) 1 4 7
-    (new_lists 0 (with_ring 32)) ≡ plain 0 (Opened 0 1 4) ∷ plain 0 (Rated 0 7) ∷ []
+row-opens : connect_by (client_refusal 4 (new_lists 0 1 (with_ring 32))) 1 4 7
+    (new_lists 0 1 (with_ring 32)) ≡ plain 0 (Opened 0 1 4) ∷ plain 0 (Rated 0 7) ∷ []
 row-opens = refl
 
 row-refuses : connect_by (client_refusal 29 opened) 1 29 0 opened ≡ plain 0 (NconnectRing 4 29 32) ∷ []
 row-refuses = refl
 
-row-own : own_request (opened_end 0 1 4) ≡ Some connect
+row-own : own_request 1 (opened_end 0 1 4) ≡ Some connect
 row-own = refl
 
 row-connects : control_row false 1 (connected 0 4) opened ≡ Connects 0
@@ -189,7 +226,7 @@ row-known = refl
 row-disowns : control_row false 1 (connected 1 4) joined ≡ Disowns
 row-disowns = refl
 
-row-asks-end : control_reply (connected 1 4) Disowns ≡ Some (disconnect 1)
+row-asks-end : control_reply 1 (connected 1 4) Disowns ≡ Some (disconnect 1)
 row-asks-end = refl
 
 -- it closes, and then nothing of it is left but its state

@@ -40,9 +40,9 @@ row-reply : queued_after (Posted (Reply 0 0) 0) None (queued_after (Polled 7) No
     ∷ entry 2 (Some 10) ∷ []
 row-reply = refl
 
--- at a rate of 1 a call of 5 bytes is posted at 0: it is due at once, and the next packet at 21,000
+-- at a rate of 1 a call of 5 bytes is posted at 0: it is due at once, and the next packet at 25,000
 abbrev slow : Lists
-slow = after_all 0 (new_lists 0 (with_ring 32))
+slow = after_all 0 (new_lists 0 1 (with_ring 32))
     (plain 0 (PairedClient 0 1 0 1) ∷ plain 0 (Rated 0 1)
     ∷ with_bytes 0 (Asked 0 0 1 5) (104 ∷ 101 ∷ 108 ∷ 108 ∷ 111 ∷ []) ∷ plain 0 (Begun 0 0) ∷ [])
 
@@ -52,21 +52,21 @@ posted = after 0 slow (plain 0 (Posted (Ask 0 0) 0))
 row-due : posted.queued ≡ entry 0 (Some 0) ∷ []
 row-due = refl
 
-row-next : posted.paces ≡ record { session = 0; rate = 1; next = 21000 } ∷ []
+row-next : posted.paces ≡ record { session = 0; rate = 1; next = 25000 } ∷ []
 row-next = refl
 
--- it is sent, and rolled back at 5,000: its packet is due at 21,000 then
+-- it is sent, and rolled back at 5,000: its packet is due at 25,000 then
 abbrev again : Lists
 again = after_all 5000 posted (plain 0 (Sent 1 (Ask 0 0) 0) ∷ plain 0 (Rolled 0 1 0)
     ∷ plain 0 (Posted (Ask 0 0) 0) ∷ [])
 
-row-due-later : again.queued ≡ entry 0 (Some 21000) ∷ []
+row-due-later : again.queued ≡ entry 0 (Some 25000) ∷ []
 row-due-later = refl
 
-row-not-ready : line 20999 again.queued ≡ []
+row-not-ready : line 24999 again.queued ≡ []
 row-not-ready = refl
 
-row-ready : line 21000 again.queued ≡ entry 0 (Some 21000) ∷ []
+row-ready : line 25000 again.queued ≡ entry 0 (Some 25000) ∷ []
 row-ready = refl
 
 -- another rollback takes it out of the paced ones, and keeps when the next is due
@@ -80,18 +80,18 @@ row-flushed : (after_all 10000 again (roll_facts 0 0 again.queued 0 progress)).q
 row-flushed = refl
 
 row-kept : (after_all 10000 again (roll_facts 0 0 again.queued 0 progress)).paces
-    ≡ record { session = 0; rate = 1; next = 42000 } ∷ []
+    ≡ record { session = 0; rate = 1; next = 50000 } ∷ []
 row-kept = refl
 
--- at a rate of 1,000 three datagrams of 1,040 bytes that are posted at 0 are due at 0, 1,040 and 2,080
+-- at a rate of 1,000 three datagrams of 1,044 bytes that are posted at 0 are due at 0, 1,044 and 2,088
 abbrev long : Lists
-long = after_all 0 (new_lists 0 (with_ring 32))
+long = after_all 0 (new_lists 0 1 (with_ring 32))
     (plain 0 (PairedClient 0 1 0 3) ∷ plain 0 (Rated 0 1000)
     ∷ with_bytes 0 (Asked 0 0 1 3072) (replicate 3072 7) ∷ plain 0 (Begun 0 0)
     ∷ plain 0 (Posted (Ask 0 0) 0) ∷ plain 0 (Posted (Ask 0 0) 1) ∷ plain 0 (Posted (Ask 0 0) 2)
     ∷ [])
 
-row-dues : map (λ q. q.due) long.queued ≡ Some 0 ∷ Some 1040 ∷ Some 2080 ∷ []
+row-dues : map (λ q. q.due) long.queued ≡ Some 0 ∷ Some 1044 ∷ Some 2088 ∷ []
 row-dues = refl
 
 -- with a rate of 0 again, a packet is ready at once, before those that are paced

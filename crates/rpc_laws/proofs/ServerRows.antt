@@ -22,7 +22,7 @@ use Rattle.rpc_outside.specs.PlainAnswer.{plain_mode}
 
 -- session 0 of client 7, who has it as 3, with these requests
 abbrev at : List Served → Server
-at slots = record { way = record { number = 0; peer = 7; other = 3 }; credits = 2; slots = slots }
+at slots = record { way = record { number = 0; peer = 7; other = 3; life = 1 }; credits = 2; slots = slots }
 
 -- a request of one packet, of this type, size and number
 abbrev first : (req_type size request : ℕ) → MessageHeader
@@ -34,11 +34,12 @@ first req_type size request =
       session = 0;
       number = 0;
       request = request;
+      to_life = 1;
     }
 
 -- a request for part k of the answer to request 0
 abbrev more : ℕ → MessageHeader
-more k = record { kind = Rfr; req_type = 0; size = 0; session = 0; number = k; request = 0 }
+more k = record { kind = Rfr; req_type = 0; size = 0; session = 0; number = k; request = 0; to_life = 1 }
 
 -- what the rule says of such a packet from client 7, where the service is the plain one
 abbrev by_plain : (full lacks : Bool) → Option Server → MessageHeader → ServerRow

@@ -23,6 +23,7 @@ use Rattle.rpc_laws.specs.declared.tables.Server.{Server}
 use Rattle.rpc_laws.specs.ControlSteps.{own_request}
 use Rattle.rpc_laws.specs.ControlTable.{connect_reply, disconnect_as, is_end_of, named_end, reply_row}
 use Rattle.rpc_laws.specs.Groups.{has_no_room, servers_spent}
+use Rattle.rpc_laws.specs.Lives.{first_life}
 use Rattle.rpc_laws.specs.NodeLists.{after, new_lists}
 use Rattle.rpc_laws.specs.Packets.{owner_packet}
 use Rattle.rpc_laws.specs.Requests.{is_server}
@@ -35,7 +36,7 @@ changed clock None n nodes f = nodes
 
 -- the nodes' lists after a fact of node n: Made makes the next node
 abbrev pub node_after : ℕ → ℕ → Event → List Lists → Fact → List Lists
-node_after clock n (Made ring) nodes f = nodes ++ new_lists n (with_ring ring) ∷ []
+node_after clock n (Made ring) nodes f = nodes ++ new_lists n first_life (with_ring ring) ∷ []
 node_after clock n _ nodes f = changed clock (slice_get nodes n) n nodes f
 
 abbrev pub nodes_at : ℕ → Who → List Lists → Fact → List Lists
@@ -85,17 +86,20 @@ pub record TakesNoSession (s : Lists) (peer client credits : ℕ) : Type 0 where
 -- client session doesn't have; or the answer that a server session isn't there, with status 0 where
 -- it ended, and with 2 where the request missed it
 pub data OwnControl (s : Lists) (peer : ℕ) (h : ControlHeader) : Type 0 where
-  asks : (x : Client) → IsOpened s peer h.client x → own_request x ≡ Some h → OwnControl s peer h
-  confirms : (t : ℕ) → (v : Server) → h ≡ connect_reply h (Some t) v.credits 0
+  asks : (x : Client) → IsOpened s peer h.client x → own_request s.life x ≡ Some h
+      → OwnControl s peer h
+  confirms : (t : ℕ) → (v : Server)
+      → h ≡ connect_reply s.life first_life h.client (Some t) v.credits 0
       → find (is_server t) s.servers ≡ Some v → is_end_of peer h.client v ≡ true
       → OwnControl s peer h
-  declines : h ≡ connect_reply h None h.credits 1 → TakesNoSession s peer h.client h.credits
-      → OwnControl s peer h
-  disowns : (x : Client) → IsOpened s peer h.client x → h ≡ disconnect_as DisconnectRequest h 0
+  declines : h ≡ connect_reply s.life first_life h.client None h.credits 1
+      → TakesNoSession s peer h.client h.credits → OwnControl s peer h
+  disowns : (x : Client) → IsOpened s peer h.client x
+      → h ≡ disconnect_as DisconnectRequest s.life first_life h.client h.server 0
       → reply_row h.server 0 x ≡ Disowns → OwnControl s peer h
-  ends : h ≡ disconnect_as DisconnectReply h 0
+  ends : h ≡ disconnect_as DisconnectReply s.life first_life h.client h.server 0
       → named_end peer h.client h.server s.servers ≡ None → OwnControl s peer h
-  misses : h ≡ disconnect_as DisconnectReply h 2
+  misses : h ≡ disconnect_as DisconnectReply s.life first_life h.client h.server 2
       → named_end peer h.client h.server s.servers ≡ None → OwnControl s peer h
 
 -- the head spells such a packet, and there is no body

@@ -17,6 +17,7 @@ use Rattle.rpc_laws.specs.declared.rows.RetryRow.TheVariants.{Rests, Asks, Gives
 use Rattle.rpc_laws.specs.declared.tables.Arrival.{Arrival}
 use Rattle.rpc_laws.specs.declared.tables.Client.{Client}
 use Rattle.rpc_laws.specs.declared.tables.Timed.{Timed}
+use Rattle.rpc_laws.specs.declared.tables.Way.{Way}
 use Rattle.rpc_laws.specs.ControlTable.{control_row, control_facts, control_reply}
 use Rattle.rpc_laws.specs.Facts.{plain, with_bytes, with_two}
 use Rattle.rpc_laws.specs.Front.{control_of}
@@ -51,7 +52,8 @@ pub record Hears (s : Timed) (x : List Fact) (t : Timed) : Type 0 where
   pub lacks : Bool
   pub said : List Fact
   pub speaks : SpeaksIf s.lists.me front.peer
-      (control_reply header (control_row lacks front.peer header s.lists)) said
+      (control_reply s.lists.life header
+      (control_row lacks front.peer header s.lists)) said
   pub facts : x ≡ plain s.lists.me Heard ∷ control_facts s.lists front.peer header
       (control_row lacks front.peer header s.lists) ++ said
   pub goes : Goes s x t
@@ -69,28 +71,32 @@ retry_row clock timeout sends sent_at =
     else GivesUp)
 
 -- that request, where the session has one: to connect while it is Connecting, to disconnect while
--- it is Closing
-abbrev pub request_by : SessionState → (number other credits : ℕ) → Option ControlHeader
-request_by Connecting number other credits =
+-- it is Closing. own is the life of its node
+abbrev pub request_by : (own : ℕ) → SessionState → Way → (credits : ℕ) → Option ControlHeader
+request_by own Connecting way credits =
     Some (record {
       kind = ConnectRequest;
-      client = number;
+      client = way.number;
       server = None;
       credits = credits;
       status = 0;
+      from_life = own;
+      to_life = None;
     })
-request_by Closing number other credits =
+request_by own Closing way credits =
     Some (record {
       kind = DisconnectRequest;
-      client = number;
-      server = Some other;
+      client = way.number;
+      server = Some way.other;
       credits = 0;
       status = 0;
+      from_life = own;
+      to_life = Some way.life;
     })
-request_by state number other credits = None
+request_by own state way credits = None
 
-abbrev pub own_request : Client → Option ControlHeader
-own_request x = request_by x.state x.way.number x.way.other x.limit
+abbrev pub own_request : (own : ℕ) → Client → Option ControlHeader
+own_request own x = request_by own x.state x.way x.limit
 
 -- how a session gives up
 abbrev pub given_up : SessionState → ℕ → List Event
@@ -109,12 +115,13 @@ RetriesAs None clock timeout me x facts = facts ≡ []
 RetriesAs (Some h) clock timeout me x facts =
     RetriesBy (retry_row clock timeout x.sends x.sent_at) me x h facts
 
-abbrev pub RetriesOf : (clock timeout me : ℕ) → Option Client → List Fact → Type 0
-RetriesOf clock timeout me None facts = facts ≡ []
-RetriesOf clock timeout me (Some x) facts = RetriesAs (own_request x) clock timeout me x facts
+abbrev pub RetriesOf : (clock timeout me own : ℕ) → Option Client → List Fact → Type 0
+RetriesOf clock timeout me own None facts = facts ≡ []
+RetriesOf clock timeout me own (Some x) facts =
+    RetriesAs (own_request own x) clock timeout me x facts
 
 pub record Retries (timeout i : ℕ) (s : Timed) (x : List Fact) (t : Timed) : Type 0 where
-  pub facts : RetriesOf s.clock timeout s.lists.me (slice_get s.lists.clients i) x
+  pub facts : RetriesOf s.clock timeout s.lists.me s.lists.life (slice_get s.lists.clients i) x
   pub goes : Goes s x t
 
 -- a session's own request, and then its calls

@@ -24,6 +24,7 @@ use Rattle.rpc_laws.specs.declared.tables.Queued.{Queued}
 use Rattle.rpc_laws.specs.declared.tables.Server.{Server}
 use Rattle.rpc_laws.specs.Facts.{plain}
 use Rattle.rpc_laws.specs.Groups.{has_no_room, servers_spent}
+use Rattle.rpc_laws.specs.Lives.{first_life}
 use Rattle.rpc_laws.specs.Requests.{is_server, in_slot_of}
 use Rattle.rpc_laws.specs.ServerTable.{flushes}
 use Rattle.rpc_laws.specs.Sessions.{is_client}
@@ -124,27 +125,45 @@ control_facts s peer h Fails = plain s.me (FailedNoRoom h.client) ∷ []
 control_facts s peer h Closes = plain s.me (ClosedHeard h.client) ∷ []
 control_facts s peer h _ = []
 
--- the packet that is sent to the peer: it names the same client session
-abbrev pub connect_reply : ControlHeader → Option ℕ → (credits status : ℕ) → ControlHeader
-connect_reply h server credits status =
+-- a packet that is sent to a peer, from a node of one life to a life of the peer: it names the
+-- client session that a packet of the peer named
+abbrev pub connect_reply : (own to client : ℕ) → Option ℕ → (credits status : ℕ) → ControlHeader
+connect_reply own to client server credits status =
     record {
       kind = ConnectReply;
-      client = h.client;
+      client = client;
       server = server;
       credits = credits;
       status = status;
+      from_life = own;
+      to_life = Some to;
     }
 
--- and the same server session
-abbrev pub disconnect_as : ControlKind → ControlHeader → (status : ℕ) → ControlHeader
-disconnect_as kind h status =
-    record { kind = kind; client = h.client; server = h.server; credits = 0; status = status }
+-- and the server session
+abbrev pub disconnect_as : ControlKind → (own to client : ℕ) → Option ℕ → (status : ℕ)
+    → ControlHeader
+disconnect_as kind own to client server status =
+    record {
+      kind = kind;
+      client = client;
+      server = server;
+      credits = 0;
+      status = status;
+      from_life = own;
+      to_life = Some to;
+    }
 
-abbrev pub control_reply : ControlHeader → ControlRow → Option ControlHeader
-control_reply h (Confirms t credits) = Some (connect_reply h (Some t) credits 0)
-control_reply h Declines = Some (connect_reply h None h.credits 1)
-control_reply h (Accepts t) = Some (connect_reply h (Some t) h.credits 0)
-control_reply h Ends = Some (disconnect_as DisconnectReply h 0)
-control_reply h Misses = Some (disconnect_as DisconnectReply h 2)
-control_reply h Disowns = Some (disconnect_as DisconnectRequest h 0)
-control_reply h _ = None
+-- the answer of a node of this life
+abbrev pub control_reply : (own : ℕ) → ControlHeader → ControlRow → Option ControlHeader
+control_reply own h (Confirms t credits) =
+    Some (connect_reply own first_life h.client (Some t) credits 0)
+control_reply own h Declines = Some (connect_reply own first_life h.client None h.credits 1)
+control_reply own h (Accepts t) =
+    Some (connect_reply own first_life h.client (Some t) h.credits 0)
+control_reply own h Ends =
+    Some (disconnect_as DisconnectReply own first_life h.client h.server 0)
+control_reply own h Misses =
+    Some (disconnect_as DisconnectReply own first_life h.client h.server 2)
+control_reply own h Disowns =
+    Some (disconnect_as DisconnectRequest own first_life h.client h.server 0)
+control_reply own h _ = None

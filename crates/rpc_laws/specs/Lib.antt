@@ -11,6 +11,7 @@ pub mod GoBackN
 pub mod Groups
 pub mod InFlight
 pub mod Jobs
+pub mod Lives
 pub mod NodeLists
 pub mod OwnAnswer
 pub mod Pacing

@@ -35,6 +35,7 @@ counts_after _ c = c
 abbrev pub after : ℕ → Lists → Fact → Lists
 after clock s f = record {
   me = s.me;
+  life = s.life;
   room = s.room;
   timeout = s.timeout;
   asked = asked_after f.event s.asked;
@@ -56,10 +57,11 @@ after_all clock s (f ∷ fs) = after_all clock (after clock s f) fs
 abbrev pub no_counts : Counted
 no_counts = record { ran = 0; given = 0; dropped = 0; overflowed = 0 }
 
--- a node as it is made with these limits: its lists are empty
-abbrev pub new_lists : ℕ → Limits → Lists
-new_lists me limits = record {
+-- a node as it is made with these limits, in some life: its lists are empty
+abbrev pub new_lists : (me life : ℕ) → Limits → Lists
+new_lists me life limits = record {
   me = me;
+  life = life;
   room = limits.ring;
   timeout = limits.timeout;
   asked = 0;
@@ -74,5 +76,5 @@ new_lists me limits = record {
   jobs = no_jobs limits.jobs;
 }
 
-abbrev pub new_node : ℕ → Limits → Timed
-new_node me limits = record { lists = new_lists me limits; clock = 0 }
+abbrev pub new_node : (me life : ℕ) → Limits → Timed
+new_node me life limits = record { lists = new_lists me life limits; clock = 0 }

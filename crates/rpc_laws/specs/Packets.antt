@@ -34,6 +34,7 @@ client_packet way a r k =
             session = way.other;
             number = k;
             request = r;
+            to_life = way.life;
           });
       body = part a.ask k;
     }
@@ -47,6 +48,7 @@ client_packet way a r k =
             session = way.other;
             number = k;
             request = r;
+            to_life = way.life;
           });
       body = [];
     }
@@ -65,6 +67,7 @@ server_packet way q k =
             session = way.other;
             number = k;
             request = q.number;
+            to_life = way.life;
           });
       body = [];
     })
@@ -78,6 +81,7 @@ server_packet way q k =
             session = way.other;
             number = k;
             request = q.number;
+            to_life = way.life;
           });
       body = part answer (k + 1 - packet_count q.size);
     }) q.answer

@@ -9,6 +9,7 @@ use Rattle.rpc_base.specs.declared.owner.Owner.TheVariants.{Reply}
 use Rattle.rpc_laws.specs.declared.tables.Served.{Served}
 use Rattle.rpc_laws.specs.declared.tables.Server.{Server}
 use Rattle.rpc_base.specs.Tables.{at_first, without_first}
+use Rattle.rpc_laws.specs.Lives.{first_life}
 
 abbrev pub is_server : ℕ → Server → Bool
 is_server number v = v.way.number == number
@@ -28,7 +29,7 @@ request_of t r servers =
 abbrev pub server_end : ℕ → ℕ → ℕ → ℕ → Server
 server_end number peer other credits =
     record {
-      way = record { number = number; peer = peer; other = other };
+      way = record { number = number; peer = peer; other = other; life = first_life };
       credits = credits;
       slots = [];
     }

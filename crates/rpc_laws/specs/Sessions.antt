@@ -27,6 +27,7 @@ use Rattle.rpc_base.specs.declared.limits.TheConstants.{SESSION_NUMBERS}
 use Rattle.rpc_laws.specs.Front.{control_of}
 use Rattle.rpc_laws.specs.Calls.{is_call, is_active, asking, begun, moved, posted_up_to}
 use Rattle.rpc_laws.specs.Calls.{rolled_back, sent_packet, took_reply}
+use Rattle.rpc_laws.specs.Lives.{first_life}
 
 abbrev pub is_client : ℕ → Client → Bool
 is_client number x = x.way.number == number
@@ -55,7 +56,7 @@ no_turns = 0 ∷ 0 ∷ 0 ∷ 0 ∷ 0 ∷ 0 ∷ 0 ∷ 0 ∷ []
 
 abbrev pub client_end : ℕ → ℕ → ℕ → ℕ → Client
 client_end number peer other credits = record {
-  way = record { number = number; peer = peer; other = other };
+  way = record { number = number; peer = peer; other = other; life = first_life };
   state = Connected;
   limit = credits;
   free = credits;

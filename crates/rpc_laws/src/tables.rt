@@ -1,5 +1,5 @@
 //! What a history leaves at a node: its lists and tables, as plain data that definitions speak of.
-use packet_header::Packet;
+use packet_header::{Life, Packet};
 use rpc_base::{CallNo, Listed, NodeId, Octets, Owner, Peer, RequestNo, SessionNo, SessionState};
 
 /// A datagram as it arrived.
@@ -19,14 +19,15 @@ pub struct Queued {
     pub due: Option<u64>,
 }
 
-/// What never changes of one end of a session once it is connected: its number here, the peer, and
-/// its number there. A client end that isn't connected yet has 65,535 there, which is no session's
-/// number.
+/// What never changes of one end of a session once it is connected: its number here, the peer, its
+/// number there, and the life of the endpoint there. A client end that isn't connected yet has
+/// 65,535 there, which is no session's number.
 #[derive(Clone, Copy, Debug, PartialEq, Eq)]
 pub struct Way {
     pub number: SessionNo,
     pub peer: Peer,
     pub other: SessionNo,
+    pub life: Life,
 }
 
 /// What never changes of a call: its number, its type, the room for its answer in bytes, and its
@@ -151,6 +152,8 @@ pub struct Pace {
 #[derive(Debug, Drop)]
 pub struct Lists {
     pub me: NodeId,
+    /// The life of the endpoint that the node is.
+    pub life: Life,
     /// The length of its receive ring.
     pub room: u32,
     /// Microseconds after which an unanswered packet is taken for lost.
