@@ -28,6 +28,7 @@ use Rattle.rpc_laws.specs.declared.tables.Lists.{Lists}
 use Rattle.rpc_laws.specs.BufferSafety.{changed, nodes_at}
 use Rattle.rpc_laws.specs.Facts.{plain, with_two}
 use Rattle.rpc_laws.specs.Front.{control_in, control_of, front_body, front_header}
+use Rattle.rpc_laws.specs.Lives.{first_life}
 use Rattle.rpc_laws.specs.NodeLists.{after, new_lists}
 use Rattle.rpc_laws.specs.UsualLimits.{with_ring}
 use Rattle.node_laws.proofs.NumberLemmas.{numbered-at}
@@ -126,12 +127,12 @@ lets-net nodes past f who h = record {
 
 -- a node is made
 pub lets-made : (nodes : List Lists) (past : List Fact) (limits : Limits) → Lets nodes past
-    → Lets (nodes ++ new_lists (length nodes) limits ∷ [])
+    → Lets (nodes ++ new_lists (length nodes) first_life limits ∷ [])
     (plain (length nodes) (Made limits.ring) ∷ past)
 lets-made nodes past limits h =
     let n = length nodes in
     let f : Fact = plain n (Made limits.ring) in
-    let new = new_lists n limits in
+    let new = new_lists n first_life limits in
     let more : length (nodes ++ new ∷ []) ≡ n + 1 = length-append nodes (new ∷ []) in
     let none : (j : ℕ) (xs : List Client) → LetAt j xs f =
     λ j xs peer number head body e. not-said f j peer number head body refl e in

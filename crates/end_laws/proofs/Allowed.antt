@@ -23,6 +23,7 @@ use Rattle.rpc_base.specs.declared.event.Event.TheVariants.{Broken, DoneOk, Done
 use Rattle.rpc_base.specs.declared.fact.Fact.{Fact}
 use Rattle.rpc_base.specs.declared.fact.Who.{Who}
 use Rattle.rpc_base.specs.declared.fact.Who.TheVariants.{Node, Net}
+use Rattle.rpc_base.specs.declared.limits.TheConstants.{HEAD_BYTES}
 use Rattle.rpc_base.specs.declared.owner.Owner.{Owner}
 use Rattle.rpc_base.specs.declared.owner.Owner.TheVariants.{Ask, Reply, Control}
 use Rattle.rpc_base.specs.declared.state.SessionState.TheVariants.{Connecting}
@@ -74,7 +75,7 @@ pub record MaySend (l : Lists) (peer : ℕ) (owner : Owner) (k : ℕ) (head body
   pub to_peer : peer ≡ out.peer
   pub in_range : InRange out.packet
   pub has_head : HasHead out.packet head
-  pub long : length head ≡ 16
+  pub long : length head ≡ HEAD_BYTES
   pub bytes : AreBytes head
   pub whole : body ≡ out.body
 
@@ -279,7 +280,7 @@ pub record AsksAt (l : Lists) (peer : ℕ) (h : ControlHeader) : Type 0 where
   pub client : Client
   pub is_there : slice_get l.clients place ≡ Some client
   pub to_peer : client.way.peer ≡ peer
-  pub own : own_request client ≡ Some h
+  pub own : own_request l.life client ≡ Some h
 
 -- a control packet that is sent is the node's own
 pub record MaySay (l : Lists) (peer k : ℕ) (head body : List ℕ) : Type 0 where

@@ -21,6 +21,7 @@ use Rattle.rpc_laws.specs.Deliveries.{inbox_room}
 use Rattle.rpc_laws.specs.Front.{is_message, is_control}
 use Rattle.rpc_laws.specs.Groups.{Asks, Connects, Disconnects, SetsRate, ask_fact, ask_by_state, state_of}
 use Rattle.rpc_laws.specs.InFlight.{flight_after_net}
+use Rattle.rpc_laws.specs.Lives.{first_life}
 use Rattle.rpc_laws.specs.NodeLists.{after, after_all, new_lists, new_node}
 use Rattle.rpc_laws.specs.PollOrder.{PollBy, SendsAll}
 use Rattle.rpc_outside.specs.PlainAnswer.{plain_mode}
@@ -117,14 +118,17 @@ made-leads ring s w x t f h =
     let u = moved w (plain (length w.nodes) (Made ring)) in
     let me = f.size in
     let facts : x ≡ plain (length w.nodes) (Made ring) ∷ [] = h.facts ∙ ap (λ n. plain n (Made ring) ∷ []) (sym me) in
-    let left : t ≡ record s { nodes = s.nodes ++ new_node (length w.nodes) (with_ring ring) ∷ [] } =
-    h.left ∙ ap (λ n. record s { nodes = s.nodes ++ new_node n (with_ring ring) ∷ [] })
+    let left : t ≡ record s {
+      nodes = s.nodes ++ new_node (length w.nodes) first_life (with_ring ring) ∷ [];
+    } =
+    h.left ∙ ap (λ n. record s { nodes = s.nodes ++ new_node n first_life (with_ring ring) ∷ [] })
     (sym me) in
-    let now : List Lists = w.nodes ++ new_lists (length w.nodes) (with_ring ring) ∷ [] in
-    let new : NodeFits s.clock now (length s.nodes) (new_node (length w.nodes) (with_ring ring)) =
+    let now : List Lists = w.nodes ++ new_lists (length w.nodes) first_life (with_ring ring) ∷ [] in
+    let new : NodeFits s.clock now (length s.nodes)
+    (new_node (length w.nodes) first_life (with_ring ring)) =
     record {
       is_node = ap (slice_get now) (sym me)
-          ∙ add-last w.nodes (new_lists (length w.nodes) (with_ring ring));
+          ∙ add-last w.nodes (new_lists (length w.nodes) first_life (with_ring ring));
       me = me;
       late =
           omega arith;
@@ -132,16 +136,16 @@ made-leads ring s w x t f h =
       valid =
           valid_new (length w.nodes) (with_ring ring);
     } in
-    let nodes : Placed (NodeFits s.clock now) (s.nodes ++ new_node (length w.nodes) (with_ring ring) ∷ []) = add-placed (NodeFits s.clock now) s.nodes (new_node (length w.nodes) (with_ring ring)) new (λ j z is. let k = f.nodes j z is in record { is_node = add-keeps w.nodes _ j z.lists k.is_node; me = k.me; late = k.late; right = k.right; valid = k.valid }) in
+    let nodes : Placed (NodeFits s.clock now) (s.nodes ++ new_node (length w.nodes) first_life (with_ring ring) ∷ []) = add-placed (NodeFits s.clock now) s.nodes (new_node (length w.nodes) first_life (with_ring ring)) new (λ j z is. let k = f.nodes j z is in record { is_node = add-keeps w.nodes _ j z.lists k.is_node; me = k.me; late = k.late; right = k.right; valid = k.valid }) in
     rw (facts, left) (record {
       end = u;
       course = made w ring [] u (over u);
       fits = record {
         clock = f.clock;
         flight = f.flight;
-        size = length-append w.nodes (new_lists (length w.nodes) (with_ring ring) ∷ [])
+        size = length-append w.nodes (new_lists (length w.nodes) first_life (with_ring ring) ∷ [])
             ∙ (ap (λ n. n + 1) me ∙ sym (length-append s.nodes
-            (new_node (length w.nodes) (with_ring ring) ∷ [])));
+            (new_node (length w.nodes) first_life (with_ring ring) ∷ [])));
         nodes = nodes;
       };
     })

@@ -27,7 +27,7 @@ gives-walk hand clock l _ number = tt
 retries-by : (row : RetryRow) (hand : Option InFlight) (clock : ℕ) (l : Lists) (place : ℕ)
     (x : Client)
     (h : ControlHeader) (facts : List Fact) → slice_get l.clients place ≡ Some x
-    → own_request x ≡ Some h → RetriesBy row l.me x h facts → Walks hand clock l facts
+    → own_request l.life x ≡ Some h → RetriesBy row l.me x h facts → Walks hand clock l facts
 retries-by Rests hand clock l place x h facts is own r = rw r tt
 retries-by Asks hand clock l place x h facts is own r =
     speaks-walk hand None clock l x.way.peer h facts
@@ -37,18 +37,20 @@ retries-by GivesUp hand clock l place x h facts is own r =
 
 retries-as : (own : Option ControlHeader) (hand : Option InFlight) (clock timeout : ℕ) (l : Lists)
     (place : ℕ) (x : Client) (facts : List Fact) → slice_get l.clients place ≡ Some x
-    → own_request x ≡ own → RetriesAs own clock timeout l.me x facts → Walks hand clock l facts
+    → own_request l.life x ≡ own → RetriesAs own clock timeout l.me x facts
+    → Walks hand clock l facts
 retries-as None hand clock timeout l place x facts is own r = rw r tt
 retries-as (Some h) hand clock timeout l place x facts is own r =
     retries-by (retry_row clock timeout x.sends x.sent_at) hand clock l place x h facts is own r
 
 retries-of : (o : Option Client) (hand : Option InFlight) (clock timeout : ℕ) (l : Lists)
     (place : ℕ)
-    (facts : List Fact) → slice_get l.clients place ≡ o → RetriesOf clock timeout l.me o facts
+    (facts : List Fact) → slice_get l.clients place ≡ o
+    → RetriesOf clock timeout l.me l.life o facts
     → Walks hand clock l facts
 retries-of None hand clock timeout l place facts is r = rw r tt
 retries-of (Some x) hand clock timeout l place facts is r =
-    retries-as (own_request x) hand clock timeout l place x facts is refl r
+    retries-as (own_request l.life x) hand clock timeout l place x facts is refl r
 
 module _ (Inv : Lists → Type 0) (stays : Stays Inv) where
   pub retries-fine : (timeout place : ℕ) → Fine Inv (Retries timeout place)

@@ -14,6 +14,7 @@ use Rattle.rpc_laws.specs.BufferSafety.{changed, node_after, nodes_at, clock_aft
 use Rattle.rpc_laws.specs.Facts.{plain}
 use Rattle.rpc_laws.specs.Groups.{shares}
 use Rattle.rpc_laws.specs.InFlight.{flight_after}
+use Rattle.rpc_laws.specs.Lives.{first_life}
 use Rattle.rpc_laws.specs.NodeLists.{after, new_lists}
 use Rattle.node_laws.proofs.Allowed.{Allowed as Lawful}
 use Rattle.end_laws.specs.Moments.{Moment, moved, hand_after, hand_noted, inbox_of}
@@ -60,7 +61,7 @@ clocked w clock = record w { clock = clock }
 abbrev pub made_at : Moment → Limits → Moment
 made_at w limits = record {
   clock = w.clock;
-  nodes = w.nodes ++ new_lists (length w.nodes) limits ∷ [];
+  nodes = w.nodes ++ new_lists (length w.nodes) first_life limits ∷ [];
   flight = w.flight;
   hand = w.hand;
   past = plain (length w.nodes) (Made limits.ring) ∷ w.past;

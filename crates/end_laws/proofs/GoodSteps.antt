@@ -5,6 +5,7 @@ use Rattle.std.proofs.Common.{refl, sym, ap, ◌∙◌, subst, arith}
 use Rattle.std.specs.List.{find, slice_set}
 use Rattle.std.proofs.Common.{◌⊎◌, inl, inr, Some, slice_get}
 use Rattle.rpc_laws.specs.declared.tables.Server.{Server}
+use Rattle.rpc_laws.specs.Lives.{first_life}
 use Rattle.rpc_laws.specs.Requests.{is_server}
 use Rattle.end_laws.proofs.Known.{End, LiveAt}
 use Rattle.std.proofs.lemmas.List.{length-append}
@@ -94,7 +95,7 @@ next-made w limits g =
     let count = length w.nodes in
     let u = g.unmade in
     let here : count ≤ count = omega arith in
-    let new : GoodNode k2 count (new_lists count limits) = record {
+    let new : GoodNode k2 count (new_lists count first_life limits) = record {
       clients = λ i x is. absurd (cc);
       servers = tt;
       no_asks = λ c le. u.asks count c here;
@@ -105,13 +106,13 @@ next-made w limits g =
       jobs = tt;
     } in
     let t = travels-map (Speaks k) (Speaks k2) w (speaks-later k k2 (later-noting k f)) g.travels in
-    let more : length (w.nodes ++ new_lists count limits ∷ []) ≡ count + 1 =
-    length-append w.nodes (new_lists count limits ∷ []) in
+    let more : length (w.nodes ++ new_lists count first_life limits ∷ []) ≡ count + 1 =
+    length-append w.nodes (new_lists count first_life limits ∷ []) in
     record {
       good = record {
         known = k2;
         past = ap (λ (p : List Fact). f ∷ p) g.past;
-        nodes = add-placed (GoodNode k2) w.nodes (new_lists count limits) new
+        nodes = add-placed (GoodNode k2) w.nodes (new_lists count first_life limits) new
             (λ n l is. node-more k k2 (later-noting k f) n l (noting-same k f n) (g.nodes n l is));
         travels = record {
           flight = t.flight;

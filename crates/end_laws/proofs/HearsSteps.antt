@@ -53,6 +53,7 @@ use Rattle.rpc_laws.specs.ControlTable.{session_end, session_flushes}
 use Rattle.rpc_laws.specs.Facts.{plain}
 use Rattle.rpc_laws.specs.Front.{control_of}
 use Rattle.rpc_laws.specs.Groups.{has_no_room, servers_spent}
+use Rattle.rpc_laws.specs.Lives.{first_life}
 use Rattle.rpc_laws.specs.NodeLists.{after}
 use Rattle.rpc_laws.specs.Queues.{numbers_of}
 use Rattle.rpc_laws.specs.Requests.{in_slot_of, is_server, server_end}
@@ -126,13 +127,13 @@ slots-flush me queued v (slot ∷ slots) =
 -- they leave the server sessions
 flush-walk : (hand : Option InFlight) (latest : Option Fact) (clock : ℕ) (l : Lists)
     (x y : List Fact) → AllByRecursion (IsFlush l.me) x
-    → ((before : Option Fact) (m : Lists) → m.me ≡ l.me → m.servers ≡ l.servers
+    → ((before : Option Fact) (m : Lists) → m.me ≡ l.me → m.life ≡ l.life → m.servers ≡ l.servers
     → WalksFrom hand before clock m y) → WalksFrom hand latest clock l (x ++ y)
-flush-walk hand latest clock l [] y all go = go latest l refl refl
+flush-walk hand latest clock l [] y all go = go latest l refl refl refl
 flush-walk hand latest clock l (f ∷ x) y all go =
     let g : Fact = plain l.me (Flushed all.0.owner all.0.number) in
     let rest = flush-walk hand (Some g) clock (after clock l g) x y all.1
-    (λ before m me servers. go before m me servers) in
+    (λ before m me life servers. go before m me life servers) in
     let walk : WalksFrom hand latest clock l (g ∷ (x ++ y)) =
     (record { who = refl; may = tt }, tt, rest) in
     subst (λ (z : Fact). WalksFrom hand latest clock l (z ∷ (x ++ y))) (sym all.0.is) walk
@@ -199,13 +200,15 @@ pub record MayEnd (l : Lists) (peer : ℕ) (h : ControlHeader) : Type 0 where
 
 -- what each row needs of the lists and of what is in hand
 abbrev pub RowMay : ControlRow → Option InFlight → Lists → ℕ → ControlHeader → Type 0
-RowMay (Confirms t credits) hand l peer h = OwnControl l peer (connect_reply h (Some t) credits 0)
+RowMay (Confirms t credits) hand l peer h = OwnControl l peer
+    (connect_reply l.life first_life h.client (Some t) credits 0)
 RowMay Declines hand l peer h = TakesNoSession l peer h.client h.credits
 RowMay (Accepts t) hand l peer h = t ≡ l.server_numbers
 RowMay Ends hand l peer h = MayEnd l peer h
 RowMay Misses hand l peer h = named_end peer h.client h.server l.servers ≡ None
 RowMay (Connects t) hand l peer h = MayConnect hand l h.client t
-RowMay Disowns hand l peer h = OwnControl l peer (disconnect_as DisconnectRequest h 0)
+RowMay Disowns hand l peer h = OwnControl l peer
+    (disconnect_as DisconnectRequest l.life first_life h.client h.server 0)
 RowMay _ hand l peer h = Unit {0}
 
 said-walk : (hand : Option InFlight) (latest : Option Fact) (clock : ℕ) (l : Lists) (me peer : ℕ)
@@ -218,7 +221,8 @@ said-walk hand latest clock l me peer c said same own s =
 accepted-own : (clock : ℕ) (l : Lists) (peer : ℕ) (h : ControlHeader)
     → Alone l.server_numbers l.servers
     → let f : Fact = plain l.me (Accepted l.server_numbers peer h.client h.credits) in
-    OwnControl (after clock l f) peer (connect_reply h (Some l.server_numbers) h.credits 0)
+    OwnControl (after clock l f) peer
+    (connect_reply l.life first_life h.client (Some l.server_numbers) h.credits 0)
 accepted-own clock l peer h alone =
     let t = l.server_numbers in
     let v = server_end t peer h.client h.credits in
@@ -253,10 +257,10 @@ may-leave hand l m peer h i k e me servers =
 
 ended-walk : (hand : Option InFlight) (latest : Option Fact) (clock : ℕ) (l m : Lists) (peer : ℕ)
     (h : ControlHeader) (said : List Fact) → RightNode l → InHand hand l.me peer h
-    → (e : MayEnd l peer h) → m.me ≡ l.me → m.servers ≡ l.servers
-    → Speaks l.me peer (disconnect_as DisconnectReply h 0) said
+    → (e : MayEnd l peer h) → m.me ≡ l.me → m.life ≡ l.life → m.servers ≡ l.servers
+    → Speaks l.me peer (disconnect_as DisconnectReply l.life first_life h.client h.server 0) said
     → WalksFrom hand latest clock m (plain l.me (Ended e.server.way.number) ∷ said)
-ended-walk hand latest clock l m peer h said i k e me servers s =
+ended-walk hand latest clock l m peer h said i k e me life servers s =
     let v = e.server in
     let n = is-named peer h.client l.server_numbers h.server l.servers v i.alone e.named in
     let f : Fact = plain l.me (Ended v.way.number) in
@@ -268,25 +272,28 @@ ended-walk hand latest clock l m peer h said i k e me servers s =
       record { who = ap Node (sym me); may = may-leave hand l m peer h i k e me servers },
       tt,
       said-walk hand (Some f) clock (after clock m f) l.me peer
-          (disconnect_as DisconnectReply h 0) said me
-          (OwnControl.ends refl gone) s,
+          (disconnect_as DisconnectReply l.life first_life h.client h.server 0) said me
+          (OwnControl.ends
+          (ap (λ n. disconnect_as DisconnectReply n first_life h.client h.server 0) (sym life))
+          gone) s,
     )
 
 -- the facts of a row, and what is sent then
 row-walk : (row : ControlRow) (hand : Option InFlight) (latest : Option Fact) (clock : ℕ)
     (l : Lists)
     (peer : ℕ) (h : ControlHeader) (said : List Fact) → RightNode l → InHand hand l.me peer h
-    → RowMay row hand l peer h → SpeaksIf l.me peer (control_reply h row) said
+    → RowMay row hand l peer h → SpeaksIf l.me peer (control_reply l.life h row) said
     → WalksFrom hand latest clock l (control_facts l peer h row ++ said)
 row-walk Ignores hand latest clock l peer h said i k m s = none-walk hand latest clock l said s
 row-walk (Confirms t credits) hand latest clock l peer h said i k m s =
-    said-walk hand latest clock l l.me peer (connect_reply h (Some t) credits 0) said refl m s
+    said-walk hand latest clock l l.me peer
+    (connect_reply l.life first_life h.client (Some t) credits 0) said refl m s
 row-walk Declines hand latest clock l peer h said i k m s = (
   record { who = refl; may = tt },
   tt,
   (let f : Fact = plain l.me (Declined peer h.client h.credits) in
       said-walk hand (Some f) clock (after clock l f) l.me peer
-      (connect_reply h None h.credits 1) said refl
+      (connect_reply l.life first_life h.client None h.credits 1) said refl
       (OwnControl.declines refl (record { unknown = m.unknown; full = m.full })) s),
 )
 row-walk Starves hand latest clock l peer h said i k m s = (
@@ -300,18 +307,20 @@ row-walk (Accepts t) hand latest clock l peer h said i k m s =
   where
     accepts-walk : (hand : Option InFlight) (latest : Option Fact) (clock : ℕ) (l : Lists)
         (peer t : ℕ) (h : ControlHeader) (said : List Fact) → RightNode l → t ≡ l.server_numbers
-        → Speaks l.me peer (connect_reply h (Some t) h.credits 0) said
+        → Speaks l.me peer (connect_reply l.life first_life h.client (Some t) h.credits 0) said
         → WalksFrom hand latest clock l (plain l.me (Accepted t peer h.client h.credits) ∷ said)
     accepts-walk hand latest clock l peer t h said i e s =
         let u = l.server_numbers in
         let f : Fact = plain l.me (Accepted u peer h.client h.credits) in
-        let spoken : Speaks l.me peer (connect_reply h (Some u) h.credits 0) said =
-        subst (λ (n : ℕ). Speaks l.me peer (connect_reply h (Some n) h.credits 0) said) e s in
+        let spoken : Speaks l.me peer
+        (connect_reply l.life first_life h.client (Some u) h.credits 0) said =
+        subst (λ (n : ℕ). Speaks l.me peer
+        (connect_reply l.life first_life h.client (Some n) h.credits 0) said) e s in
         let walk : WalksFrom hand latest clock l (f ∷ said) = (
           record { who = refl; may = (refl, refl, refl) },
           tt,
           said-walk hand (Some f) clock (after clock l f) l.me peer
-              (connect_reply h (Some u) h.credits 0) said refl
+              (connect_reply l.life first_life h.client (Some u) h.credits 0) said refl
               (accepted-own clock l peer h i.alone) spoken,
         ) in
         subst (λ (n : ℕ). WalksFrom hand latest clock l
@@ -327,9 +336,11 @@ row-walk Ends hand latest clock l peer h said i k m s =
     rw whole (flush-walk hand latest clock l (session_flushes l.me l.queued v)
     (plain l.me (Ended v.way.number) ∷ said)
     (slots-flush l.me l.queued v (0 ∷ 1 ∷ 2 ∷ 3 ∷ 4 ∷ 5 ∷ 6 ∷ 7 ∷ []))
-    (λ before u me servers. ended-walk hand before clock l u peer h said i k m me servers s))
+    (λ before u me life servers. ended-walk hand before clock l u peer h said i k m me life
+    servers s))
 row-walk Misses hand latest clock l peer h said i k m s =
-    said-walk hand latest clock l l.me peer (disconnect_as DisconnectReply h 2) said refl
+    said-walk hand latest clock l l.me peer
+    (disconnect_as DisconnectReply l.life first_life h.client h.server 2) said refl
     (OwnControl.misses refl m) s
 row-walk (Connects t) hand latest clock l peer h said i k m s = (
   record { who = refl; may = (m, refl, refl) },
@@ -338,7 +349,8 @@ row-walk (Connects t) hand latest clock l peer h said i k m s = (
       none-walk hand (Some f) clock (after clock l f) said s),
 )
 row-walk Disowns hand latest clock l peer h said i k m s =
-    said-walk hand latest clock l l.me peer (disconnect_as DisconnectRequest h 0) said refl m s
+    said-walk hand latest clock l l.me peer
+    (disconnect_as DisconnectRequest l.life first_life h.client h.server 0) said refl m s
 row-walk Fails hand latest clock l peer h said i k m s = (
   record { who = refl; may = tt },
   tt,
@@ -388,7 +400,7 @@ record Replied (hand : Option InFlight) (l : Lists) (peer : ℕ) (h : ControlHea
 
 disown-may : (hand : Option InFlight) (l : Lists) (peer : ℕ) (h : ControlHeader) (x : Client)
     → Replied hand l peer h x → reply_row h.server 0 x ≡ Disowns
-    → OwnControl l peer (disconnect_as DisconnectRequest h 0)
+    → OwnControl l peer (disconnect_as DisconnectRequest l.life first_life h.client h.server 0)
 disown-may hand l peer h x r row =
     OwnControl.disowns x (record { found = r.found; to_peer = r.of_peer }) refl row
 

@@ -63,7 +63,8 @@ given-job k n l t r w g =
       start = h.served.start;
       begun = h.served.begun;
       way_is = h.served.way_is ∙ ap (λ (s : ℕ).
-          record { number = v.way.other; peer = n; other = s }) h.number;
+          record { number = v.way.other; peer = n; other = s; life = h.served.start.way.life })
+          h.number;
       req_type = h.served.req_type;
       own = whole-ask k n l t r w h.served;
     }

@@ -21,6 +21,7 @@ use Rattle.rpc_laws.specs.Front.{is_message, is_control}
 use Rattle.rpc_laws.specs.Groups.{Connects, connect_by, client_refusal, server_refusal, clients_spent}
 use Rattle.rpc_laws.specs.Groups.{servers_spent, has_no_room, shares, refusal_by}
 use Rattle.rpc_laws.specs.InFlight.{flight_after_all, flight_after_net}
+use Rattle.rpc_laws.specs.Lives.{first_life}
 use Rattle.rpc_laws.specs.NodeLists.{after, after_all, new_lists, new_node}
 use Rattle.rpc_laws.specs.PollOrder.{Poll, FinishesOne, FinishesSome, Handles, HandlesAll, PostsAll, Sends, SendsSome}
 use Rattle.rpc_laws.specs.PollOrder.{Closes, raised}
@@ -333,26 +334,28 @@ makes-lead parties s w x t f h =
     let u = made_at w limits in
     let me = f.size in
     let facts : x ≡ plain (length w.nodes) (Made limits.ring) ∷ [] = h.facts ∙ ap (λ n. plain n (Made h.ring) ∷ []) (sym me) in
-    let left : t ≡ record s { nodes = s.nodes ++ new_node (length w.nodes) limits ∷ [] } =
-    h.left ∙ ap (λ n. record s { nodes = s.nodes ++ new_node n limits ∷ [] }) (sym me) in
-    let now : List Lists = w.nodes ++ new_lists (length w.nodes) limits ∷ [] in
-    let new : Stands now (length s.nodes) (new_node (length w.nodes) limits) =
+    let left : t ≡ record s {
+      nodes = s.nodes ++ new_node (length w.nodes) first_life limits ∷ [];
+    } =
+    h.left ∙ ap (λ n. record s { nodes = s.nodes ++ new_node n first_life limits ∷ [] }) (sym me) in
+    let now : List Lists = w.nodes ++ new_lists (length w.nodes) first_life limits ∷ [] in
+    let new : Stands now (length s.nodes) (new_node (length w.nodes) first_life limits) =
     record {
       is_node = ap (slice_get now) (sym me)
-          ∙ add-last w.nodes (new_lists (length w.nodes) limits);
+          ∙ add-last w.nodes (new_lists (length w.nodes) first_life limits);
       me = me;
       right = right-new (length w.nodes) limits;
       valid = valid_new (length w.nodes) limits;
     } in
-    let nodes : Placed (Stands now) (s.nodes ++ new_node (length w.nodes) limits ∷ []) = add-placed (Stands now) s.nodes (new_node (length w.nodes) limits) new (λ j z is. let k = f.nodes j z is in record { is_node = add-keeps w.nodes _ j z.lists k.is_node; me = k.me; right = k.right; valid = k.valid }) in
+    let nodes : Placed (Stands now) (s.nodes ++ new_node (length w.nodes) first_life limits ∷ []) = add-placed (Stands now) s.nodes (new_node (length w.nodes) first_life limits) new (λ j z is. let k = f.nodes j z is in record { is_node = add-keeps w.nodes _ j z.lists k.is_node; me = k.me; right = k.right; valid = k.valid }) in
     rw (facts, left) (record {
       end = u;
       course = made_as w limits [] u refl (over u);
       fits = record {
         flight = f.flight;
-        size = length-append w.nodes (new_lists (length w.nodes) limits ∷ [])
+        size = length-append w.nodes (new_lists (length w.nodes) first_life limits ∷ [])
             ∙ (ap (λ n. n + 1) me ∙ sym (length-append s.nodes
-            (new_node (length w.nodes) limits ∷ [])));
+            (new_node (length w.nodes) first_life limits ∷ [])));
         nodes = nodes;
       };
     })

@@ -159,12 +159,17 @@ abbrev pub HasRun : Known → (node session request : ℕ) → Asking → List �
 HasRun k node session request a answer =
     k.runs node session request ≡ Some (record { req_type = a.req_type; ask = a.ask; answer = answer })
 
+-- a way is from the session of this number to that session of this peer
+abbrev pub IsWay : Way → (number peer other : ℕ) → Type 0
+IsWay way number peer other =
+    way ≡ record { number = number; peer = peer; other = other; life = way.life }
+
 -- a Request is a part of a call that began
 pub record SaysRequest (k : Known) (from to : ℕ) (h : MessageHeader) (body : List ℕ) : Type 0 where
   pub session : ℕ
   pub start : Begin
   pub begun : k.starts from session h.request ≡ Some start
-  pub way : start.way ≡ record { number = session; peer = to; other = h.session }
+  pub way : IsWay start.way session to h.session
   pub credits : ℕ
   pub end : k.ends to h.session 0
       ≡ Some (record { home = from; client = session; credits = credits })
@@ -276,7 +281,7 @@ pub record GoodClient (k : Known) (n i : ℕ) (x : Client) : Type 0 where
 pub record GoodServed (k : Known) (m : ℕ) (way : Way) (q : Served) : Type 0 where
   pub start : Begin
   pub begun : k.starts way.peer way.other q.number ≡ Some start
-  pub way_is : start.way ≡ record { number = way.other; peer = m; other = way.number }
+  pub way_is : IsWay start.way way.other m way.number
   pub req_type : q.req_type ≡ start.what.req_type
   pub size : q.size ≡ length start.what.ask
   pub ask : q.ask ≡ cond (is_away q) [] (take (1024 * q.taken) start.what.ask)
@@ -292,7 +297,7 @@ pub record GoodJob (k : Known) (m : ℕ) (job : Job) : Type 0 where
   pub is_end : k.ends m job.session 0 ≡ Some end
   pub start : Begin
   pub begun : k.starts end.home end.client job.request ≡ Some start
-  pub way_is : start.way ≡ record { number = end.client; peer = m; other = job.session }
+  pub way_is : IsWay start.way end.client m job.session
   pub req_type : job.req_type ≡ start.what.req_type
   pub own : job.ask ≡ start.what.ask
 

@@ -233,16 +233,18 @@ gone-kin xs ys s t kin g =
     record { client = k.now; is_there = k.is; let_go = k.kin.let_go t g.let_go }
 
 -- a session with a request of its own to disconnect is Closing
-asks-gone : (state : SessionState) (number other credits t : ℕ) (h : ControlHeader)
-    → request_by state number other credits ≡ Some h → h.kind ≡ DisconnectRequest
-    → (h.client ≡ number) × (state ≡ Closing)
-asks-gone Connecting number other credits t h e kind =
+asks-gone : (own : ℕ) (state : SessionState) (way : Way) (credits t : ℕ) (h : ControlHeader)
+    → request_by own state way credits ≡ Some h → h.kind ≡ DisconnectRequest
+    → (h.client ≡ way.number) × (state ≡ Closing)
+asks-gone own Connecting way credits t h e kind =
     let same : record {
       kind = ConnectRequest;
-      client = number;
+      client = way.number;
       server = None;
       credits = credits;
       status = 0;
+      from_life = own;
+      to_life = None;
     }
     ≡ h = some-same _ h e in
     absurd (request-no (ap (λ (c : ControlHeader). c.kind) same ∙ kind))
@@ -252,19 +254,21 @@ asks-gone Connecting number other credits t h e kind =
 
     request-no : ConnectRequest ≡ DisconnectRequest → ⊥
     request-no e = cc
-asks-gone Closing number other credits t h e kind =
+asks-gone own Closing way credits t h e kind =
     let same : record {
       kind = DisconnectRequest;
-      client = number;
-      server = Some other;
+      client = way.number;
+      server = Some way.other;
       credits = 0;
       status = 0;
+      from_life = own;
+      to_life = Some way.life;
     }
     ≡ h = some-same _ h e in (ap (λ (c : ControlHeader). c.client) (sym same), refl)
   where
     some-same : (a b : ControlHeader) → Some a ≡ Some b → a ≡ b
     some-same a b e = cc
-asks-gone _ number other credits t h e kind = cc
+asks-gone own _ way credits t h e kind = cc
 
 closing-gone : (x : Client) (t : ℕ) → x.state ≡ Closing → IsLetGo x t
 closing-gone x t e = record {
@@ -323,12 +327,12 @@ pub sent-gone : (l : Lists) (v : Valid l) (peer t : ℕ) (h : ControlHeader)
     → GoneFrom l.clients h.client t
 sent-gone l v peer t h (inl a) kind names =
     let x = a.client in
-    let own = asks-gone x.state x.way.number x.way.other x.limit t h a.own kind in
+    let own = asks-gone l.life x.state x.way x.limit t h a.own kind in
     let found = numbered-found client_no 0 a.place l.clients x v.numbered a.is_there in
     found-gone l v h.client t x (ap (λ (n : ℕ). find (is_client n) l.clients) own.0 ∙ found)
     (closing-gone x t own.1)
 sent-gone l v peer t h (inr (OwnControl.asks x opened own)) kind names =
-    let mine = asks-gone x.state x.way.number x.way.other x.limit t h own kind in
+    let mine = asks-gone l.life x.state x.way x.limit t h own kind in
     found-gone l v h.client t x opened.found (closing-gone x t mine.1)
 sent-gone l v peer t h (inr (OwnControl.confirms u w e found ends)) kind names =
     kind-no h _ e kind (λ k. cc)

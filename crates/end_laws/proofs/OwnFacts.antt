@@ -126,46 +126,55 @@ AllOwn still me x = AllByRecursion (IsOwn still me) x
 -- a node of which no session is being opened or closed, and with no control packet
 pub record Quiet (l : Lists) : Type 0 where
   pub inbox : l.inbox ≡ []
-  pub clients : AllByRecursion (λ x. own_request x ≡ None) l.clients
+  pub clients : AllByRecursion (λ x. own_request l.life x ≡ None) l.clients
 
-quiet-first : (p : Client → Bool) (f : Client → Client) (xs : List Client)
-    → ((x : Client) → own_request x ≡ None → own_request (f x) ≡ None)
-    → AllByRecursion (λ x. own_request x ≡ None) xs
-    → AllByRecursion (λ x. own_request x ≡ None) (at_first p f xs)
-quiet-first p f xs keep h =
-    all-first (λ x. own_request x ≡ None) (λ x. own_request x ≡ None) p f xs (λ x k. k)
+quiet-first : (own : ℕ) (p : Client → Bool) (f : Client → Client) (xs : List Client)
+    → ((x : Client) → own_request own x ≡ None → own_request own (f x) ≡ None)
+    → AllByRecursion (λ x. own_request own x ≡ None) xs
+    → AllByRecursion (λ x. own_request own x ≡ None) (at_first p f xs)
+quiet-first own p f xs keep h =
+    all-first (λ x. own_request own x ≡ None) (λ x. own_request own x ≡ None) p f xs (λ x k. k)
     (λ x is k. keep x k) h
 
-quiet-clients : (clock : ℕ) (e : Event) (bytes : List ℕ) (head : Option MessageHeader)
+quiet-clients : (own clock : ℕ) (e : Event) (bytes : List ℕ) (head : Option MessageHeader)
     (body : List ℕ) (xs : List Client) → is_of_control e ≡ false
-    → AllByRecursion (λ x. own_request x ≡ None) xs
-    → AllByRecursion (λ x. own_request x ≡ None) (clients_after clock e bytes head body xs)
-quiet-clients clock (PairedClient s peer t credits) bytes head body xs c h =
-    all-add (λ x. own_request x ≡ None) xs _ h refl
-quiet-clients clock (Opened s peer credits) bytes head body xs c h = false-true (sym c)
-quiet-clients clock (IsConnected s t) bytes head body xs c h = false-true (sym c)
-quiet-clients clock (FailedNoRoom s) bytes head body xs c h = false-true (sym c)
-quiet-clients clock (FailedNoAnswer s) bytes head body xs c h = false-true (sym c)
-quiet-clients clock (BeginsClosing s) bytes head body xs c h = false-true (sym c)
-quiet-clients clock (ClosedHeard s) bytes head body xs c h = false-true (sym c)
-quiet-clients clock (ClosedUnheard s) bytes head body xs c h = false-true (sym c)
-quiet-clients clock (Sent peer Control k) bytes head body xs c h = false-true (sym c)
-quiet-clients clock (Sent peer (Ask s r) k) bytes head body xs c h = quiet-first _ _ xs (λ x k. k) h
-quiet-clients clock (Sent peer (Reply t r) k) bytes head body xs c h = h
-quiet-clients clock (Asked n s y room) bytes head body xs c h = quiet-first _ _ xs (λ x k. k) h
-quiet-clients clock (Begun n r) bytes head body xs c h = quiet-first _ _ xs (λ x k. k) h
-quiet-clients clock (Posted (Ask s r) k) bytes head body xs c h = quiet-first _ _ xs (λ x k. k) h
-quiet-clients clock (Posted (Reply t r) k) bytes head body xs c h = h
-quiet-clients clock (Posted Control k) bytes head body xs c h = h
-quiet-clients clock (Took (Ask s r) k) bytes head body xs c h = quiet-first _ _ xs (λ x k. k) h
-quiet-clients clock (Took (Reply t r) k) bytes head body xs c h = h
-quiet-clients clock (Took Control k) bytes head body xs c h = h
-quiet-clients clock (Rolled n posted got) bytes head body xs c h = quiet-first _ _ xs (λ x k. k) h
-quiet-clients clock (Broken s) bytes head body xs c h = quiet-first _ _ xs (λ x k. refl) h
-quiet-clients clock (DoneOk n) bytes head body xs c h = quiet-first _ _ xs (λ x k. k) h
-quiet-clients clock (DoneTooSmall n size) bytes head body xs c h = quiet-first _ _ xs (λ x k. k) h
-quiet-clients clock (DonePeerLost n) bytes head body xs c h = quiet-first _ _ xs (λ x k. k) h
-quiet-clients clock _ bytes head body xs c h = h
+    → AllByRecursion (λ x. own_request own x ≡ None) xs
+    → AllByRecursion (λ x. own_request own x ≡ None) (clients_after clock e bytes head body xs)
+quiet-clients own clock (PairedClient s peer t credits) bytes head body xs c h =
+    all-add (λ x. own_request own x ≡ None) xs _ h refl
+quiet-clients own clock (Opened s peer credits) bytes head body xs c h = false-true (sym c)
+quiet-clients own clock (IsConnected s t) bytes head body xs c h = false-true (sym c)
+quiet-clients own clock (FailedNoRoom s) bytes head body xs c h = false-true (sym c)
+quiet-clients own clock (FailedNoAnswer s) bytes head body xs c h = false-true (sym c)
+quiet-clients own clock (BeginsClosing s) bytes head body xs c h = false-true (sym c)
+quiet-clients own clock (ClosedHeard s) bytes head body xs c h = false-true (sym c)
+quiet-clients own clock (ClosedUnheard s) bytes head body xs c h = false-true (sym c)
+quiet-clients own clock (Sent peer Control k) bytes head body xs c h = false-true (sym c)
+quiet-clients own clock (Sent peer (Ask s r) k) bytes head body xs c h =
+    quiet-first own _ _ xs (λ x k. k) h
+quiet-clients own clock (Sent peer (Reply t r) k) bytes head body xs c h = h
+quiet-clients own clock (Asked n s y room) bytes head body xs c h =
+    quiet-first own _ _ xs (λ x k. k) h
+quiet-clients own clock (Begun n r) bytes head body xs c h =
+    quiet-first own _ _ xs (λ x k. k) h
+quiet-clients own clock (Posted (Ask s r) k) bytes head body xs c h =
+    quiet-first own _ _ xs (λ x k. k) h
+quiet-clients own clock (Posted (Reply t r) k) bytes head body xs c h = h
+quiet-clients own clock (Posted Control k) bytes head body xs c h = h
+quiet-clients own clock (Took (Ask s r) k) bytes head body xs c h =
+    quiet-first own _ _ xs (λ x k. k) h
+quiet-clients own clock (Took (Reply t r) k) bytes head body xs c h = h
+quiet-clients own clock (Took Control k) bytes head body xs c h = h
+quiet-clients own clock (Rolled n posted got) bytes head body xs c h =
+    quiet-first own _ _ xs (λ x k. k) h
+quiet-clients own clock (Broken s) bytes head body xs c h = quiet-first own _ _ xs (λ x k. refl) h
+quiet-clients own clock (DoneOk n) bytes head body xs c h =
+    quiet-first own _ _ xs (λ x k. k) h
+quiet-clients own clock (DoneTooSmall n size) bytes head body xs c h =
+    quiet-first own _ _ xs (λ x k. k) h
+quiet-clients own clock (DonePeerLost n) bytes head body xs c h =
+    quiet-first own _ _ xs (λ x k. k) h
+quiet-clients own clock _ bytes head body xs c h = h
 
 quiet-inbox : (e : Event) (bytes : List ℕ) (inbox : List Arrival) → Brings e bytes → inbox ≡ []
     → inbox_after e bytes inbox ≡ []
@@ -178,7 +187,8 @@ pub quiet-after : (clock : ℕ) (l : Lists) (f : Fact) → is_of_control f.event
     → Brings f.event f.first → Quiet l → Quiet (after clock l f)
 quiet-after clock l f c b q = record {
   inbox = quiet-inbox f.event f.first l.inbox b q.inbox;
-  clients = quiet-clients clock f.event f.first (front_header l.ring) (front_body l.ring) l.clients c q.clients;
+  clients = quiet-clients l.life clock f.event f.first (front_header l.ring) (front_body l.ring)
+      l.clients c q.clients;
 }
 
 quiet-all : (still : Bool) → still ≡ true → (clock me : ℕ) (l : Lists) (x : List Fact)
@@ -417,13 +427,14 @@ module _ (still : Bool) where
     own-retries-as None clock timeout x facts q r = rw r tt
     own-retries-as (Some h) clock timeout x facts q r = own-retries-by (λ e. let none = q e in cc) (retry_row clock timeout x.sends x.sent_at) x h facts r
 
-    own-retries : (clock timeout i : ℕ) (xs : List Client) (x : Option Client) (facts : List Fact)
-        → slice_get xs i ≡ x → (still ≡ true → AllByRecursion (λ x. own_request x ≡ None) xs)
-        → RetriesOf clock timeout me x facts → AllOwn still me facts
-    own-retries clock timeout i xs None facts is q r = rw r tt
-    own-retries clock timeout i xs (Some x) facts is q r =
-        own-retries-as (own_request x) clock timeout x facts
-        (λ e. all-at (λ x. own_request x ≡ None) xs i x (q e) is) r
+    own-retries : (own clock timeout i : ℕ) (xs : List Client) (x : Option Client)
+        (facts : List Fact) → slice_get xs i ≡ x
+        → (still ≡ true → AllByRecursion (λ x. own_request own x ≡ None) xs)
+        → RetriesOf clock timeout me own x facts → AllOwn still me facts
+    own-retries own clock timeout i xs None facts is q r = rw r tt
+    own-retries own clock timeout i xs (Some x) facts is q r =
+        own-retries-as (own_request own x) clock timeout x facts
+        (λ e. all-at (λ x. own_request own x ≡ None) xs i x (q e) is) r
 
     -- the timers
     own-call-flushes : (queued : List Queued) (session : ℕ) (p : Option Progress)
@@ -496,8 +507,8 @@ module _ (still : Bool) where
             { who = refl; idle = refl; plain = λ e. absurd (not_still e); brings = λ e. tt },
         own-append s.lists.me (control_facts s.lists h.front.peer h.header row) h.said
             (own-control not_still s.lists h.front.peer h.header row)
-            (own-speaks s.lists.me not_still h.front.peer (control_reply h.header row) h.said
-            h.speaks),
+            (own-speaks s.lists.me not_still h.front.peer (control_reply s.lists.life h.header row)
+            h.said h.speaks),
       ))
 
   handling-own : (mode : ℕ → Mode) (lacks : Bool) (answer : List ℕ) (s : Lists) (peer : ℕ)
@@ -516,7 +527,8 @@ module _ (still : Bool) where
 
   retries-own : (timeout i : ℕ) → Owns (Retries timeout i)
   retries-own timeout i s x t z h =
-      owns-goes s x t z h.goes (own-retries s.lists.me s.clock timeout i s.lists.clients
+      owns-goes s x t z h.goes
+      (own-retries s.lists.me s.lists.life s.clock timeout i s.lists.clients
       (slice_get s.lists.clients i) x refl (λ e. (z e).clients) h.facts)
 
   watches-own : (timeout i number : ℕ) → Owns (Watches timeout i number)

@@ -24,7 +24,7 @@ use Rattle.end_laws.proofs.Allowed.{MayServe, MayFinish, MayRun}
 use Rattle.end_laws.proofs.GoodLemmas.{SameAt, client-more, run-left, starts-stay}
 use Rattle.end_laws.proofs.JobSteps.{whole-ask, whole-good, jobs-good}
 use Rattle.end_laws.proofs.Known.{Known, Later, End, Begin, Run, GoodServed, GoodServer, GoodJob}
-use Rattle.end_laws.proofs.Known.{GoodNode}
+use Rattle.end_laws.proofs.Known.{GoodNode, IsWay}
 use Rattle.end_laws.proofs.Known.{TrueRun, IsTrue, added, added-here, added-keeps}
 use Rattle.end_laws.proofs.Known.{added-none, added-case, contains-here, contains-more}
 use Rattle.end_laws.proofs.KnownLemmas.{run-more, served-later, server-later, session-later, jobs-later}
@@ -39,7 +39,7 @@ pub record RunOf (k : Known) (n t r y : ℕ) (ask : List ℕ) : Type 0 where
   pub is_end : k.ends n t 0 ≡ Some end
   pub start : Begin
   pub begun : k.starts end.home end.client r ≡ Some start
-  pub way_is : start.way ≡ record { number = end.client; peer = n; other = t }
+  pub way_is : IsWay start.way end.client n t
   pub of_type : y ≡ start.what.req_type
   pub own : ask ≡ start.what.ask
 
@@ -61,7 +61,8 @@ serve-of k n l t r y ask g m =
       begun = subst (λ (i : ℕ). k.starts v.way.peer v.way.other i ≡ Some h.served.start) number
           h.served.begun;
       way_is = h.served.way_is ∙ ap (λ (s : ℕ).
-          record { number = v.way.other; peer = n; other = s }) h.number;
+          record { number = v.way.other; peer = n; other = s; life = h.served.start.way.life })
+          h.number;
       of_type = m.of_type ∙ h.served.req_type;
       own = m.own ∙ whole-ask k n l t r w h.served;
     }
@@ -79,7 +80,8 @@ finish-of k n l t r y ask g m =
       begun = subst (λ (i : ℕ). k.starts good.end.home good.end.client i ≡ Some good.start) of.1
           good.begun;
       way_is = good.way_is ∙ ap (λ (s : ℕ).
-          record { number = good.end.client; peer = n; other = s }) of.0;
+          record { number = good.end.client; peer = n; other = s; life = good.start.way.life })
+          of.0;
       of_type = m.of_type ∙ good.req_type;
       own = m.own ∙ good.own;
     }

@@ -20,6 +20,7 @@ use Rattle.packet_header.specs.declared.packet.Packet.TheVariants.{Message, Cont
 use Rattle.packet_header.proofs.Heads.{decoded-append, body_of-append}
 use Rattle.packet_header.proofs.Readings.{spells-decoded}
 use Rattle.rpc_base.proofs.TakingLemmas.{find-passes}
+use Rattle.rpc_base.specs.declared.limits.TheConstants.{HEAD_BYTES}
 use Rattle.rpc_base.specs.declared.owner.Owner.{Owner}
 use Rattle.rpc_base.specs.declared.owner.Owner.TheVariants.{Ask, Reply, Control as OfControl}
 use Rattle.rpc_base.specs.declared.state.SessionState.{SessionState}
@@ -71,6 +72,7 @@ module _ (k : Known) (n : ℕ) where
           session = x.way.other;
           number = j;
           request = r;
+          to_life = x.way.life;
         });
         body = part
             c.what.ask j;
@@ -84,6 +86,7 @@ module _ (k : Known) (n : ℕ) where
               session = x.way.other;
               number = j;
               request = r;
+              to_life = x.way.life;
             });
         body = [];
       }))
@@ -141,6 +144,7 @@ module _ (k : Known) (n : ℕ) where
         session = way.other;
         number = j;
         request = q.number;
+        to_life = way.life;
       })
       (part answer (j + 1 - packet_count q.size))
   answer-says way q j answer g run =
@@ -172,6 +176,7 @@ module _ (k : Known) (n : ℕ) where
           session = way.other;
           number = j;
           request = q.number;
+          to_life = way.life;
         });
         body = [];
       })) (option_map
@@ -185,6 +190,7 @@ module _ (k : Known) (n : ℕ) where
               session = way.other;
               number = j;
               request = q.number;
+              to_life = way.life;
             });
         body = part answer (j + 1 - packet_count q.size);
       }) answer)
@@ -199,6 +205,7 @@ module _ (k : Known) (n : ℕ) where
           session = way.other;
           number = j;
           request = q.number;
+          to_life = way.life;
         });
         body = [];
       }) out h (record {
@@ -242,7 +249,7 @@ module _ (k : Known) (n : ℕ) where
 
   -- read back
   packet-speaks : (p : Packet) (to : ℕ) (head body : List ℕ) → InRange p → HasHead p head
-      → length head ≡ 16 → HasLength p (16 + length body) → PacketSays k n to p body
+      → length head ≡ HEAD_BYTES → HasLength p (HEAD_BYTES + length body) → PacketSays k n to p body
       → Speaks k n to (head ++ body)
   packet-speaks (Message m) to head body range has long len s =
       let reads : message_of (head ++ body) ≡ Some m =
@@ -260,7 +267,7 @@ module _ (k : Known) (n : ℕ) where
       control-speaks c to (head ++ body) (decoded-append (Control c) head body range has long len) s
 
   pub sent-speaks : (l : Lists) (peer : ℕ) (o : Owner) (j : ℕ) (head body : List ℕ) → GoodNode k n l
-      → (m : MaySend l peer o j head body) → HasLength m.out.packet (16 + length m.out.body)
+      → (m : MaySend l peer o j head body) → HasLength m.out.packet (HEAD_BYTES + length m.out.body)
       → Speaks k n peer (head ++ body)
   sent-speaks l peer o j head body g m len =
       let says = owner-says l o j m.out g m.own in
@@ -269,27 +276,31 @@ module _ (k : Known) (n : ℕ) where
       (subst (λ (b : List ℕ). Speaks k n m.out.peer (head ++ b)) (sym m.whole) now)
 
   -- a session's own request says nothing of a session
-  request-tells : (state : SessionState) (number other credits to : ℕ) (h : ControlHeader)
-      → request_by state number other credits ≡ Some h → Tells h.kind k n to h
-  request-tells Connecting number other credits to h e =
+  request-tells : (own : ℕ) (state : SessionState) (way : Way) (credits to : ℕ)
+      (h : ControlHeader) → request_by own state way credits ≡ Some h → Tells h.kind k n to h
+  request-tells own Connecting way credits to h e =
       let same : record {
         kind = ConnectRequest;
-        client = number;
+        client = way.number;
         server = None;
         credits = credits;
         status = 0;
+        from_life = own;
+        to_life = None;
       }
       ≡ h = cc in subst (λ (c : ControlHeader). Tells c.kind k n to c) same tt
-  request-tells Closing number other credits to h e =
+  request-tells own Closing way credits to h e =
       let same : record {
         kind = DisconnectRequest;
-        client = number;
-        server = Some other;
+        client = way.number;
+        server = Some way.other;
         credits = 0;
         status = 0;
+        from_life = own;
+        to_life = Some way.life;
       }
       ≡ h = cc in subst (λ (c : ControlHeader). Tells c.kind k n to c) same tt
-  request-tells _ number other credits to h e = cc
+  request-tells own _ way credits to h e = cc
 
   confirm-tells : (l : Lists) (peer t : ℕ) (h : ControlHeader) (v : Server) → GoodNode k n l
       → find (is_server t) l.servers ≡ Some v → is_end_of peer h.client v ≡ true
@@ -303,7 +314,7 @@ module _ (k : Known) (n : ℕ) where
   own-tells : (l : Lists) (peer : ℕ) (h : ControlHeader) → GoodNode k n l → OwnControl l peer h
       → Tells h.kind k n peer h
   own-tells l peer h g (OwnControl.asks x opened own) =
-      request-tells x.state x.way.number x.way.other x.limit peer h own
+      request-tells l.life x.state x.way x.limit peer h own
   own-tells l peer h g (OwnControl.confirms t v e found ends) =
       subst (λ (c : ControlHeader). Tells c.kind k n peer c) (sym e)
       (confirm-tells l peer t h v g found ends)
@@ -319,7 +330,7 @@ module _ (k : Known) (n : ℕ) where
   says-tells : (l : Lists) (peer : ℕ) (h : ControlHeader) → GoodNode k n l
       → AsksAt l peer h ⊎ OwnControl l peer h → Tells h.kind k n peer h
   says-tells l peer h g (inl a) =
-      let x = a.client in request-tells x.state x.way.number x.way.other x.limit peer h a.own
+      let x = a.client in request-tells l.life x.state x.way x.limit peer h a.own
   says-tells l peer h g (inr o) = own-tells l peer h g o
 
   -- a control packet that is sent says what is so

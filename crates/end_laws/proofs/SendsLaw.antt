@@ -41,6 +41,7 @@ use Rattle.rpc_laws.specs.BufferSafety.{OwnControl, SpellsOwn, SentRight}
 use Rattle.rpc_laws.specs.BufferSafety.{changed, nodes_at}
 use Rattle.rpc_laws.specs.Calls.{is_active, asked_packets}
 use Rattle.rpc_laws.specs.Front.{front_header, front_body}
+use Rattle.rpc_laws.specs.Lives.{first_life}
 use Rattle.rpc_laws.specs.NodeLists.{after, new_lists}
 use Rattle.rpc_laws.specs.Pacing.{due_of}
 use Rattle.rpc_laws.specs.UsualLimits.{with_ring}
@@ -124,7 +125,7 @@ own-control : (l : Lists) (peer : ℕ) (h : ControlHeader) → Valid l
     → AsksAt l peer h ⊎ OwnControl l peer h → OwnControl l peer h
 own-control l peer h v (inl a) =
     let x = a.client in
-    let number = own-names x.state x.way.number x.way.other x.limit h a.own in
+    let number = own-names l.life x.state x.way x.limit h a.own in
     let found = numbered-found client_no 0 a.place l.clients x v.numbered a.is_there in
     OwnControl.asks x (record {
       found = ap (λ (n : ℕ). find (is_client n) l.clients) number ∙ found;
@@ -207,7 +208,7 @@ right-noted w n l f a i =
 pub right-net : (w : Moment) (f : Fact) → f.who ≡ Net → AllRight w → AllRight (moved w f)
 right-net w f who i = subst (λ (p : Who). Placed (λ n l. RightNode l) (nodes_at w.clock p w.nodes f)) (sym who) i
 
-pub right-new : (me : ℕ) (limits : Limits) → RightNode (new_lists me limits)
+pub right-new : (me : ℕ) (limits : Limits) → RightNode (new_lists me first_life limits)
 right-new me limits = record {
   sound = tt;
   slots = tt;
@@ -217,9 +218,9 @@ right-new me limits = record {
 }
 
 pub right-made : (w : Moment) (limits : Limits) → AllRight w
-    → Placed (λ n l. RightNode l) (w.nodes ++ new_lists (length w.nodes) limits ∷ [])
+    → Placed (λ n l. RightNode l) (w.nodes ++ new_lists (length w.nodes) first_life limits ∷ [])
 right-made w limits i =
-    add-placed (λ n l. RightNode l) w.nodes (new_lists (length w.nodes) limits)
+    add-placed (λ n l. RightNode l) w.nodes (new_lists (length w.nodes) first_life limits)
     (right-new (length w.nodes) limits) i
 
 pub right-paired : (w : Moment) (n m credits : ℕ) (client server : Lists)

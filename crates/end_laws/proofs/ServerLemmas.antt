@@ -26,7 +26,8 @@ use Rattle.rpc_laws.specs.Requests.{took_packet, given, servers_after}
 use Rattle.end_laws.specs.TwoEnds.{is_away}
 use Rattle.end_laws.proofs.Allowed.{GoesOn, TakesOf, May}
 use Rattle.end_laws.proofs.ClientLemmas.{is_quiet, front-says}
-use Rattle.end_laws.proofs.Known.{Known, Later, Begin, End, SaysRequest, Says, Speaks, GoodServed, GoodServer}
+use Rattle.end_laws.proofs.Known.{Known, Later, Begin, End, IsWay, SaysRequest, Says, Speaks}
+use Rattle.end_laws.proofs.Known.{GoodServed, GoodServer}
 use Rattle.end_laws.proofs.KnownLemmas.{served-later, server-later, servers-later, session-later}
 use Rattle.end_laws.proofs.ListLemmas.{all-first, all-map, all-add}
 use Rattle.end_laws.proofs.ListLemmas.{all-without, all-found}
@@ -50,7 +51,7 @@ module _ (k : Known) (n : ℕ) where
   pub record OfCall (way : Way) (h : MessageHeader) (body : List ℕ) : Type 0 where
     pub start : Begin
     pub begun : k.starts way.peer way.other h.request ≡ Some start
-    pub way_is : start.way ≡ record { number = way.other; peer = n; other = way.number }
+    pub way_is : IsWay start.way way.other n way.number
     pub req_type : h.req_type ≡ start.what.req_type
     pub size : h.size ≡ length start.what.ask
     pub piece : body ≡ part start.what.ask h.number
@@ -77,8 +78,12 @@ module _ (k : Known) (n : ℕ) where
         start = s.start;
         begun = subst (λ (m : ℕ). k.starts m way.other h.request ≡ Some s.start) peer
             (subst (λ (c : ℕ). k.starts from c h.request ≡ Some s.start) same s.begun);
-        way_is = s.way ∙ (ap (λ (c : ℕ). record { number = c; peer = n; other = h.session }) same
-            ∙ ap (λ (t : ℕ). record { number = way.other; peer = n; other = t }) (sym number));
+        way_is = s.way
+            ∙ (ap (λ (c : ℕ).
+            record { number = c; peer = n; other = h.session; life = s.start.way.life }) same
+            ∙ ap (λ (t : ℕ).
+            record { number = way.other; peer = n; other = t; life = s.start.way.life })
+            (sym number));
         req_type = s.req_type;
         size = s.size;
         piece = s.piece;

@@ -16,6 +16,7 @@ use Rattle.rpc_laws.specs.declared.tables.InFlight.{InFlight}
 use Rattle.rpc_laws.specs.declared.tables.Lists.{Lists}
 use Rattle.rpc_laws.specs.BufferSafety.{changed, nodes_at}
 use Rattle.rpc_laws.specs.InFlight.{flight_at, flight_after_node, flight_after_net}
+use Rattle.rpc_laws.specs.Lives.{first_life}
 use Rattle.rpc_laws.specs.NodeLists.{after, new_lists}
 use Rattle.rpc_laws.specs.UsualLimits.{with_ring}
 use Rattle.rpc_laws.specs.Front.{is_message, is_control}
@@ -180,12 +181,14 @@ module _ (P : ℕ → ℕ → List ℕ → Type 0) where
       subst (Travels P) (sym (moved-node w n l f a)) k
 
   pub rings-made : (w : Moment) (limits : Limits) → Travels P w
-      → Placed RingIs (w.nodes ++ new_lists (length w.nodes) limits ∷ [])
-  rings-made w limits t = add-placed RingIs w.nodes (new_lists (length w.nodes) limits) tt t.rings
+      → Placed RingIs (w.nodes ++ new_lists (length w.nodes) first_life limits ∷ [])
+  rings-made w limits t = add-placed RingIs w.nodes (new_lists (length w.nodes) first_life limits)
+      tt t.rings
 
   pub inboxes-made : (w : Moment) (limits : Limits) → Travels P w
-      → Placed InboxIs (w.nodes ++ new_lists (length w.nodes) limits ∷ [])
-  inboxes-made w limits t = add-placed InboxIs w.nodes (new_lists (length w.nodes) limits) tt t.inboxes
+      → Placed InboxIs (w.nodes ++ new_lists (length w.nodes) first_life limits ∷ [])
+  inboxes-made w limits t = add-placed InboxIs w.nodes
+      (new_lists (length w.nodes) first_life limits) tt t.inboxes
 
   -- a node's fact that leaves its ring, or its inbox
   kept : (list : Lists → List Arrival) (nodes : List Lists) (n clock : ℕ) (l : Lists) (f : Fact)

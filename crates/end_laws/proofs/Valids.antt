@@ -9,6 +9,7 @@ use Rattle.rpc_base.proofs.PlaceLemmas.{set-other}
 use Rattle.rpc_laws.specs.declared.tables.Lists.{Lists}
 use Rattle.rpc_laws.specs.BufferSafety.{changed, nodes_at}
 use Rattle.rpc_laws.specs.Facts.{plain}
+use Rattle.rpc_laws.specs.Lives.{first_life}
 use Rattle.rpc_laws.specs.NodeLists.{after, new_lists}
 use Rattle.rpc_laws.specs.UsualLimits.{with_ring}
 use Rattle.node_laws.proofs.ValidLemmas.{valid_after, valid_new}
@@ -29,7 +30,7 @@ valid-net w f who v = subst (λ (p : Who). Placed ValidAt (nodes_at w.clock p w.
 pub valid-made : (w : Moment) (limits : Limits) → AllValid w
     → AllValid (made_at w limits)
 valid-made w limits v =
-    add-placed ValidAt w.nodes (new_lists (length w.nodes) limits)
+    add-placed ValidAt w.nodes (new_lists (length w.nodes) first_life limits)
     (valid_new (length w.nodes) limits) v
 
 pub valid-node : (w : Moment) (n : ℕ) (l : Lists) (f : Fact) → AtNode w n l f → AllValid w

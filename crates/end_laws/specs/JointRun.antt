@@ -18,6 +18,7 @@ use Rattle.rpc_laws.specs.Deliveries.{Delivers}
 use Rattle.rpc_laws.specs.Facts.{plain, of_net}
 use Rattle.rpc_laws.specs.Groups.{client_refusal, server_refusal}
 use Rattle.rpc_laws.specs.InFlight.{flight_after_all, flight_after_net}
+use Rattle.rpc_laws.specs.Lives.{first_life}
 use Rattle.rpc_laws.specs.NodeLists.{after, new_node}
 use Rattle.rpc_laws.specs.OwnAnswer.{Own, OwnBy}
 use Rattle.rpc_laws.specs.Service.{Serving, Answers, plain_serving}
@@ -63,7 +64,8 @@ pub record MakesNode (parties : ℕ → Party) (s : Joint) (x : List Fact) (t : 
   pub ring : ℕ
   pub facts : x ≡ plain (length s.nodes) (Made ring) ∷ []
   pub left : t ≡ record s {
-    nodes = s.nodes ++ new_node (length s.nodes) (limits_of (parties (length s.nodes)) ring) ∷ [];
+    nodes = s.nodes
+        ++ new_node (length s.nodes) first_life (limits_of (parties (length s.nodes)) ring) ∷ [];
   }
 
 -- node n makes a group by itself: a call or its refusal, a poll at a clock of its own, a job that

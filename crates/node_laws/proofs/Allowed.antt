@@ -19,6 +19,7 @@ use Rattle.rpc_base.specs.declared.event.Event.TheVariants.{Posted, Took, Given,
 use Rattle.rpc_base.specs.declared.event.Event.TheVariants.{Sent, Broken, DoneOk, DoneTooSmall}
 use Rattle.rpc_base.specs.declared.event.Event.TheVariants.{DonePeerLost}
 use Rattle.rpc_base.specs.declared.fact.Fact.{Fact}
+use Rattle.rpc_base.specs.declared.limits.TheConstants.{HEAD_BYTES}
 use Rattle.rpc_base.specs.declared.limits.TheConstants.{MOST_CALLS}
 use Rattle.rpc_base.specs.declared.state.SessionState.{SessionState}
 use Rattle.rpc_base.specs.declared.state.SessionState.TheVariants.{Connecting, Closing}
@@ -278,7 +279,7 @@ pub record MaySend (s : Lists) (peer : ℕ) (owner : Owner) (number : ℕ) (head
   pub to_peer : peer ≡ out.peer
   pub in_range : InRange out.packet
   pub has_head : HasHead out.packet head
-  pub long : length head ≡ 16
+  pub long : length head ≡ HEAD_BYTES
   pub bytes : AreBytes head
   pub whole : body ≡ out.body
 

@@ -5,6 +5,8 @@ use Rattle.std.specs.Prelude.{map, nat_le, nat_lt, option_map, sum_by}
 use Rattle.std.specs.List.{find}
 use Rattle.std.proofs.lemmas.List.Sums.{sum_by-cons}
 use Rattle.packet_header.specs.declared.packet.ControlHeader.{ControlHeader}
+use Rattle.packet_header.specs.declared.packet.ControlKind.TheVariants.{DisconnectReply}
+use Rattle.packet_header.specs.declared.packet.ControlKind.TheVariants.{DisconnectRequest}
 use Rattle.packet_header.specs.declared.packet.MessageHeader.{MessageHeader}
 use Rattle.rpc_base.specs.Tables.{at_first}
 use Rattle.rpc_base.specs.declared.event.Event.{Event}
@@ -28,11 +30,14 @@ use Rattle.rpc_laws.specs.declared.tables.Progress.{Progress}
 use Rattle.rpc_laws.specs.declared.tables.Server.{Server}
 use Rattle.rpc_laws.specs.BufferSafety.{IsOpened, OwnControl, SentRight, SpellsOwn, TakesNoSession}
 use Rattle.rpc_laws.specs.ControlSteps.{own_request}
+use Rattle.rpc_laws.specs.ControlTable.{connect_reply}
+use Rattle.rpc_laws.specs.ControlTable.{disconnect_as}
 use Rattle.rpc_laws.specs.ControlTable.{reply_row}
 use Rattle.rpc_laws.specs.Calls.{begun, is_active, is_call, is_response, has_request, moved}
 use Rattle.rpc_laws.specs.Calls.{posted_up_to, rolled_back, sent_packet, took_reply}
 use Rattle.rpc_laws.specs.Front.{control_of, front_header, front_body}
 use Rattle.rpc_laws.specs.Groups.{has_no_room, live_credits, servers_spent, shares}
+use Rattle.rpc_laws.specs.Lives.{first_life}
 use Rattle.rpc_laws.specs.NodeLists.{after}
 use Rattle.rpc_laws.specs.Packets.{ask_packet, call_packet, owner_packet}
 use Rattle.rpc_laws.specs.Requests.{server_numbers_after}
@@ -227,6 +232,7 @@ pub record AtOtherClocks (s t : Lists) : Type 0 where
   pub clients : map bare s.clients ≡ map bare t.clients
   pub servers : s.servers ≡ t.servers
   pub ring : s.ring ≡ t.ring
+  pub life : s.life ≡ t.life
   pub room : s.room ≡ t.room
   pub server_numbers : s.server_numbers ≡ t.server_numbers
 
@@ -243,6 +249,7 @@ clocks-after c d s t f k = record {
       ∙ (ap (clients_after 0 f.event f.first head body) k.clients ∙ there));
   servers = rw (k.servers, k.ring) refl;
   ring = rw k.ring refl;
+  life = k.life;
   room = k.room;
   server_numbers = ap (server_numbers_after f.event) k.server_numbers;
 }
@@ -338,20 +345,29 @@ control-same : (s t : Lists) (peer : ℕ) (h : ControlHeader) → AtOtherClocks 
 control-same s t peer h e (OwnControl.asks x opened own) =
     let o = other-client h.client s.clients t.clients x e.clients opened.found in
     OwnControl.asks o.client (opened-same s t peer h.client x o opened)
-    (ap own_request o.same ∙ own)
+    (ap (own_request t.life) o.same ∙ (ap (λ n. own_request n x) (sym e.life) ∙ own))
 control-same s t peer h e (OwnControl.confirms n v named found is_end) =
-    OwnControl.confirms n v named (rw (← e.servers) found) is_end
+    OwnControl.confirms n v
+    (named ∙ ap (λ l. connect_reply l first_life h.client (Some n) v.credits 0) e.life)
+    (rw (← e.servers) found) is_end
 control-same s t peer h e (OwnControl.declines named none) =
-    OwnControl.declines named (takes-none-same s t peer h.client h.credits e none)
+    OwnControl.declines
+    (named ∙ ap (λ l. connect_reply l first_life h.client None h.credits 1) e.life)
+    (takes-none-same s t peer h.client h.credits e none)
 control-same s t peer h e (OwnControl.disowns x opened named row) =
     let o = other-client h.client s.clients t.clients x e.clients opened.found in
-    OwnControl.disowns o.client (opened-same s t peer h.client x o opened) named
+    OwnControl.disowns o.client (opened-same s t peer h.client x o opened)
+    (named ∙ ap (λ l. disconnect_as DisconnectRequest l first_life h.client h.server 0) e.life)
     (sym (reply-bare h.server o.client)
     ∙ (ap (reply_row h.server 0) o.same ∙ (reply-bare h.server x ∙ row)))
 control-same s t peer h e (OwnControl.ends named gone) =
-    OwnControl.ends named (rw (← e.servers) gone)
+    OwnControl.ends
+    (named ∙ ap (λ l. disconnect_as DisconnectReply l first_life h.client h.server 0) e.life)
+    (rw (← e.servers) gone)
 control-same s t peer h e (OwnControl.misses named gone) =
-    OwnControl.misses named (rw (← e.servers) gone)
+    OwnControl.misses
+    (named ∙ ap (λ l. disconnect_as DisconnectReply l first_life h.client h.server 2) e.life)
+    (rw (← e.servers) gone)
 
 first-is : (s l : Lists) → Some s ≡ Some l → s ≡ l
 first-is s l e = cc

@@ -18,6 +18,7 @@ use Rattle.rpc_laws.specs.declared.tables.Queued.{Queued}
 use Rattle.rpc_laws.specs.AtMostOnce.{ends_call}
 use Rattle.rpc_laws.specs.Calls.{is_call, has_request, is_active}
 use Rattle.rpc_laws.specs.Front.{front_header, front_body}
+use Rattle.rpc_laws.specs.Lives.{first_life}
 use Rattle.rpc_laws.specs.NodeLists.{after, new_lists, asked_after}
 use Rattle.rpc_laws.specs.Pacing.{due_of}
 use Rattle.rpc_laws.specs.Sessions.{is_client, has_call, ends, clients_after}
@@ -274,7 +275,7 @@ ends-clean past s (f ∷ g) t k l = (
       (knows-after l.0 past s f k l.1) l.2,
 )
 
-pub knows-new : (me : ℕ) (limits : Limits) → Knows [] (new_lists me limits)
+pub knows-new : (me : ℕ) (limits : Limits) → Knows [] (new_lists me first_life limits)
 knows-new me limits = record {
   valid = valid_new me limits;
   queue = λ test. refl;
@@ -286,4 +287,5 @@ knows-new me limits = record {
 }
 
 pub ended : EndedCallsAreNotQueued
-ended p me limits g t r = ends-clean [] (new_lists me limits) g t.lists (knows-new me limits) (run_leads r)
+ended p me limits g t r = ends-clean [] (new_lists me first_life limits) g t.lists
+    (knows-new me limits) (run_leads r)

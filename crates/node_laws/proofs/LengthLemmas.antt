@@ -17,9 +17,10 @@ use Rattle.rpc_laws.specs.declared.tables.Way.{Way}
 use Rattle.rpc_laws.specs.Calls.{is_active, asked_packets}
 use Rattle.rpc_laws.specs.Packets.{client_packet, call_packet, ask_packet, server_packet}
 use Rattle.node_laws.proofs.TakenRights.{TakenRight}
+use Rattle.rpc_base.specs.declared.limits.TheConstants.{HEAD_BYTES}
 
 abbrev pub HasBody : Outgoing → Type 0
-HasBody out = HasLength out.packet (16 + length out.body)
+HasBody out = HasLength out.packet (HEAD_BYTES + length out.body)
 
 -- a client packet
 client-length : (b : Bool) (way : Way) (a : Asking) (r k : ℕ)
@@ -32,16 +33,25 @@ client-length : (b : Bool) (way : Way) (a : Asking) (r k : ℕ)
         session = way.other;
         number = k;
         request = r;
+        to_life = way.life;
       });
       body = part a.ask k;
     })
     (record {
       peer = way.peer;
       packet = Message
-          (record { kind = Rfr; req_type = 0; size = 0; session = way.other; number = k; request = r });
+          (record {
+            kind = Rfr;
+            req_type = 0;
+            size = 0;
+            session = way.other;
+            number = k;
+            request = r;
+            to_life = way.life;
+          });
       body = [];
     }))
-client-length true way a r k = ap (λ n. 16 + n) (length-part a.ask k)
+client-length true way a r k = ap (λ n. HEAD_BYTES + n) (length-part a.ask k)
 client-length false way a r k = refl
 
 call-length : (way : Way) (r k : ℕ) (c : Option Call) (out : Outgoing)
@@ -70,6 +80,7 @@ reply-by : (way : Way) (q : Served) (k : ℕ) (b : Bool) (answer : Option (List 
         session = way.other;
         number = k;
         request = q.number;
+        to_life = way.life;
       });
       body = [];
     })) (option_map
@@ -83,6 +94,7 @@ reply-by : (way : Way) (q : Served) (k : ℕ) (b : Bool) (answer : Option (List 
             session = way.other;
             number = k;
             request = q.number;
+            to_life = way.life;
           });
       body = part answer (k + 1 - packet_count q.size);
     }) answer)
@@ -93,7 +105,8 @@ reply-by way q k false (Some a) out t lt right h =
     let high = right.1 in
     let above = packet_count_above (length a) in
     let low : k + 1 - packet_count q.size < packet_count (length a) = omega arith in
-    subst HasBody (some-is _ out h) (subst (λ (n : ℕ). MessageLength Response (length a) k (16 + n))
+    subst HasBody (some-is _ out h)
+    (subst (λ (n : ℕ). MessageLength Response (length a) k (HEAD_BYTES + n))
     (sym (length-part a (k + 1 - packet_count q.size)))
     (response_length (length a) (k + 1 - packet_count q.size) k low))
 

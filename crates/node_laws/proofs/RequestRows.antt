@@ -21,6 +21,7 @@ use Rattle.rpc_outside.specs.PlainAnswer.{plain_mode}
 use Rattle.rpc_outside.specs.declared.service.Mode.TheVariants.{Background}
 use Rattle.rpc_laws.specs.Facts.{plain, with_bytes, with_two}
 use Rattle.rpc_laws.specs.Jobs.{jobs_after, no_jobs}
+use Rattle.rpc_laws.specs.Lives.{first_life}
 use Rattle.rpc_laws.specs.NodeLists.{new_lists}
 use Rattle.rpc_laws.specs.PollOrder.{asks_facts, finished_facts}
 use Rattle.rpc_laws.specs.Requests.{servers_after, server_end}
@@ -33,11 +34,25 @@ use Rattle.node_laws.specs.RequestHistory.{takes_newer, gives_request, answer_by
 
 -- the request: two bytes of type 130, which a worker reverses
 abbrev asking : (request : ℕ) → MessageHeader
-asking r = record { kind = Request; req_type = 130; size = 2; session = 0; number = 0; request = r }
+asking r =
+    record {
+      kind = Request;
+      req_type = 130;
+      size = 2;
+      session = 0;
+      number = 0;
+      request = r;
+      to_life = 1;
+    }
 
 -- node 4 with these sessions, jobs and queued packets
 abbrev node : List Server → Jobs → List Queued → Lists
-node servers jobs queued = record (new_lists 4 (with_ring 32)) { servers = servers; jobs = jobs; queued = queued }
+node servers jobs queued =
+    record (new_lists 4 first_life (with_ring 32)) {
+      servers = servers;
+      jobs = jobs;
+      queued = queued;
+    }
 
 -- a session of two credits
 abbrev paired : List Server
@@ -129,11 +144,12 @@ row-not-listed = refl
 row-newer-listed : is_listed 8 (slice_get newer 0) ≡ true
 row-newer-listed = refl
 
--- the facts: the datagram, its header of 16 bytes and its body, arrives, and is taken
+-- the facts: the datagram, its header of 20 bytes and its body, arrives, and is taken
 abbrev taken_facts : List Fact
 taken_facts =
     plain 4 (PairedServer 0 7 3 2) ∷ with_bytes 4 (Arrived 7)
-    (225 ∷ 0 ∷ 130 ∷ 0 ∷ 0 ∷ 2 ∷ 0 ∷ 0 ∷ 0 ∷ 0 ∷ 0 ∷ 0 ∷ 0 ∷ 0 ∷ 0 ∷ 0 ∷ 97 ∷ 98 ∷ [])
+    (226 ∷ 0 ∷ 130 ∷ 0 ∷ 0 ∷ 2 ∷ 0 ∷ 0 ∷ 0 ∷ 0 ∷ 0 ∷ 0 ∷ 0 ∷ 0 ∷ 0 ∷ 0 ∷ 0 ∷ 0 ∷ 0 ∷ 1
+    ∷ 97 ∷ 98 ∷ [])
     ∷ plain 4 (Took (Reply 0 0) 0) ∷ []
 
 abbrev ran_facts : List Fact

@@ -24,6 +24,7 @@ use Rattle.rpc_base.specs.declared.event.Event.TheVariants.{NcloseState, NcloseB
 use Rattle.rpc_base.specs.declared.event.Event.TheVariants.{NcallTooLarge, Arrived}
 use Rattle.rpc_base.specs.declared.event.Event.TheVariants.{Overflowed, Bad, Ran, Sent, Worked, Missed}
 use Rattle.rpc_base.specs.declared.fact.Fact.{Fact}
+use Rattle.rpc_base.specs.declared.limits.TheConstants.{HEAD_BYTES}
 use Rattle.rpc_base.specs.declared.owner.Owner.{Owner}
 use Rattle.rpc_base.specs.declared.owner.Owner.TheVariants.{Ask, Reply, Control as IsControl}
 use Rattle.rpc_base.specs.declared.state.SessionState.{SessionState}
@@ -47,6 +48,7 @@ use Rattle.rpc_laws.specs.Groups.{Asks, Connects, Disconnects, SetsRate, told_st
 use Rattle.rpc_laws.specs.Groups.{ask_by_state, shares, clients_spent, servers_spent, has_no_room}
 use Rattle.rpc_laws.specs.Groups.{refusal_by, connect_by, disconnect_by, pending}
 use Rattle.rpc_laws.specs.Jobs.{is_job}
+use Rattle.rpc_laws.specs.Lives.{first_life}
 use Rattle.rpc_laws.specs.NodeLists.{after, new_lists, new_node}
 use Rattle.rpc_laws.specs.Packets.{owner_packet}
 use Rattle.rpc_laws.specs.PollOrder.{answer_posted, awaited, awaited_of, Finishes, FinishesOne}
@@ -179,7 +181,7 @@ sent-by : (s : Lists) (out : Outgoing) (head : List ℕ) (owner : Owner) (number
     (due : Option ℕ)
     → slice_get s.queued 0 ≡ Some (record { owner = owner; number = number; due = due })
     → owner_packet s owner number ≡ Some out → InRange out.packet → HasHead out.packet head
-    → length head ≡ 16 → AreBytes head
+    → length head ≡ HEAD_BYTES → AreBytes head
     → AllowedBy s (Sent out.peer owner number) head out.body
 sent-by s out head (Ask n r) number due front own in_range has_head long bytes = record {
   due = due;
@@ -461,16 +463,17 @@ group-leads mode s x t v h =
 
 -- what a run says of its facts
 pub run_leads_by : {p : Serving} {me : ℕ} {limits : Limits} {g : List Fact} {t : Timed}
-    → NodeRun p me limits g t → LeadsBy (new_lists me limits) g t.lists
+    → NodeRun p me limits g t → LeadsBy (new_lists me first_life limits) g t.lists
 run_leads_by {p} {me} {limits} r =
-    groups-chain (Group p.mode) (group-leads p.mode) (new_node me limits)
+    groups-chain (Group p.mode) (group-leads p.mode) (new_node me first_life limits)
     (valid_new me limits) r.steps
 
 pub run_leads : {p : Serving} {me : ℕ} {limits : Limits} {g : List Fact} {t : Timed}
-    → NodeRun p me limits g t → Leads (new_lists me limits) g t.lists
-run_leads {p} {me} {limits} {g} {t} r = leads-of (new_lists me limits) g t.lists (run_leads_by r)
+    → NodeRun p me limits g t → Leads (new_lists me first_life limits) g t.lists
+run_leads {p} {me} {limits} {g} {t} r = leads-of (new_lists me first_life limits) g t.lists
+    (run_leads_by r)
 
 pub run_valid : {p : Serving} {me : ℕ} {limits : Limits} {g : List Fact} {t : Timed}
     → NodeRun p me limits g t → Valid t.lists
 run_valid {p} {me} {limits} {g} {t} r =
-    valid_leads (new_lists me limits) g t.lists (valid_new me limits) (run_leads r)
+    valid_leads (new_lists me first_life limits) g t.lists (valid_new me limits) (run_leads r)

@@ -36,6 +36,7 @@ use Rattle.rpc_laws.specs.ControlTable.{is_end_of, joined_row, named_end, opened
 use Rattle.rpc_laws.specs.ControlTable.{refused_row, reply_row, session_end, session_flushes}
 use Rattle.rpc_laws.specs.Facts.{plain}
 use Rattle.rpc_laws.specs.Groups.{has_no_room, servers_spent}
+use Rattle.rpc_laws.specs.Lives.{first_life}
 use Rattle.rpc_laws.specs.NodeLists.{after, after_all}
 use Rattle.rpc_laws.specs.Requests.{is_server, server_end}
 use Rattle.rpc_laws.specs.Sessions.{is_client}
@@ -219,10 +220,11 @@ module _ (clock : ℕ) (s : Lists) (valid : Valid s) (peer : ℕ) (h : ControlHe
   heard = after clock s (plain s.me Heard)
 
   ended-said : (o : Option Server) → named_end peer h.client h.server s.servers ≡ o
-      → Speaks s.me peer (disconnect_as DisconnectReply h 0) x
+      → Speaks s.me peer (disconnect_as DisconnectReply s.life first_life h.client h.server 0) x
       → AllAllowed clock (after_all clock heard (session_end s.me s.queued o)) x
   ended-said None e k =
-      speaks-allowed clock heard s.me peer (disconnect_as DisconnectReply h 0) x
+      speaks-allowed clock heard s.me peer
+      (disconnect_as DisconnectReply s.life first_life h.client h.server 0) x
       (OwnControl.ends refl e) k
   ended-said (Some w) e k =
       let slots = slots-flushed clock heard s.me s.queued w (0 ∷ 1 ∷ 2 ∷ 3 ∷ 4 ∷ 5 ∷ 6 ∷ 7 ∷ [])
@@ -235,10 +237,11 @@ module _ (clock : ℕ) (s : Lists) (valid : Valid s) (peer : ℕ) (h : ControlHe
       ∙ ap (λ l. after clock l ended) slots.flushes.same in
       let gone = gone-by peer h.client h.server s.servers w (few-there s valid) e in
       rw left (speaks-allowed clock (after clock flushed ended) s.me peer
-      (disconnect_as DisconnectReply h 0) x (OwnControl.ends refl gone) k)
+      (disconnect_as DisconnectReply s.life first_life h.client h.server 0) x
+      (OwnControl.ends refl gone) k)
 
   accepted-said : (t : ℕ) → t ≡ s.server_numbers
-      → Speaks s.me peer (connect_reply h (Some t) h.credits 0) x
+      → Speaks s.me peer (connect_reply s.life first_life h.client (Some t) h.credits 0) x
       → AllAllowed clock (after clock heard (plain s.me (Accepted t peer h.client h.credits))) x
   accepted-said t next k =
       let v = server_end t peer h.client h.credits in
@@ -249,33 +252,36 @@ module _ (clock : ℕ) (s : Lists) (valid : Valid s) (peer : ℕ) (h : ControlHe
       let ends : is_end_of peer h.client v ≡ true =
       rw (eq-eqb peer peer refl, eq-eqb h.client h.client refl) refl in
       speaks-allowed clock (after clock heard (plain s.me (Accepted t peer h.client h.credits))) s.me
-      peer (connect_reply h (Some t) h.credits 0) x
+      peer (connect_reply s.life first_life h.client (Some t) h.credits 0) x
       (OwnControl.confirms t v refl
       (push-found (is_server t) s.servers v none (eq-eqb t t refl)) ends) k
 
   pub row-said : (row : ControlRow) → Tied s peer h row
-      → SpeaksIf s.me peer (control_reply h row) x
+      → SpeaksIf s.me peer (control_reply s.life h row) x
       → AllAllowed clock (after_all clock heard (control_facts s peer h row)) x
   row-said Ignores tied k = rw k tt
   row-said (Confirms t credits) tied k =
-      let named : connect_reply h (Some t) credits 0
-      ≡ connect_reply h (Some t) tied.server.credits 0 =
-      ap (λ c. connect_reply h (Some t) c 0) tied.own in
-      speaks-allowed clock heard s.me peer (connect_reply h (Some t) credits 0) x
+      let named : connect_reply s.life first_life h.client (Some t) credits 0
+      ≡ connect_reply s.life first_life h.client (Some t) tied.server.credits 0 =
+      ap (λ c. connect_reply s.life first_life h.client (Some t) c 0) tied.own in
+      speaks-allowed clock heard s.me peer
+      (connect_reply s.life first_life h.client (Some t) credits 0) x
       (OwnControl.confirms t tied.server named tied.found tied.ends) k
   row-said Declines tied k =
       speaks-allowed clock (after clock heard (plain s.me (Declined peer h.client h.credits))) s.me
-      peer (connect_reply h None h.credits 1) x
+      peer (connect_reply s.life first_life h.client None h.credits 1) x
       (OwnControl.declines refl (record { unknown = tied.unknown; full = tied.full })) k
   row-said Starves tied k = rw k tt
   row-said (Accepts t) tied k = accepted-said t tied k
   row-said Ends tied k = ended-said (named_end peer h.client h.server s.servers) refl k
   row-said Misses tied k =
-      speaks-allowed clock heard s.me peer (disconnect_as DisconnectReply h 2) x
+      speaks-allowed clock heard s.me peer
+      (disconnect_as DisconnectReply s.life first_life h.client h.server 2) x
       (OwnControl.misses refl tied) k
   row-said (Connects t) tied k = rw k tt
   row-said Disowns tied k =
-      speaks-allowed clock heard s.me peer (disconnect_as DisconnectRequest h 0) x
+      speaks-allowed clock heard s.me peer
+      (disconnect_as DisconnectRequest s.life first_life h.client h.server 0) x
       (OwnControl.disowns tied.client
       (record { found = tied.opened.found; to_peer = tied.opened.to_peer }) refl tied.row) k
   row-said Fails tied k = rw k tt

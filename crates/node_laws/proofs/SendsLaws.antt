@@ -17,6 +17,7 @@ use Rattle.rpc_laws.specs.declared.tables.Queued.{Queued}
 use Rattle.rpc_laws.specs.declared.tables.Served.{Served}
 use Rattle.rpc_laws.specs.declared.tables.Server.{Server}
 use Rattle.rpc_laws.specs.BufferSafety.{SentRight, SpellsOwn}
+use Rattle.rpc_laws.specs.Lives.{first_life}
 use Rattle.rpc_laws.specs.NodeLists.{after, new_lists}
 use Rattle.rpc_laws.specs.Pacing.{due_of}
 use Rattle.rpc_laws.specs.Packets.{reply_packet, request_packet}
@@ -54,7 +55,7 @@ knows-after clock s f k a =
       reached = reached-after s k.valid k.standing k.reached f.event due f.first f.second a;
     }
 
-knows-new : (me : ℕ) (limits : Limits) → Knows (new_lists me limits)
+knows-new : (me : ℕ) (limits : Limits) → Knows (new_lists me first_life limits)
 knows-new me limits = record {
   valid = valid_new me limits;
   standing = λ t r e. refl;
@@ -132,11 +133,13 @@ sends-from s t u (f ∷ g) k l same = (
 
 pub sends_own : SendsItsOwn
 sends_own p me limits g t r =
-    λ other others same. sends-from (new_lists me limits) (new_lists other others) t.lists g
+    λ other others same. sends-from (new_lists me first_life limits)
+    (new_lists other first_life others) t.lists g
     (knows-new me limits) (run_leads_by r) (record {
       clients = refl;
       servers = refl;
       ring = refl;
       room = sym same;
+      life = refl;
       server_numbers = refl;
     })

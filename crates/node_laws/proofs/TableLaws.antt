@@ -14,6 +14,7 @@ use Rattle.rpc_laws.specs.declared.tables.Progress.{Progress}
 use Rattle.rpc_laws.specs.AtMostOnce.{begins_call, ends_call}
 use Rattle.rpc_laws.specs.Calls.{is_call}
 use Rattle.rpc_laws.specs.Front.{front_header, front_body}
+use Rattle.rpc_laws.specs.Lives.{first_life}
 use Rattle.rpc_laws.specs.NodeLists.{after, new_lists}
 use Rattle.rpc_laws.specs.Queues.{ring_after}
 use Rattle.rpc_laws.specs.Sessions.{is_client, has_call}
@@ -74,7 +75,7 @@ tells-after clock past s f k a = record {
       omega arith;
 }
 
-tells-new : (me : ℕ) (limits : Limits) → Tells [] (new_lists me limits)
+tells-new : (me : ℕ) (limits : Limits) → Tells [] (new_lists me first_life limits)
 tells-new me limits = record {
   knows = knows-new me limits;
   ring = refl;
@@ -174,4 +175,5 @@ at-end past s [] t k l = rw l (tells-table past s k)
 at-end past s (f ∷ g) t k l = at-end (f ∷ past) (after l.0 s f) g t (tells-after l.0 past s f k l.1) l.2
 
 pub table_tells : TablesTellTheHistory
-table_tells p me limits g t r = at-end [] (new_lists me limits) g t.lists (tells-new me limits) (run_leads r)
+table_tells p me limits g t r = at-end [] (new_lists me first_life limits) g t.lists
+    (tells-new me limits) (run_leads r)

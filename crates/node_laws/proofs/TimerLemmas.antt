@@ -35,6 +35,7 @@ use Rattle.rpc_laws.specs.GoBackN.{WatchesSession, numbers_in}
 use Rattle.rpc_laws.specs.NodeLists.{after, after_all}
 use Rattle.rpc_laws.specs.Queues.{flush_facts}
 use Rattle.rpc_laws.specs.Sessions.{is_client, has_call, is_live, breaks, ends}
+use Rattle.rpc_laws.specs.declared.tables.Way.{Way}
 use Rattle.node_laws.proofs.Allowed.{NoneQueued, NoneOf, MayRoll, MayBreak, MayLose, IsIn, AllAllowed}
 use Rattle.node_laws.proofs.FlushLemmas.{flushes-owner, calls-flushed, no-more-same}
 use Rattle.node_laws.proofs.LeadsLemmas.{valid_after_all, allowed-join, Lawful, lawful-goes}
@@ -207,27 +208,31 @@ speaks-allowed clock s me peer h x own k = rw k.facts (by k.taken)
     by false = (tt, tt)
 
 -- a session's own request names it
-pub own-names : (state : SessionState) (number other credits : ℕ) (h : ControlHeader)
-    → request_by state number other credits ≡ Some h → h.client ≡ number
-own-names Connecting number other credits h e =
+pub own-names : (own : ℕ) (state : SessionState) (way : Way) (credits : ℕ) (h : ControlHeader)
+    → request_by own state way credits ≡ Some h → h.client ≡ way.number
+own-names own Connecting way credits h e =
     let same : record {
       kind = ConnectRequest;
-      client = number;
+      client = way.number;
       server = None;
       credits = credits;
       status = 0;
+      from_life = own;
+      to_life = None;
     } ≡ h = cc in
     ap (λ (c : ControlHeader). c.client) (sym same)
-own-names Closing number other credits h e =
+own-names own Closing way credits h e =
     let same : record {
       kind = DisconnectRequest;
-      client = number;
-      server = Some other;
+      client = way.number;
+      server = Some way.other;
       credits = 0;
       status = 0;
+      from_life = own;
+      to_life = Some way.life;
     } ≡ h = cc in
     ap (λ (c : ControlHeader). c.client) (sym same)
-own-names _ number other credits h e = cc
+own-names own _ way credits h e = cc
 
 -- a session's own request is sent, or the session gives up
 module _ (clock : ℕ) (s : Lists) (me : ℕ) (x : Client)
@@ -245,31 +250,34 @@ module _ (clock : ℕ) (s : Lists) (me : ℕ) (x : Client)
   given-up-allowed IsBroken e = tt
   given-up-allowed Spent e = tt
 
-  asks-own : (h : ControlHeader) → own_request x ≡ Some h → OwnControl s x.way.peer h
+  asks-own : (h : ControlHeader) → own_request s.life x ≡ Some h → OwnControl s x.way.peer h
   asks-own h own =
-      let number = own-names x.state x.way.number x.way.other x.limit h own in
+      let number = own-names s.life x.state x.way x.limit h own in
       OwnControl.asks x
       (record { found = ap (λ n. find (is_client n) s.clients) number ∙ found; to_peer = refl }) own
 
-  retry-allowed : (h : ControlHeader) (row : RetryRow) (facts : List Fact) → own_request x ≡ Some h
+  retry-allowed : (h : ControlHeader) (row : RetryRow) (facts : List Fact)
+      → own_request s.life x ≡ Some h
       → RetriesBy row me x h facts → AllAllowed clock s facts
   retry-allowed h Rests facts own k = rw k tt
   retry-allowed h Asks facts own k =
       speaks-allowed clock s me x.way.peer h facts (asks-own h own) k
   retry-allowed h GivesUp facts own k = rw k (given-up-allowed x.state refl)
 
-  retries-as : (timeout : ℕ) (o : Option ControlHeader) (facts : List Fact) → own_request x ≡ o
+  retries-as : (timeout : ℕ) (o : Option ControlHeader) (facts : List Fact)
+      → own_request s.life x ≡ o
       → RetriesAs o clock timeout me x facts → AllAllowed clock s facts
   retries-as timeout None facts own k = rw k tt
   retries-as timeout (Some h) facts own k =
       retry-allowed h (retry_row clock timeout x.sends x.sent_at) facts own k
 
 retries-of : (clock timeout i : ℕ) (s : Lists) (me : ℕ) → Valid s → (o : Option Client)
-    → slice_get s.clients i ≡ o → (facts : List Fact) → RetriesOf clock timeout me o facts
+    → slice_get s.clients i ≡ o → (facts : List Fact) → RetriesOf clock timeout me s.life o facts
     → AllAllowed clock s facts
 retries-of clock timeout i s me v None at facts k = rw k tt
 retries-of clock timeout i s me v (Some x) at facts k =
-    retries-as clock s me x (numbered-found client_no 0 i s.clients x v.numbered at) timeout (own_request x) facts refl k
+    retries-as clock s me x (numbered-found client_no 0 i s.clients x v.numbered at) timeout
+    (own_request s.life x) facts refl k
 
 pub retries-lawful : (timeout i : ℕ) → Lawful (Retries timeout i)
 retries-lawful timeout i s x t v h =

@@ -25,6 +25,7 @@ use Rattle.rpc_laws.specs.declared.tables.Client.{Client}
 use Rattle.rpc_laws.specs.declared.tables.Lists.{Lists}
 use Rattle.rpc_laws.specs.Calls.{is_call, is_active, moved, begun, posted_up_to, sent_packet, took_reply, rolled_back}
 use Rattle.rpc_laws.specs.Front.{front_header, front_body, control_of}
+use Rattle.rpc_laws.specs.Lives.{first_life}
 use Rattle.rpc_laws.specs.NodeLists.{after, asked_after, new_lists}
 use Rattle.rpc_laws.specs.Posting.{is_taken}
 use Rattle.rpc_laws.specs.Sessions.{is_client, is_live, has_call, client_end, opened_end, comes_to}
@@ -333,7 +334,7 @@ valid_after clock s f v a = record {
   shared = shares-after clock s f v.shared a;
 }
 
-pub valid_new : (me : ℕ) (limits : Limits) → Valid (new_lists me limits)
+pub valid_new : (me : ℕ) (limits : Limits) → Valid (new_lists me first_life limits)
 valid_new me limits = record {
   numbered = tt;
   alone = λ t. at-most-one (leb 0 t);

@@ -24,7 +24,7 @@ asked room = clients_after 0 (Asked 0 0 1 room) (5 ∷ 6 ∷ []) None [] (client
 -- the session with the call, of which so much is got, posted and rolled back
 abbrev at : (room free got posted rolls mark : ℕ) → Client
 at room free got posted rolls mark = record {
-  way = record { number = 0; peer = 7; other = 3 };
+  way = record { number = 0; peer = 7; other = 3; life = 1 };
   state = Connected;
   limit = 2;
   free = free;
@@ -49,7 +49,7 @@ at room free got posted rolls mark = record {
 -- and without it
 abbrev over : Client
 over = record {
-  way = record { number = 0; peer = 7; other = 3 };
+  way = record { number = 0; peer = 7; other = 3; life = 1 };
   state = Connected;
   limit = 2;
   free = 2;
@@ -62,7 +62,16 @@ over = record {
 
 -- its answer, of two bytes
 abbrev response : MessageHeader
-response = record { kind = Response; req_type = 1; size = 2; session = 0; number = 0; request = 0 }
+response =
+    record {
+      kind = Response;
+      req_type = 1;
+      size = 2;
+      session = 0;
+      number = 0;
+      request = 0;
+      to_life = 1;
+    }
 
 -- it begins in slot 0, and posts its packet
 row-begins : clients_after 0 (Begun 0 0) [] None [] (asked 9) ≡ at 9 2 0 0 0 0 ∷ []
@@ -195,7 +204,16 @@ of_two free got = record (at 9 free got 2 0 0) {
 
 -- the credit return that answers its first packet
 abbrev credit_return : MessageHeader
-credit_return = record { kind = Cr; req_type = 0; size = 0; session = 0; number = 0; request = 0 }
+credit_return =
+    record {
+      kind = Cr;
+      req_type = 0;
+      size = 0;
+      session = 0;
+      number = 0;
+      request = 0;
+      to_life = 1;
+    }
 
 row-credit-return : client_row [] (Some (of_two 0 0)) 7 credit_return 0 ≡ Takes
 row-credit-return = refl

@@ -13,6 +13,7 @@ use Rattle.rpc_laws.specs.Deliveries.{Delivers}
 use Rattle.rpc_laws.specs.Facts.{plain}
 use Rattle.rpc_laws.specs.Groups.{Asks, Connects, Disconnects, SetsRate, client_refusal, server_refusal}
 use Rattle.rpc_laws.specs.Jobs.{is_job}
+use Rattle.rpc_laws.specs.Lives.{first_life}
 use Rattle.rpc_laws.specs.NodeLists.{new_node}
 use Rattle.rpc_laws.specs.PollOrder.{Poll}
 use Rattle.rpc_laws.specs.Service.{Serving, Answers}
@@ -67,7 +68,7 @@ pub data Group (mode : ℕ → Mode) (s : Timed) (x : List Fact) (t : Timed) : T
 -- stands before g
 pub record NodeRun (v : Serving) (me : ℕ) (limits : Limits) (g : List Fact) (t : Timed)
     : Type 0 where
-  pub steps : Chain (Group v.mode) (new_node me limits) g t
+  pub steps : Chain (Group v.mode) (new_node me first_life limits) g t
   pub worked_once : (session request : ℕ) → count_by (λ f. works_request session request f.event) g
       ≤ 1
   pub answers : Answers v [] g

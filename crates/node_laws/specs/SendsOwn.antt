@@ -5,6 +5,7 @@ use Rattle.rpc_base.specs.declared.fact.Fact.{Fact}
 use Rattle.rpc_base.specs.declared.limits.Limits.{Limits}
 use Rattle.rpc_laws.specs.declared.tables.Lists.{Lists}
 use Rattle.rpc_laws.specs.BufferSafety.{SentRight}
+use Rattle.rpc_laws.specs.Lives.{first_life}
 use Rattle.rpc_laws.specs.NodeLists.{after, new_lists}
 
 -- from these lists on, at whatever clocks the facts happen: no packet tells of a clock
@@ -17,4 +18,5 @@ SendsFrom s (f ∷ g) =
 -- its number or of another limit
 abbrev pub SendsOwn : (ring : ℕ) → List Fact → Type 0
 SendsOwn ring facts =
-    (me : ℕ) (limits : Limits) → limits.ring ≡ ring → SendsFrom (new_lists me limits) facts
+    (me : ℕ) (limits : Limits) → limits.ring ≡ ring
+    → SendsFrom (new_lists me first_life limits) facts

@@ -53,7 +53,7 @@ speaks-if-same me peer (Some h) x y a b v w = speaks-same me peer h x y a b v w
 -- what a row of the control rule gives, with what is sent
 record HeardAs (s : Lists) (peer : ℕ) (h : ControlHeader) (r : ControlRow) (x : List Fact) : Type 0 where
   said : List Fact
-  speaks : SpeaksIf s.me peer (control_reply h r) said
+  speaks : SpeaksIf s.me peer (control_reply s.life h r) said
   facts : x ≡ plain s.me Heard ∷ control_facts s peer h r ++ said
 
 row-heard-same : (s : Lists) (peer : ℕ) (h : ControlHeader) (r : ControlRow) (x y : List Fact)
@@ -63,7 +63,7 @@ row-heard-same s peer h r x y a b v w =
     let one : wants a.said ≡ false = wants-back front a.said (subst (λ (z : List Fact). wants z ≡ false) a.facts v) in
     let two : wants b.said ≡ false = wants-back front b.said (subst (λ (z : List Fact). wants z ≡ false) b.facts w) in
     a.facts ∙ (ap (λ (z : List Fact). front ++ z)
-    (speaks-if-same s.me peer (control_reply h r) a.said b.said a.speaks b.speaks one two)
+    (speaks-if-same s.me peer (control_reply s.life h r) a.said b.said a.speaks b.speaks one two)
     ∙ sym b.facts)
 
 -- with and without memory
@@ -116,11 +116,12 @@ retries-as None clock timeout me c x y a b v w = a ∙ sym b
 retries-as (Some h) clock timeout me c x y a b v w =
     retries-by (retry_row clock timeout c.sends c.sent_at) me c h x y a b v w
 
-retries-of : (clock timeout me : ℕ) (o : Option Client) (x y : List Fact)
-    → RetriesOf clock timeout me o x → RetriesOf clock timeout me o y → wants x ≡ false
+retries-of : (clock timeout me own : ℕ) (o : Option Client) (x y : List Fact)
+    → RetriesOf clock timeout me own o x → RetriesOf clock timeout me own o y → wants x ≡ false
     → wants y ≡ false → x ≡ y
-retries-of clock timeout me None x y a b v w = a ∙ sym b
-retries-of clock timeout me (Some c) x y a b v w = retries-as (own_request c) clock timeout me c x y a b v w
+retries-of clock timeout me own None x y a b v w = a ∙ sym b
+retries-of clock timeout me own (Some c) x y a b v w =
+    retries-as (own_request own c) clock timeout me c x y a b v w
 
 front-empty : (inbox : List Arrival) (a : Arrival) → slice_get inbox 0 ≡ Some a → inbox ≡ [] → ⊥
 front-empty [] a h e = cc
@@ -135,7 +136,7 @@ module _ (n : ℕ) where
 
   retries-once : (timeout i : ℕ) → Once n (Retries timeout i)
   retries-once timeout i served s x y t u m h k f g =
-      goes-once n s x y t u m h.goes k.goes (retries-of s.clock timeout s.lists.me
+      goes-once n s x y t u m h.goes k.goes (retries-of s.clock timeout s.lists.me s.lists.life
       (slice_get s.lists.clients i) x y h.facts k.facts f.whole g.whole)
 
   watches-once : (timeout i number : ℕ) → Once n (Watches timeout i number)

@@ -6,6 +6,7 @@ use Rattle.rpc_base.specs.declared.fact.Fact.{Fact}
 use Rattle.rpc_base.proofs.FirstLemmas.{all-each}
 use Rattle.rpc_laws.specs.declared.tables.Timed.{Timed}
 use Rattle.rpc_laws.specs.Facts.{plain}
+use Rattle.rpc_laws.specs.Lives.{first_life}
 use Rattle.rpc_laws.specs.NodeLists.{new_node}
 use Rattle.rpc_laws.specs.PollOrder.{FinishesOne, FinishesSome, Sends, SendsSome}
 use Rattle.rpc_outside.specs.declared.service.Mode.{Mode}
@@ -46,4 +47,4 @@ tells-group mode s x t (misses i h) = tells-note _ s x t h
 pub runs-told : RunsTellTheirBytes
 runs-told p me limits g t r =
     all-each IsSound IsTold g (λ f s. s.0)
-    (tells-chain (Group p.mode) (tells-group p.mode) (new_node me limits) r.steps)
+    (tells-chain (Group p.mode) (tells-group p.mode) (new_node me first_life limits) r.steps)

@@ -111,7 +111,8 @@ tells-hears =
       told-plain s.lists.me Heard,
       told-append facts h.said
           (told-control s.lists h.front.peer h.header row)
-          (told-speaks-if s.lists.me h.front.peer (control_reply h.header row) h.said h.speaks),
+          (told-speaks-if s.lists.me h.front.peer (control_reply s.lists.life h.header row) h.said
+          h.speaks),
     ))
 
 told-retries-by : (r : RetryRow) (me : ℕ) (c : Client) (h : ControlHeader) (x : List Fact)
@@ -128,15 +129,17 @@ told-retries-as None clock timeout me c x e = told-by x [] e tt
 told-retries-as (Some h) clock timeout me c x a =
     told-retries-by (retry_row clock timeout c.sends c.sent_at) me c h x a
 
-told-retries : (clock timeout me : ℕ) (o : Option Client) (x : List Fact)
-    → RetriesOf clock timeout me o x → AllSound x
-told-retries clock timeout me None x e = told-by x [] e tt
-told-retries clock timeout me (Some c) x a = told-retries-as (own_request c) clock timeout me c x a
+told-retries : (clock timeout me own : ℕ) (o : Option Client) (x : List Fact)
+    → RetriesOf clock timeout me own o x → AllSound x
+told-retries clock timeout me own None x e = told-by x [] e tt
+told-retries clock timeout me own (Some c) x a =
+    told-retries-as (own_request own c) clock timeout me c x a
 
 tells-session : (timeout i : ℕ) → Tells (TimesSession timeout i)
 tells-session timeout i =
     tells-then (Retries timeout i) (WatchesSession timeout i)
-    (λ s x t h. told-retries s.clock timeout s.lists.me (slice_get s.lists.clients i) x h.facts)
+    (λ s x t h. told-retries s.clock timeout s.lists.me s.lists.life
+    (slice_get s.lists.clients i) x h.facts)
     (λ s x t h. tells-each (Watches timeout i)
     (λ number v y u k. told-by y _ k.facts
     (told-client v.clock timeout v.lists.me v.lists.queued number

@@ -14,6 +14,7 @@ use Rattle.rpc_laws.specs.Deliveries.{Delivers}
 use Rattle.rpc_laws.specs.Facts.{of_net}
 use Rattle.rpc_laws.specs.Groups.{Asks, Connects, Disconnects, pair_refusal, SetsRate}
 use Rattle.rpc_laws.specs.InFlight.{flight_after_all}
+use Rattle.rpc_laws.specs.Lives.{first_life}
 use Rattle.rpc_laws.specs.NodeLists.{new_node}
 use Rattle.rpc_laws.specs.PollOrder.{PollBy, SendsAll}
 use Rattle.rpc_laws.specs.Service.{Answers, plain_serving}
@@ -204,10 +205,11 @@ one-work-all n served s x y t u m h k f g =
 one-makes : (ring : ℕ) → OneFrom (Makes ring)
 one-makes ring served s x y t u m h k f g =
     alike-by x y _ t u (record s {
-      nodes = s.nodes ++ new_node (length s.nodes) (with_ring ring)
+      nodes = s.nodes ++ new_node (length s.nodes) first_life (with_ring ring)
           ∷ [];
     }) h.facts k.facts h.left k.left
-    (add-all (λ j z. z.lists.me ≡ j) s.nodes (new_node (length s.nodes) (with_ring ring)) refl m)
+    (add-all (λ j z. z.lists.me ≡ j) s.nodes (new_node (length s.nodes) first_life (with_ring ring))
+    refl m)
 
 one-net : (e : Event) → OneFrom (OfNet e)
 one-net e served s x y t u m h k f g = alike-by x y _ t u _ h.facts k.facts h.left k.left m

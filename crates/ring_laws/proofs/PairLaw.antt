@@ -13,6 +13,7 @@ use Rattle.rpc_base.specs.declared.owner.Owner.TheVariants.{Ask}
 use Rattle.rpc_laws.specs.declared.tables.Lists.{Lists}
 use Rattle.rpc_laws.specs.BufferSafety.{changed}
 use Rattle.rpc_laws.specs.Facts.{plain, with_two}
+use Rattle.rpc_laws.specs.Lives.{first_life}
 use Rattle.rpc_laws.specs.NodeLists.{after, new_lists}
 use Rattle.rpc_laws.specs.Sessions.{client_end}
 use Rattle.node_laws.specs.Valid.{Valid}
@@ -87,7 +88,7 @@ pair-made w limits x r k h =
     let less = load-made (is_packet r k) w limits x in
     let most = h.0 in (
       omega arith,
-      λ some. made-stands w.nodes (new_lists (length w.nodes) limits) x.home
+      λ some. made-stands w.nodes (new_lists (length w.nodes) first_life limits) x.home
           x.client r k _ refl (h.1 (omega arith)),
     )
 

@@ -17,6 +17,7 @@ use Rattle.rpc_laws.specs.declared.tables.Served.{Served}
 use Rattle.rpc_laws.specs.declared.tables.Server.{Server}
 use Rattle.rpc_laws.specs.Facts.{plain}
 use Rattle.rpc_laws.specs.Front.{front_body}
+use Rattle.rpc_laws.specs.Lives.{first_life}
 use Rattle.rpc_laws.specs.NodeLists.{after, new_lists}
 use Rattle.rpc_laws.specs.Pacing.{due_of}
 use Rattle.rpc_laws.specs.Requests.{is_request, is_server, request_of}
@@ -55,7 +56,7 @@ replies-net w f who h =
 pub replies-made : (w : Moment) (limits : Limits) → AllRepliesStand w
     → AllRepliesStand (made_at w limits)
 replies-made w limits h =
-    add-placed RepliesStand w.nodes (new_lists (length w.nodes) limits)
+    add-placed RepliesStand w.nodes (new_lists (length w.nodes) first_life limits)
     (λ t r none. refl) h
 
 pub replies-node : (w : Moment) (n : ℕ) (l : Lists) (f : Fact) → AtNode w n l f → AllValid w

@@ -34,6 +34,7 @@ use Rattle.rpc_laws.specs.declared.tables.Lists.{Lists}
 use Rattle.rpc_laws.specs.declared.tables.Server.{Server}
 use Rattle.rpc_laws.specs.Facts.{plain}
 use Rattle.rpc_laws.specs.Front.{control_in, control_of, front_body, front_header, is_message}
+use Rattle.rpc_laws.specs.Lives.{first_life}
 use Rattle.rpc_laws.specs.NodeLists.{after, new_lists}
 use Rattle.rpc_laws.specs.OwnAnswer.{AtEach}
 use Rattle.rpc_laws.specs.Queues.{ring_after}
@@ -419,7 +420,7 @@ met-node w n l f a i v calm m =
 pub met-made : (w : Moment) (limits : Limits) → (m : Met w)
     → MetNext w (made_at w limits) m
 met-made w limits m =
-    let new = new_lists (length w.nodes) limits in
+    let new = new_lists (length w.nodes) first_life limits in
     let u = made_at w limits in
     let g = next-made w limits m.good in
     let kin : NodesKin w.nodes u.nodes = kin-more w.nodes new in

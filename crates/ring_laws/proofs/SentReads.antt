@@ -13,6 +13,7 @@ use Rattle.packet_header.specs.declared.packet.Packet.{Packet}
 use Rattle.packet_header.specs.declared.packet.Packet.TheVariants.{Message}
 use Rattle.packet_header.proofs.Heads.{decoded-append}
 use Rattle.rpc_base.proofs.TakingLemmas.{find-passes}
+use Rattle.rpc_base.specs.declared.limits.TheConstants.{HEAD_BYTES}
 use Rattle.rpc_base.specs.declared.owner.Owner.{Owner}
 use Rattle.rpc_base.specs.declared.owner.Owner.TheVariants.{Ask, Reply, Control}
 use Rattle.rpc_base.proofs.PlaceLemmas.{all-at}
@@ -57,13 +58,22 @@ client-out : (b : Bool) (way : Way) (a : Asking) (r k : ℕ)
         session = way.other;
         number = k;
         request = r;
+        to_life = way.life;
       });
       body = part a.ask k;
     })
     (record {
       peer = way.peer;
       packet = Message
-          (record { kind = Rfr; req_type = 0; size = 0; session = way.other; number = k; request = r });
+          (record {
+            kind = Rfr;
+            req_type = 0;
+            size = 0;
+            session = way.other;
+            number = k;
+            request = r;
+            to_life = way.life;
+          });
       body = [];
     }))
 client-out true way a r k =
@@ -124,6 +134,7 @@ server-out : (b : Bool) (way : Way) (q : Served) (k : ℕ) (answer : Option (Lis
         session = way.other;
         number = k;
         request = q.number;
+        to_life = way.life;
       });
       body = [];
     })) (option_map
@@ -137,6 +148,7 @@ server-out : (b : Bool) (way : Way) (q : Served) (k : ℕ) (answer : Option (Lis
             session = way.other;
             number = k;
             request = q.number;
+            to_life = way.life;
           });
       body = part answer (k + 1 - packet_count q.size);
     }) answer)
@@ -210,7 +222,7 @@ pub record Reads (l : Lists) (peer : ℕ) (o : Owner) (k : ℕ) (bytes : List �
   pub read : (h : MessageHeader) → out.packet ≡ Message h → message_of bytes ≡ Some h
 
 packet-read : (p : Packet) (head body : List ℕ) (h : MessageHeader) → InRange p → HasHead p head
-    → length head ≡ 16 → HasLength p (16 + length body) → p ≡ Message h
+    → length head ≡ HEAD_BYTES → HasLength p (HEAD_BYTES + length body) → p ≡ Message h
     → message_of (head ++ body) ≡ Some h
 packet-read p head body h range has long len e =
     ap message_in (decoded-append p head body range has long len) ∙ rw e refl

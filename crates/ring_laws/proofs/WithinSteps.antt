@@ -22,6 +22,7 @@ use Rattle.rpc_laws.specs.declared.tables.Lists.{Lists}
 use Rattle.rpc_laws.specs.BufferSafety.{changed, nodes_at}
 use Rattle.rpc_laws.specs.Facts.{plain, with_two}
 use Rattle.rpc_laws.specs.InFlight.{flight_after_net}
+use Rattle.rpc_laws.specs.Lives.{first_life}
 use Rattle.rpc_laws.specs.NodeLists.{after, new_lists}
 use Rattle.rpc_laws.specs.Pacing.{due_of}
 use Rattle.rpc_laws.specs.UsualLimits.{with_ring}
@@ -214,7 +215,7 @@ added-by f (z ∷ zs) l (suc k) none = added-by f zs l k none
 pub load-made : (p : Filter) (w : Moment) (limits : Limits) (x : Pairing)
     → load p x (made_at w limits) ≤ load p x w
 load-made p w limits x =
-    let new = new_lists (length w.nodes) limits in
+    let new = new_lists (length w.nodes) first_life limits in
     let c = added-by (client_packets p x.client) w.nodes new x.home (omega arith) in
     let s = added-by (server_packets p x.session) w.nodes new x.node (omega arith) in
     let none : cond {A = ℕ} ((length w.nodes == x.node) && false) 1 0 ≡ 0 =
@@ -224,7 +225,7 @@ load-made p w limits x =
 pub within-made : (w : Moment) (limits : Limits) (x : Pairing) → Within w x
     → Within (made_at w limits) x
 within-made w limits x h =
-    let new = new_lists (length w.nodes) limits in
+    let new = new_lists (length w.nodes) first_life limits in
     let c = load-made all w limits x in
     let f = added-by (of-free x) w.nodes new x.home refl in
     let k = added-by (of-limit x) w.nodes new x.home refl in

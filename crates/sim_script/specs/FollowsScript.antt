@@ -18,6 +18,7 @@ use Rattle.rpc_laws.specs.Deliveries.{Delivers}
 use Rattle.rpc_laws.specs.Facts.{plain, of_net}
 use Rattle.rpc_laws.specs.Groups.{Asks, Connects, Disconnects, SetsRate, pair_refusal}
 use Rattle.rpc_laws.specs.InFlight.{flight_after_all, flight_after_net}
+use Rattle.rpc_laws.specs.Lives.{first_life}
 use Rattle.rpc_laws.specs.NodeLists.{after, new_node}
 use Rattle.rpc_laws.specs.PollOrder.{PollBy, SendsAll}
 use Rattle.rpc_laws.specs.Service.{Answers, plain_serving}
@@ -54,7 +55,9 @@ pub record AtNode (P : Rel) (n : ℕ) (s : Stage) (x : List Fact) (t : Stage) : 
 -- node R: the next node is made, with a ring of R places, 64 jobs and a timeout of 5,000
 pub record Makes (ring : ℕ) (s : Stage) (x : List Fact) (t : Stage) : Type 0 where
   pub facts : x ≡ plain (length s.nodes) (Made ring) ∷ []
-  pub left : t ≡ record s { nodes = s.nodes ++ new_node (length s.nodes) (with_ring ring) ∷ [] }
+  pub left : t ≡ record s {
+    nodes = s.nodes ++ new_node (length s.nodes) first_life (with_ring ring) ∷ [];
+  }
 
 -- a node after one fact
 abbrev pub noted : Timed → Fact → Timed

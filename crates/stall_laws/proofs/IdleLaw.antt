@@ -23,6 +23,7 @@ use Rattle.rpc_laws.specs.Facts.{plain}
 use Rattle.rpc_laws.specs.Front.{front_header, front_body, is_message, is_control}
 use Rattle.rpc_laws.specs.Groups.{ask_by_state, state_of, pending, clients_spent, servers_spent}
 use Rattle.rpc_laws.specs.Groups.{has_no_room, shares, client_refusal, connect_by}
+use Rattle.rpc_laws.specs.Lives.{first_life}
 use Rattle.rpc_laws.specs.NodeLists.{after, after_all, new_node}
 use Rattle.rpc_laws.specs.PollOrder.{Handles, NoMoreToHandle, Poll, raised}
 use Rattle.rpc_laws.specs.Sessions.{is_client, is_connected, is_live, clients_after, client_end}
@@ -282,7 +283,7 @@ pub record AtRest (g : List Fact) (t : Timed) : Type 0 where
   pub rests : awaits_poll false g ≡ false → RestsNode t.lists
 
 pub run-rests : (mode : ℕ → Mode) (me : ℕ) (limits : Limits) (g : List Fact) (t : Timed)
-    → Chain (Group mode) (new_node me limits) g t → AtRest g t
+    → Chain (Group mode) (new_node me first_life limits) g t → AtRest g t
 run-rests mode me limits g t none = record {
   valid = valid_new me limits;
   ongoing = tt;

@@ -267,10 +267,11 @@ row-mild l peer c ClosesRow = (refl, tt)
 row-mild l peer c _ = tt
 
 hears-mild : (l : Lists) (peer : ℕ) (c : ControlHeader) (row : ControlRow) (said : List Fact)
-    → SpeaksIf l.me peer (control_reply c row) said → AllMild (control_facts l peer c row ++ said)
+    → SpeaksIf l.me peer (control_reply l.life c row) said
+    → AllMild (control_facts l peer c row ++ said)
 hears-mild l peer c row said s =
     all-append MildAt (control_facts l peer c row) said (row-mild l peer c row)
-    (says-mild l.me peer (control_reply c row) said s)
+    (says-mild l.me peer (control_reply l.life c row) said s)
 
 gives-mild : (me : ℕ) (state : SessionState) (number : ℕ)
     → AllMild (map (plain me) (given_up state number))
@@ -290,11 +291,11 @@ retries-as clock timeout me x None facts r = rw r tt
 retries-as clock timeout me x (Some c) facts r =
     retry-mild (retry_row clock timeout x.sends x.sent_at) me x c facts r
 
-retries-mild : (clock timeout me : ℕ) (x : Option Client) (facts : List Fact)
-    → RetriesOf clock timeout me x facts → AllMild facts
-retries-mild clock timeout me None facts r = rw r tt
-retries-mild clock timeout me (Some x) facts r =
-    retries-as clock timeout me x (own_request x) facts r
+retries-mild : (clock timeout me own : ℕ) (x : Option Client) (facts : List Fact)
+    → RetriesOf clock timeout me own x facts → AllMild facts
+retries-mild clock timeout me own None facts r = rw r tt
+retries-mild clock timeout me own (Some x) facts r =
+    retries-as clock timeout me x (own_request own x) facts r
 
 hears-keeps : Keeps HearsAll
 hears-keeps s x t v on h = mild-step s x t (hears-all-lawful s x t v h) (all-heard s x t h.steps) on
@@ -389,7 +390,8 @@ watches-keeps timeout i number s x t v on h =
 retries-keeps : (timeout i : ℕ) → Keeps (Retries timeout i)
 retries-keeps timeout i s x t v on h =
     mild-step s x t (retries-lawful timeout i s x t v h)
-    (retries-mild s.clock timeout s.lists.me (slice_get s.lists.clients i) x h.facts) on
+    (retries-mild s.clock timeout s.lists.me s.lists.life (slice_get s.lists.clients i) x h.facts)
+    on
 
 times-keeps : Keeps TimesAll
 times-keeps s x t v on h =

@@ -9,6 +9,7 @@ use Rattle.rpc_laws.specs.declared.tables.Client.{Client}
 use Rattle.rpc_laws.specs.declared.tables.Lists.{Lists}
 use Rattle.rpc_laws.specs.Facts.{plain}
 use Rattle.rpc_laws.specs.Front.{front_body, front_header}
+use Rattle.rpc_laws.specs.Lives.{first_life}
 use Rattle.rpc_laws.specs.NodeLists.{after, new_lists}
 use Rattle.rpc_laws.specs.Sessions.{is_connected}
 use Rattle.rpc_laws.specs.UsualLimits.{with_ring}
@@ -86,7 +87,7 @@ living-node w n l f a i v m =
 pub living-made : (w : Moment) (ring : ℕ) → Living w
     → Living (moved w (plain (length w.nodes) (Made ring)))
 living-made w ring m =
-    let new = new_lists (length w.nodes) (with_ring ring) in
+    let new = new_lists (length w.nodes) first_life (with_ring ring) in
     let u = moved w (plain (length w.nodes) (Made ring)) in
     let g = next-made w (with_ring ring) m.good in
     let kin : NodesKin w.nodes u.nodes = kin-more w.nodes new in

@@ -601,7 +601,7 @@ hears-orders hand s x t i h =
     subst (λ (y : List Fact). StepsFrom held nothing s.clock l1 (y ++ h.said) nothing)
     (heard-facts row s.clock h.front.peer h.header l)
     (hear-alone row held s.clock l1 h.front.peer h.header h.said i1 k may
-    (says-alone l.me h.front.peer (control_reply h.header row) h.said h.speaks)) in
+    (says-alone l.me h.front.peer (control_reply l.life h.header row) h.said h.speaks)) in
     rw h.facts (nothing, refl, alone Heard refl, steps)
 
 -- a call is rolled back
@@ -788,16 +788,16 @@ retries-as clock timeout me x None facts r = rw r tt
 retries-as clock timeout me x (Some c) facts r =
     retry-alone (retry_row clock timeout x.sends x.sent_at) me x c facts r
 
-retries-alone : (clock timeout me : ℕ) (x : Option Client) (facts : List Fact)
-    → RetriesOf clock timeout me x facts → AllByRecursion (IsAlone me) facts
-retries-alone clock timeout me None facts r = rw r tt
-retries-alone clock timeout me (Some x) facts r =
-    retries-as clock timeout me x (own_request x) facts r
+retries-alone : (clock timeout me own : ℕ) (x : Option Client) (facts : List Fact)
+    → RetriesOf clock timeout me own x facts → AllByRecursion (IsAlone me) facts
+retries-alone clock timeout me own None facts r = rw r tt
+retries-alone clock timeout me own (Some x) facts r =
+    retries-as clock timeout me x (own_request own x) facts r
 
 retries-orders : (timeout i : ℕ) → Orderly (Retries timeout i)
 retries-orders timeout i hand s x t inv h =
     steps-alone hand s.clock s.lists x
-    (retries-alone s.clock timeout s.lists.me (slice_get s.lists.clients i) x h.facts)
+    (retries-alone s.clock timeout s.lists.me s.lists.life (slice_get s.lists.clients i) x h.facts)
 
 session-orders : (timeout i : ℕ) → Orderly (TimesSession timeout i)
 session-orders timeout i =

@@ -6,6 +6,7 @@ use Rattle.rpc_base.specs.declared.state.SessionState.TheVariants.{Closed, Conne
 use Rattle.rpc_base.specs.declared.state.SessionState.TheVariants.{Closing as IsClosing}
 use Rattle.rpc_laws.specs.declared.tables.Client.{Client}
 use Rattle.rpc_laws.specs.Front.{control_of}
+use Rattle.rpc_laws.specs.Lives.{first_life}
 use Rattle.rpc_laws.specs.Sessions.{clients_told, comes_to, connects, is_connected, is_request_of}
 use Rattle.rpc_laws.specs.Sessions.{opened_end}
 use Rattle.rpc_laws.specs.Sessions.{requests}
@@ -327,7 +328,7 @@ reach-made : (h : List Fact) (w : Moment) (ring : ℕ) → Reach h w nothing
     (moved w (plain (length w.nodes) (Made ring))) nothing
 reach-made h w ring reach =
     let f = plain (length w.nodes) (Made ring) in
-    let new = new_lists (length w.nodes) (with_ring ring) in
+    let new = new_lists (length w.nodes) first_life (with_ring ring) in
     add-placed (HeldNode (h ++ f ∷ []) (moved w f) nothing) w.nodes new (λ s x is. absurd (cc))
     (λ j z at. keeps-all h (h ++ f ∷ []) w (moved w f) nothing nothing (λ i s y x here. keep i x.way) j z at
     (reach j z at))
@@ -341,7 +342,7 @@ reach-made h w ring reach =
     keep j way c r k (inl some) =
         let x = pair_of j way in
         let p = is_packet r k in
-        let new = new_lists (length w.nodes) (with_ring ring) in
+        let new = new_lists (length w.nodes) first_life (with_ring ring) in
         let a = added-by (client_packets p x.client) w.nodes new x.home (omega arith) in
         let b = added-by (server_packets p x.session) w.nodes new x.node (omega arith) in
         inl (omega arith)
@@ -419,7 +420,8 @@ newest-net : (w : Moment) (f : Fact) → f.who ≡ Net → AllNewest w → AllNe
 newest-net w f who k = subst (λ (ns : List Lists). Placed (λ j z. NewestNode z) ns) (sym (nodes-net w f who)) k
 
 newest-made : (w : Moment) (ring : ℕ) → AllNewest w → AllNewest (moved w (plain (length w.nodes) (Made ring)))
-newest-made w ring k = add-placed (λ j z. NewestNode z) w.nodes (new_lists (length w.nodes) (with_ring ring)) tt k
+newest-made w ring k = add-placed (λ j z. NewestNode z) w.nodes
+    (new_lists (length w.nodes) first_life (with_ring ring)) tt k
 
 -- a fact that is alone leaves nothing to be done
 step-alone : (hand : Option InFlight) (l : Lists) (first : List ℕ) (d : Due) (e : Event) (u : Due)

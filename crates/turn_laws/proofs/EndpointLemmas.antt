@@ -12,6 +12,7 @@ use Rattle.rpc_outside.specs.Served.{Served}
 use Rattle.rpc_outside.specs.declared.service.Service as Service
 use Rattle.rpc_laws.specs.declared.tables.Timed.{Timed}
 use Rattle.rpc_laws.specs.AtMostOnce.{works_request}
+use Rattle.rpc_laws.specs.Lives.{first_life}
 use Rattle.rpc_laws.specs.NodeLists.{new_node}
 use Rattle.rpc_laws.specs.PollOrder.{Poll}
 use Rattle.rpc_laws.specs.Service.{Answers, rules_of, served_after_all}
@@ -188,7 +189,8 @@ module _ {V W : Type 0} (service : Service.Ghosts V) (workers : Workers.Ghosts W
       let facts = noted-more ds d in
       let did : NodeDid (rules_of service) a.timed.lists.me limits (ds ++ d ∷ [])
       (seen workers b) = record {
-        steps = does-more service.mode_of ds d (new_node a.timed.lists.me limits) (seen workers a)
+        steps = does-more service.mode_of ds d (new_node a.timed.lists.me first_life limits)
+            (seen workers a)
             (seen workers b) h.did.steps step.does;
         worked_once = λ t r. subst
             (λ (y : List Fact). count_by (λ f. works_request t r f.event) y ≤ 1) (sym facts)

@@ -9,6 +9,7 @@ use Rattle.rpc_base.specs.declared.limits.Limits.{Limits}
 use Rattle.rpc_outside.specs.declared.service.Service as Service
 use Rattle.rpc_laws.specs.declared.tables.Timed.{Timed}
 use Rattle.rpc_laws.specs.Facts.{plain}
+use Rattle.rpc_laws.specs.Lives.{first_life}
 use Rattle.rpc_laws.specs.NodeLists.{new_node}
 use Rattle.rpc_laws.specs.Service.{served_after_all}
 use Rattle.end_laws.proofs.ListLemmas.{add-last}
@@ -47,8 +48,9 @@ module _ {V W : Type 0} (service : Service.Ghosts V) (workers : Workers.Ghosts W
   }
 
   -- what contracts see of a new endpoint is a new node
-  pub new-seen : (n : ℕ) (limits : Limits) (e : Running V W) → e.timed ≡ new_node n limits
-      → workers.out e.workers ≡ [] → seen workers e ≡ new_node n limits
+  pub new-seen : (n : ℕ) (limits : Limits) (e : Running V W) → e.timed
+      ≡ new_node n first_life limits
+      → workers.out e.workers ≡ [] → seen workers e ≡ new_node n first_life limits
   new-seen n limits e new out =
       ap (λ (o : List CrewJob). told o e.timed) out ∙ ap (λ (s : Timed). told [] s) new
 

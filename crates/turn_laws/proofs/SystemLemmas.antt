@@ -16,6 +16,7 @@ use Rattle.rpc_outside.specs.Served.{Served}
 use Rattle.rpc_laws.specs.declared.tables.InFlight.{InFlight}
 use Rattle.rpc_laws.specs.declared.tables.Timed.{Timed}
 use Rattle.rpc_laws.specs.Facts.{plain}
+use Rattle.rpc_laws.specs.Lives.{first_life}
 use Rattle.rpc_laws.specs.NodeLists.{new_node}
 use Rattle.rpc_laws.specs.Service.{Answers, Serving, served_after_all}
 use Rattle.rpc_laws.proofs.AnswerLemmas.{answers-append, served-append}
@@ -136,20 +137,21 @@ module _ (system : System) where
   -- the endpoints are made, one after another
   abbrev made_nodes : ℕ → List Timed
   made_nodes zero = []
-  made_nodes (suc n) = made_nodes n ++ new_node n (system.limits n) ∷ []
+  made_nodes (suc n) = made_nodes n ++ new_node n first_life (system.limits n) ∷ []
 
   many-made : (n : ℕ) → length (made_nodes n) ≡ n
   many-made zero = refl
   many-made (suc n) = omega (
     arith,
-    length-append (made_nodes n) (new_node n (system.limits n) ∷ []),
+    length-append (made_nodes n) (new_node n first_life (system.limits n) ∷ []),
     many-made n,
   )
 
-  made-placed : (n : ℕ) → Placed (λ i s. s ≡ new_node i (system.limits i)) (made_nodes n)
+  made-placed : (n : ℕ) → Placed (λ i s. s ≡ new_node i first_life (system.limits i)) (made_nodes n)
   made-placed zero = λ i s is. absurd (cc)
-  made-placed (suc n) = add-placed (λ i s. s ≡ new_node i (system.limits i)) (made_nodes n)
-      (new_node n (system.limits n)) (rw (many-made n) refl) (made-placed n)
+  made-placed (suc n) = add-placed (λ i s. s ≡ new_node i first_life (system.limits i))
+      (made_nodes n)
+      (new_node n first_life (system.limits n)) (rw (many-made n) refl) (made-placed n)
 
   made-steps : (n : ℕ) → WireSteps (parties_of system) (made_in system n)
       (record { nodes = made_nodes n; flight = [] })

@@ -6,6 +6,7 @@ use Rattle.rpc_outside.specs.declared.service.Mode.{Mode}
 use Rattle.rpc_outside.specs.Linking.{Carried}
 use Rattle.rpc_laws.specs.declared.tables.Timed.{Timed}
 use Rattle.rpc_laws.specs.AtMostOnce.{works_request}
+use Rattle.rpc_laws.specs.Lives.{first_life}
 use Rattle.rpc_laws.specs.NodeLists.{new_node}
 use Rattle.rpc_laws.specs.Service.{Serving, Answers}
 use Rattle.rpc_laws.specs.Steps.{Then}
@@ -44,7 +45,7 @@ noted_in (d ∷ ds) = d.noted ++ noted_in ds
 -- answer after what ran in the event loop before it
 pub record NodeDid (v : Serving) (me : ℕ) (limits : Limits) (ds : List Deed) (t : Timed)
     : Type 0 where
-  pub steps : DoesAll v.mode ds (new_node me limits) t
+  pub steps : DoesAll v.mode ds (new_node me first_life limits) t
   pub worked_once : (session request : ℕ)
       → count_by (λ f. works_request session request f.event) (noted_in ds) ≤ 1
   pub answers : Answers v [] (noted_in ds)

@@ -12,6 +12,7 @@ use Rattle.rpc_outside.specs.declared.service.Service as Service
 use Rattle.rpc_laws.specs.declared.tables.Timed.{Timed}
 use Rattle.rpc_laws.specs.Deliveries.{Delivers}
 use Rattle.rpc_laws.specs.Groups.{Asks, Connects, Disconnects, SetsRate}
+use Rattle.rpc_laws.specs.Lives.{first_life}
 use Rattle.rpc_laws.specs.NodeLists.{new_node}
 use Rattle.rpc_laws.specs.Service.{rules_of, served_after_all}
 use Rattle.rpc_laws.specs.Steps.{Rel}
@@ -95,7 +96,7 @@ pub record DoesMore {R V W : Type 0} (log : R → Log) (service : Service.Ghosts
 -- an endpoint that was just made did nothing yet
 abbrev pub NewDidNothing : {V W : Type 0} → Service.Ghosts V → Workers.Ghosts W → Type 0
 NewDidNothing {V} {W} service workers =
-    (me : ℕ) (limits : Limits) (e : Running V W) → e.timed ≡ new_node me limits
+    (me : ℕ) (limits : Limits) (e : Running V W) → e.timed ≡ new_node me first_life limits
     → workers.out e.workers ≡ [] → service.stands e.service []
     → IsStaffed workers.answer (staff_of workers e.workers) e.timed
     → EndpointDid service workers limits [] e

@@ -4,6 +4,7 @@ use Rattle.rpc_base.specs.declared.event.Event.TheVariants.{Made}
 use Rattle.rpc_base.specs.declared.fact.Fact.{Fact}
 use Rattle.rpc_outside.specs.declared.service.Service as Service
 use Rattle.rpc_laws.specs.Facts.{plain}
+use Rattle.rpc_laws.specs.Lives.{first_life}
 use Rattle.rpc_laws.specs.NodeLists.{new_node}
 use Rattle.end_laws.specs.JointRun.{Party, Joint, limits_of}
 use Rattle.end_laws.specs.WireRun.{WireRun}
@@ -30,7 +31,7 @@ abbrev pub NewEndpointsJoin : {V W : Type 0} → Service.Ghosts V → Workers.Gh
 NewEndpointsJoin {V} {W} service workers =
     (parties : ℕ → Party) (g : List Fact) (s : Joint) (ring : ℕ) (e : Running V W)
     → WireRun parties g s
-    → e.timed ≡ new_node (length s.nodes) (limits_of (parties (length s.nodes)) ring)
+    → e.timed ≡ new_node (length s.nodes) first_life (limits_of (parties (length s.nodes)) ring)
     → workers.out e.workers ≡ [] → service.stands e.service []
     → IsStaffed workers.answer (staff_of workers e.workers) e.timed
     → JoinsWire service workers parties g s ring e

@@ -25,6 +25,7 @@ use Rattle.rpc_laws.specs.Groups.{ask_by_state, Asks, client_refusal, clients_sp
 use Rattle.rpc_laws.specs.Groups.{Disconnects, has_no_room, pending, servers_spent, SetsRate, shares}
 use Rattle.rpc_laws.specs.Groups.{state_of}
 use Rattle.rpc_laws.specs.Jobs.{jobs_after}
+use Rattle.rpc_laws.specs.Lives.{first_life}
 use Rattle.rpc_laws.specs.NodeLists.{after, after_all, new_node}
 use Rattle.rpc_laws.specs.Sessions.{is_client, is_live}
 use Rattle.rpc_laws.specs.Steps.{Goes}
@@ -63,14 +64,15 @@ has-by s t w jobs h n r = h n r ∙ ap (λ (j : Jobs). jobs_of n r j.out) (sym j
 
 -- a new node has no jobs, nor have its workers
 pub new-knows : (me : ℕ) (limits : Limits) (worked : List WorkedJob) (w : Local)
-    → worked_of me worked ≡ [] → w.waiting ≡ [] → w.worked ≡ [] → KnowsWork worked (new_node me limits) w
+    → worked_of me worked ≡ [] → w.waiting ≡ [] → w.worked ≡ []
+    → KnowsWork worked (new_node me first_life limits) w
 new-knows me limits worked w none waits done = record {
   waits = ap (map parcel_name) waits;
   done = ap (map parcel_name) done ∙ ap (map worked_name) (sym none);
 }
 
 pub new-has : (me : ℕ) (limits : Limits) (w : Local) → w.waiting ≡ [] → w.worked ≡ []
-    → HasJobs (new_node me limits) w
+    → HasJobs (new_node me first_life limits) w
 new-has me limits w waits done n r =
     ap₂ (λ (a b : List Parcel). count_by (is_of_request n r) (a ++ b)) waits done
 
