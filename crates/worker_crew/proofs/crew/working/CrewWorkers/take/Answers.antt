@@ -41,3 +41,9 @@ returns-clause-keeps g c = elim c.match-self.branch [
       w.put_oldest.ensures.behind w.collect_first-found.ensures.same
       w.collect_first-found.ensures.none_back)
 ]
+
+pub returns-clause-out : goal.returns-clause-out
+returns-clause-out g c = elim c.match-self.branch [
+  | in-Alone w ↦ search rules
+  | in-ByHands w ↦ search rules
+]
