@@ -91,6 +91,7 @@ module _ (s : Session) (p : ActiveCall → Bool) (c : ActiveCall) (h : IsSession
     changed-session = record {
       number = h.number;
       server = h.server;
+      life = h.life;
       balanced = balanced;
       sound = h.sound;
       count = length-at_first p (λ x. d) s.active ∙ h.count;
@@ -150,6 +151,7 @@ module _ (s : Session) (p : ActiveCall → Bool) (c : ActiveCall) (h : IsSession
     ended-session = record {
       number = h.number;
       server = h.server;
+      life = h.life;
       balanced = balanced;
       sound = sound;
       count = omega (arith, length-without p c s.active e, busy, h.count);

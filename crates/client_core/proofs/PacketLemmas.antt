@@ -48,7 +48,7 @@ part-within pool c k p buf kept e at =
     rw size below
 
 -- the packet of an entry, by what is sent of it
-spelled-cases : (peer other size : ℕ) (ask : List ℕ) (c : ActiveCall) (k : ℕ) (head body : List ℕ)
+spelled-cases : (peer other life size : ℕ) (ask : List ℕ) (c : ActiveCall) (k : ℕ) (head body : List ℕ)
     (b : Bool) → HasHead (Message (cond b (record {
       kind = Request;
       req_type = c.req_type;
@@ -56,6 +56,7 @@ spelled-cases : (peer other size : ℕ) (ask : List ℕ) (c : ActiveCall) (k : �
       session = other;
       number = k;
       request = c.request;
+      to_life = life;
     }) (record {
       kind = Rfr;
       req_type = 0;
@@ -64,6 +65,7 @@ spelled-cases : (peer other size : ℕ) (ask : List ℕ) (c : ActiveCall) (k : �
       number =
           k;
       request = c.request;
+      to_life = life;
     }))) head → body ≡ cond b (part ask k) []
     → MessageInRange (cond b (record {
       kind = Request;
@@ -72,6 +74,7 @@ spelled-cases : (peer other size : ℕ) (ask : List ℕ) (c : ActiveCall) (k : �
       session = other;
       number = k;
       request = c.request;
+      to_life = life;
     })
     (record {
       kind = Rfr;
@@ -80,6 +83,7 @@ spelled-cases : (peer other size : ℕ) (ask : List ℕ) (c : ActiveCall) (k : �
       session = other;
       number = k;
       request = c.request;
+      to_life = life;
     })) → IsSpelled (Some (cond b (record {
       peer = peer;
       packet = Message (record {
@@ -89,25 +93,26 @@ spelled-cases : (peer other size : ℕ) (ask : List ℕ) (c : ActiveCall) (k : �
         session = other;
         number = k;
         request = c.request;
+        to_life = life;
       });
       body = part ask k;
     }) (record {
       peer = peer;
-      packet = Message (record { kind = Rfr; req_type = 0; size = 0; session = other; number = k; request = c.request });
+      packet = Message (record { kind = Rfr; req_type = 0; size = 0; session = other; number = k; request = c.request; to_life = life });
       body = [];
     }))) head body
-spelled-cases peer other size ask c k head body true h e r = (h, e, r)
-spelled-cases peer other size ask c k head body false h e r = (h, e, r)
+spelled-cases peer other life size ask c k head body true h e r = (h, e, r)
+spelled-cases peer other life size ask c k head body false h e r = (h, e, r)
 
 pub spelled : (pool : Pool) (s : Session) (e : EntryValue) (c : ActiveCall) (head body : List ℕ)
     → call_of s e ≡ Some c → HasSize c.len (buf_at pool c.ask)
-    → HasHead (Message (head_of s.server e.number c)) head
+    → HasHead (Message (head_of s.server s.life e.number c)) head
     → body ≡ cond (ltb e.number (packet_count c.len))
     (part (message_in (buf_at pool c.ask)) e.number) []
-    → MessageInRange (head_of s.server e.number c) → IsSpelled (packet_of pool s e) head body
+    → MessageInRange (head_of s.server s.life e.number c) → IsSpelled (packet_of pool s e) head body
 spelled pool s e c head body is size h same range =
     let long : length (message_in (buf_at pool c.ask)) ≡ c.len = message-length (buf_at pool c.ask) c.len size in
-    rw (is, long) (spelled-cases e.peer s.server c.len (message_in (buf_at pool c.ask)) c e.number
+    rw (is, long) (spelled-cases e.peer s.server s.life c.len (message_in (buf_at pool c.ask)) c e.number
     head body (ltb e.number (packet_count c.len)) h same range)
 
 -- the body of an entry without a place, and of one with a place

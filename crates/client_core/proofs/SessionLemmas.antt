@@ -66,6 +66,7 @@ pub left-session : (s : Session) (p : ActiveCall → Bool) → IsSession s
 left-session s p h = record {
   number = h.number;
   server = h.server;
+  life = h.life;
   balanced = h.balanced;
   sound = h.sound;
   count = length-at_first p one_left s.active ∙ h.count;
@@ -89,6 +90,7 @@ pub marked-session : (s : Session) (p : ActiveCall → Bool) (number now : ℕ) 
 marked-session s p number now h = record {
   number = h.number;
   server = h.server;
+  life = h.life;
   balanced = h.balanced;
   sound = h.sound;
   count = length-at_first p (marked number now) s.active ∙ h.count;
@@ -166,6 +168,7 @@ pub posted-session : (s : Session) (c : ActiveCall) → IsSession s → find can
 posted-session s c h e balanced = record {
   number = h.number;
   server = h.server;
+  life = h.life;
   balanced = balanced;
   sound = h.sound;
   count = length-at_first can_post one_posted s.active ∙ h.count;
@@ -286,6 +289,7 @@ module _ (s : Session) (r call : ℕ) (c : ActiveCall) (h : IsSession s) (same :
   begun-session turn new sound = record {
     number = h.number;
     server = h.server;
+    life = h.life;
     balanced = h.balanced;
     sound = sound;
     count = omega (arith, length-append s.active (c ∷ []), h.count, busy-more);

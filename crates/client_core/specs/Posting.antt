@@ -67,9 +67,9 @@ entry_at session peer k c =
 abbrev pub entry_of : (session peer : ℕ) → ActiveCall → EntryValue
 entry_of session peer c = entry_at session peer c.posted c
 
--- the header of packet k of a call
-abbrev pub head_of : (server k : ℕ) → ActiveCall → MessageHeader
-head_of server k c =
+-- the header of packet k of a call, which goes to the server session in this life of its endpoint
+abbrev pub head_of : (server life k : ℕ) → ActiveCall → MessageHeader
+head_of server life k c =
     if nat_lt k (packet_count c.len) then record {
       kind = Request;
       req_type = c.req_type;
@@ -77,6 +77,7 @@ head_of server k c =
       session = server;
       number = k;
       request = c.request;
+      to_life = life;
     }
     else record {
       kind = Rfr;
@@ -85,6 +86,7 @@ head_of server k c =
       session = server;
       number = k;
       request = c.request;
+      to_life = life;
     }
 
 -- the oldest call that may post does, where a credit is free

@@ -13,9 +13,10 @@ use Rattle.session_slots.specs.Slots.{Slots, IsSound, all_free, waited}
 use Rattle.client_core.specs.declared.call.ActiveCall.{ActiveCall}
 
 pub record Session : Type 0 where
-  -- the session's number here, and its number at the server
+  -- the session's number here, its number at the server, and the life of the server's endpoint
   pub number : ℕ
   pub server : ℕ
+  pub life : ℕ
   pub credits : Credits
   -- the eight slots, and the calls that wait for one
   pub slots : Slots
@@ -71,6 +72,7 @@ pub record IsInTurn (c : ActiveCall) : Type 0 where
 pub record IsSession (s : Session) : Type 0 where
   pub number : s.number < SESSION_NUMBERS
   pub server : s.server < SESSION_NUMBERS
+  pub life : 1 ≤ s.life
   pub balanced : IsBalanced s.credits
   pub sound : IsSound s.slots
   pub count : length s.active ≡ count_by is_some s.slots.slots
@@ -83,10 +85,11 @@ pub record IsSession (s : Session) : Type 0 where
   pub messages : AllByRecursion (λ w. IsMessage w.req.len) s.slots.waiting
 
 -- no call was taken
-abbrev pub new_session : ℕ → ℕ → ℕ → Session
-new_session number server credits = record {
+abbrev pub new_session : (number server life credits : ℕ) → Session
+new_session number server life credits = record {
   number = number;
   server = server;
+  life = life;
   credits = full_book credits;
   slots = all_free;
   active = [];

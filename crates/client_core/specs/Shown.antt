@@ -37,7 +37,7 @@ use Rattle.message_buffer.specs.Messages.{message_in}
 
 -- what never changes of the session
 abbrev pub way_of : ℕ → Session → Way
-way_of peer s = record { number = s.number; peer = peer; other = s.server }
+way_of peer s = record { number = s.number; peer = peer; other = s.server; life = s.life }
 
 -- what never changes of a call
 abbrev pub asking_of : Pool → ActiveCall → Asking

@@ -15,7 +15,7 @@ ghost use Rattle.client_core.specs.Posting.{entry_at, entry_of, head_of, marked,
 
 use crate::active::Active;
 use buffer_pool::BufferPool;
-use packet_header::{Kind, MessageHeader, count};
+use packet_header::{Kind, Life, MessageHeader, count};
 use packet_rings::Entry;
 use rpc_base::{
     CallNo, DropReason, Owner, PART_BYTES, Peer, Place, RequestNo, SESSION_NUMBERS, SessionNo,
@@ -287,16 +287,18 @@ impl ActiveCall {
     }
 
     /// The header of a packet that the call posted: a part of the request, and from then on a
-    /// request for a part of the answer.
-    pub fn head(&self, server: SessionNo, number: u16) -> MessageHeader
+    /// request for a part of the answer. It goes to the server session in this life of its
+    /// endpoint, which isn't 0.
+    pub fn head(&self, server: SessionNo, life: Life, number: u16) -> MessageHeader
         requires turn { IsInTurn self.now }
         requires posted { number < self.now.posted }
         requires server { server < SESSION_NUMBERS }
-        ensures head { result ≡ head_of server number self.now }
+        requires life { 1 ≤ life }
+        ensures head { result ≡ head_of server life number self.now }
         ensures in_range { MessageInRange result }
     {
         if u32::from(number) < count(self.len) {
-            part_head(self.req_type, self.len, server, number, self.request)
+            part_head(self.req_type, self.len, server, life, number, self.request)
         } else {
             MessageHeader {
                 kind: Kind::Rfr,
@@ -305,6 +307,7 @@ impl ActiveCall {
                 session: server,
                 number,
                 request: self.request,
+                to_life: life,
             }
         }
     }
@@ -344,11 +347,13 @@ fn part_head(
     req_type: u8,
     size: u32,
     session: SessionNo,
+    life: Life,
     number: u16,
     request: RequestNo,
 ) -> MessageHeader
     requires size { IsMessage size }
     requires session { session < SESSION_NUMBERS }
+    requires life { 1 ≤ life }
     requires number { number < packet_count size }
     ensures head { result ≡ record {
       kind = Request;
@@ -357,6 +362,7 @@ fn part_head(
       session = session;
       number = number;
       request = request;
+      to_life = life;
     } }
     ensures in_range { MessageInRange result }
 {
@@ -367,6 +373,7 @@ fn part_head(
         session,
         number,
         request,
+        to_life: life,
     }
 }
 

@@ -6,6 +6,7 @@ ghost use Rattle.std.specs.Prelude.{◌-◌, IfSome, IsNone, IsTrue, OnErr, OnOk
 ghost use Rattle.std.specs.Prelude.{slice_get};
 ghost use Rattle.std.specs.List.{list_any};
 ghost use Rattle.packet_header.specs.Header.{AreBytes};
+ghost use Rattle.rpc_laws.specs.Lives.{first_life};
 ghost use Rattle.buffer_pool.specs.Pool.{Pool, spare_of};
 ghost use Rattle.credit_book.specs.Credits.{limit_of};
 ghost use Rattle.rpc_laws.specs.Posting.{beginning, posting};
@@ -39,7 +40,7 @@ use crate::call::ActiveCall;
 use crate::calls::Calls;
 use buffer_pool::BufferPool;
 use credit_book::CreditBook;
-use packet_header::{Packet, encode};
+use packet_header::{Life, Packet, encode};
 use packet_rings::Entry;
 use rpc_base::{
     CallNo, HEAD_BYTES, MOST_CALLS, MOST_CREDITS, MOST_MESSAGE_BYTES, Peer, RequestNo,
@@ -55,6 +56,8 @@ use std::marker::Model;
 pub struct ClientSession {
     number: SessionNo,
     server: SessionNo,
+    // The life of the server's endpoint.
+    life: Life,
     credits: CreditBook,
     slots: SlotTable,
     calls: Calls,
@@ -70,6 +73,7 @@ impl Model for ClientSession {
     ghost view = { λ s. record {
       number = s.number;
       server = s.server;
+      life = s.life;
       credits = s.credits;
       slots = s.slots;
       active = s.calls;
@@ -78,6 +82,7 @@ impl Model for ClientSession {
     ghost invariant = { λ s. (s.waiting ≡ length s.slots.waiting) × IsSession (record {
       number = s.number;
       server = s.server;
+      life = s.life;
       credits = s.credits;
       slots = s.slots;
       active = s.calls;
@@ -85,21 +90,30 @@ impl Model for ClientSession {
 }
 
 impl ClientSession {
-    /// A session with no call, by its number here and at the server, each below 65,535. All its
-    /// `credits`, 1 to 256, are free. It takes no memory yet; `enqueue` takes its own from `alloc`.
-    pub fn new(alloc: Global, session: SessionNo, server: SessionNo, credits: u16) -> ClientSession
+    /// A session with no call, by its number here and at the server, each below 65,535, with a
+    /// server's endpoint of this life, which isn't 0. All its `credits`, 1 to 256, are free. It
+    /// takes no memory yet; `enqueue` takes its own from `alloc`.
+    pub fn new(
+        alloc: Global,
+        session: SessionNo,
+        server: SessionNo,
+        life: Life,
+        credits: u16,
+    ) -> ClientSession
         requires session { session < SESSION_NUMBERS }
         requires server { server < SESSION_NUMBERS }
+        requires life { 1 ≤ life }
         requires some { 1 ≤ credits }
         requires most { credits ≤ MOST_CREDITS }
-        ensures session { result ≡ new_session session server credits }
+        ensures session { result ≡ new_session session server life credits }
         ensures keeps_pool { (pool : Pool) → KeepsPool pool result.active }
-        ensures step { (pool : Pool) → (clock peer : ℕ)
+        ensures step { life ≡ first_life → (pool : Pool) → (clock peer : ℕ)
             → paired clock session server peer credits ≡ shown pool peer result ∷ [] }
     {
         ClientSession {
             number: session,
             server,
+            life,
             credits: CreditBook::new(credits),
             slots: SlotTable::new(alloc),
             calls: Calls::new(),
@@ -119,6 +133,13 @@ impl ClientSession {
         ensures { result ≡ self.now.server }
     {
         self.server
+    }
+
+    /// The life of the server's endpoint.
+    pub fn life(&self) -> Life
+        ensures { result ≡ self.now.life }
+    {
+        self.life
     }
 
     /// How many credits are free.
@@ -350,7 +371,7 @@ impl ClientSession {
         let Some(call) = self.calls.of_owner(self.number, entry.owner) else {
             unreachable!()
         };
-        let header = call.head(self.server, entry.number);
+        let header = call.head(self.server, self.life, entry.number);
         encode(&Packet::Message(header), head);
         match entry.place {
             None => &[],

@@ -1,13 +1,14 @@
 //! "The control rule" of docs/PROTOCOL.md, over what a node has of the sessions that a control
 //! packet names.
 ghost use Rattle.std.specs.Prelude.{◌≡◌, Bool, None, Some};
+ghost use Rattle.rpc_laws.specs.Lives.{first_life};
 ghost use Rattle.rpc_laws.specs.ControlTable.{connect_reply, connect_row, control_reply};
 ghost use Rattle.rpc_laws.specs.ControlTable.{control_row, disconnect_as, joined_row, over_row, refused_row};
 ghost use Rattle.rpc_laws.specs.declared.tables.Lists.{Lists};
 ghost use Rattle.session_mgmt.specs.Control.{HasCause, HasOwnCause, accepts, found_in};
 ghost use Rattle.session_mgmt.specs.Control.{opened_to, starved_if};
 
-use packet_header::{ACCEPTED, ControlHeader, ControlKind, GONE, NO_ROOM};
+use packet_header::{ACCEPTED, ControlHeader, ControlKind, FIRST_LIFE, GONE, Life, NO_ROOM};
 use rpc_base::{Peer, SESSION_NUMBERS, SessionNo, SessionState};
 use rpc_laws::ControlRow;
 
@@ -158,14 +159,15 @@ pub fn control_row(peer: Peer, head: &ControlHeader, found: &Found) -> ControlRo
     }
 }
 
-// A connect reply, which names the same client session.
+// A connect reply of an endpoint of life `own`, which names the same client session.
 fn connect_reply(
+    own: Life,
     head: &ControlHeader,
     server: Option<SessionNo>,
     credits: u16,
     status: u8,
 ) -> ControlHeader
-    ensures { result ≡ connect_reply head.now server credits status }
+    ensures { result ≡ connect_reply own first_life head.now.client server credits status }
 {
     ControlHeader {
         kind: ControlKind::ConnectReply,
@@ -173,12 +175,14 @@ fn connect_reply(
         server,
         credits,
         status,
+        from_life: own,
+        to_life: Some(Life(FIRST_LIFE)),
     }
 }
 
-// A packet of this kind that names the same sessions.
-fn disconnect_as(kind: ControlKind, head: &ControlHeader, status: u8) -> ControlHeader
-    ensures { result ≡ disconnect_as kind head.now status }
+// A packet of this kind, which names the same sessions.
+fn disconnect_as(kind: ControlKind, own: Life, head: &ControlHeader, status: u8) -> ControlHeader
+    ensures { result ≡ disconnect_as kind own first_life head.now.client head.now.server status }
 {
     ControlHeader {
         kind,
@@ -186,29 +190,33 @@ fn disconnect_as(kind: ControlKind, head: &ControlHeader, status: u8) -> Control
         server: head.server,
         credits: 0,
         status,
+        from_life: own,
+        to_life: Some(Life(FIRST_LIFE)),
     }
 }
 
-/// The packet that answers a control packet handled by this row, to its sender. `None` comes
-/// exactly where none does.
-pub fn control_reply(head: &ControlHeader, row: &ControlRow) -> Option<ControlHeader>
-    ensures { result ≡ control_reply head.now row.now }
+/// The packet that answers a control packet handled by this row, from an endpoint of life `own` to
+/// its sender. `None` comes exactly where none does.
+pub fn control_reply(own: Life, head: &ControlHeader, row: &ControlRow) -> Option<ControlHeader>
+    ensures { result ≡ control_reply own head.now row.now }
 {
     match *row {
         ControlRow::Ignores => None,
         ControlRow::Confirms { server, credits } => {
-            Some(connect_reply(head, Some(server), credits, ACCEPTED))
+            Some(connect_reply(own, head, Some(server), credits, ACCEPTED))
         }
-        ControlRow::Declines => Some(connect_reply(head, None, head.credits, NO_ROOM)),
+        ControlRow::Declines => Some(connect_reply(own, head, None, head.credits, NO_ROOM)),
         ControlRow::Starves => None,
         ControlRow::Accepts { server } => {
-            Some(connect_reply(head, Some(server), head.credits, ACCEPTED))
+            Some(connect_reply(own, head, Some(server), head.credits, ACCEPTED))
         }
-        ControlRow::Ends => Some(disconnect_as(ControlKind::DisconnectReply, head, ACCEPTED)),
-        ControlRow::Misses => Some(disconnect_as(ControlKind::DisconnectReply, head, GONE)),
+        ControlRow::Ends => {
+            Some(disconnect_as(ControlKind::DisconnectReply, own, head, ACCEPTED))
+        }
+        ControlRow::Misses => Some(disconnect_as(ControlKind::DisconnectReply, own, head, GONE)),
         ControlRow::Connects { .. } => None,
         ControlRow::Disowns => {
-            Some(disconnect_as(ControlKind::DisconnectRequest, head, ACCEPTED))
+            Some(disconnect_as(ControlKind::DisconnectRequest, own, head, ACCEPTED))
         }
         ControlRow::Fails => None,
         ControlRow::Closes => None,

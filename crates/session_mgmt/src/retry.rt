@@ -3,37 +3,36 @@
 ghost use Rattle.std.specs.Prelude.{◌≡◌};
 ghost use Rattle.rpc_laws.specs.ControlSteps.{request_by, retry_row};
 
-use packet_header::{ACCEPTED, ControlHeader, ControlKind};
-use rpc_base::{SessionNo, SessionState};
-use rpc_laws::RetryRow;
+use packet_header::{ACCEPTED, ControlHeader, ControlKind, Life};
+use rpc_base::SessionState;
+use rpc_laws::{RetryRow, Way};
 
 /// A session sends its own request so many times.
 const MOST_SENDS: u64 = 9;
 
-/// The own request of the client session of this number, in this state, with these credits and the
-/// peer's number of it. `None` comes exactly where it is neither Connecting nor Closing.
-pub fn own_request(
-    state: SessionState,
-    number: SessionNo,
-    server: SessionNo,
-    credits: u16,
-) -> Option<ControlHeader>
-    ensures { result ≡ request_by state number server credits }
+/// The own request of a client session of an endpoint of life `own`, in this state, with this way
+/// and these credits. `None` comes exactly where it is neither Connecting nor Closing.
+pub fn own_request(own: Life, state: SessionState, way: &Way, credits: u16) -> Option<ControlHeader>
+    ensures { result ≡ request_by own state way.now credits }
 {
     match state {
         SessionState::Connecting => Some(ControlHeader {
             kind: ControlKind::ConnectRequest,
-            client: number,
+            client: way.number,
             server: None,
             credits,
             status: ACCEPTED,
+            from_life: own,
+            to_life: None,
         }),
         SessionState::Closing => Some(ControlHeader {
             kind: ControlKind::DisconnectRequest,
-            client: number,
-            server: Some(server),
+            client: way.number,
+            server: Some(way.other),
             credits: 0,
             status: ACCEPTED,
+            from_life: own,
+            to_life: Some(way.life),
         }),
         SessionState::Unknown
         | SessionState::Connected

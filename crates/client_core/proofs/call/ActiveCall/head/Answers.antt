@@ -10,4 +10,5 @@ returns-else-from-count-clause-in_range c =
       size = (omega arith, omega arith);
       session = (omega arith, omega arith);
       number = number;
+      to_life = (omega arith, omega arith);
     }

@@ -46,14 +46,15 @@ returns-in-None-clause-spelled c =
     let is : call_of c.args.self.now c.args.entry.now ≡ Some c.in-Some.call.now =
     rw (← c.self.view_is, ← c.entry.view_is) (sym c.in-Some.ensures) in
     let server : c.self.inside.server ≡ c.args.self.now.server = ap (λ s. s.server) c.self.view_is in
+    let life : c.self.inside.life ≡ c.args.self.now.life = ap (λ s. s.life) c.self.view_is in
     let number : c.entry.inside.number ≡ c.args.entry.now.number = ap (λ e. e.number) c.entry.view_is in
-    let head = rw (c.head-header.ensures.head, server, number) at c.encode.ensures.head in
+    let head = rw (c.head-header.ensures.head, server, life, number) at c.encode.ensures.head in
     let body = no-body c.in-Some.call.now c.entry.inside.number
     (part (message_in (buf_at c.args.pool.now c.in-Some.call.now.ask))
     c.entry.inside.number) (sym c.in-None.is ∙ posted.1) in
     spelled c.args.pool.now c.args.self.now c.args.entry.now c.in-Some.call.now c.encode.new.out _
     is kept.size head (rw number at body)
-    (rw (c.head-header.ensures.head, server, number) at c.head-header.ensures.in_range)
+    (rw (c.head-header.ensures.head, server, life, number) at c.head-header.ensures.in_range)
 
 pub returns-in-Some-place-clause-spelled : goal.returns-in-Some-place-clause-spelled
 returns-in-Some-place-clause-spelled c =
@@ -64,12 +65,13 @@ returns-in-Some-place-clause-spelled c =
     let is : call_of c.args.self.now c.args.entry.now ≡ Some c.in-Some.call.now =
     rw (← c.self.view_is, ← c.entry.view_is) (sym c.in-Some.ensures) in
     let server : c.self.inside.server ≡ c.args.self.now.server = ap (λ s. s.server) c.self.view_is in
+    let life : c.self.inside.life ≡ c.args.self.now.life = ap (λ s. s.life) c.self.view_is in
     let number : c.entry.inside.number ≡ c.args.entry.now.number = ap (λ e. e.number) c.entry.view_is in
-    let head = rw (c.head-header.ensures.head, server, number) at c.encode.ensures.head in
+    let head = rw (c.head-header.ensures.head, server, life, number) at c.encode.ensures.head in
     let part_is = rw c.from.ensures at c.packet.ensures.part in
     let body = part-body c.args.pool.now c.in-Some.call.now c.entry.inside.number
     c.in-Some-place.place c.get.result.now c.packet.result.1.now
     (sym c.in-Some-place.is ∙ posted.1) c.get.ensures part_is in
     spelled c.args.pool.now c.args.self.now c.args.entry.now c.in-Some.call.now c.encode.new.out _
     is kept.size head (rw number at body)
-    (rw (c.head-header.ensures.head, server, number) at c.head-header.ensures.in_range)
+    (rw (c.head-header.ensures.head, server, life, number) at c.head-header.ensures.in_range)
