@@ -1,5 +1,5 @@
 -- A request begins whose answer is written over the older one of its slot, at the same place.
-use Rattle.std.proofs.Common.{◌≡◌, ◌≢◌, ℕ, ◌+◌, ◌%◌, ◌<◌, ◌≤◌, cond, eqb, Some, None, List}
+use Rattle.std.proofs.Common.{◌≡◌, ◌≢◌, ℕ, ◌+◌, ◌%◌, ◌<◌, ◌≤◌, true, cond, eqb, Some, None, List}
 use Rattle.std.proofs.Common.{[], ◌∷◌, ◌++◌, refl, sym, ap, ◌∙◌, subst, arith}
 use Rattle.message_buffer.specs.Buffer.{Buffer, bytes_of}
 use Rattle.message_buffer.specs.Messages.{HasSize}
@@ -16,6 +16,7 @@ use Rattle.rpc_base.specs.Tables.{without_first}
 use Rattle.rpc_base.proofs.ChangedLemmas.{sum-without}
 use Rattle.rpc_laws.specs.Requests.{answered}
 use Rattle.server_core.specs.Flushing.{HoldsAll, without_newest}
+use Rattle.server_core.specs.Homes.{HasOwn}
 use Rattle.server_core.specs.KeepsPool.{KeepsPool, KeepsSpare, LeavesOthers, answer_names}
 use Rattle.server_core.specs.KeepsPool.{answer_places, ask_places, names, own_places}
 use Rattle.server_core.specs.Replies.{IsReplyIn, entry_at}
@@ -62,7 +63,7 @@ answered-ask (Answered b) a is = refl
 
 -- the request, and the pool with its answer, which is held
 abbrev pub again_request : MessageHeader → (size p : ℕ) → SlotRequest
-again_request h size p = first_answered h (record { place = p; size = size })
+again_request h size p = first_answered h (record { place = p; size = size; own = true })
 
 abbrev pub again_in : ℕ → Buffer → Pool → Pool
 again_in p b pool = held p (changed p b pool)
@@ -74,7 +75,7 @@ one-again p b pool = record {
 }
 
 module _ (pool : Pool) (s : Session) (head : MessageHeader) (size p : ℕ)
-    (reuse : IsReusable pool size p (newest head.request s)) where
+    (reuse : IsReusable p (newest head.request s)) where
   pub again-others : (b : Buffer)
       → LeavesOthers s.slots (begun (again_request head size p) s.slots) pool (again_in p b pool)
   again-others b = λ q none used.
@@ -85,7 +86,7 @@ module _ (pool : Pool) (s : Session) (head : MessageHeader) (size p : ℕ)
       (begun-names q s.slots (again_request head size p) none (omega (arith, off)), same.use_is, same.buf_is)
 
 module _ (pool : Pool) (s : Session) (head : MessageHeader) (size p : ℕ)
-    (reuse : IsReusable pool size p (newest head.request s)) where
+    (reuse : IsReusable p (newest head.request s)) where
   abbrev d : SlotRequest
   d = again_request head size p
 
@@ -97,7 +98,7 @@ module _ (pool : Pool) (s : Session) (head : MessageHeader) (size p : ℕ)
       (begun d (listed (newest head.request s))) pool (again_in p b pool)
   again-leaves b =
       again-others pool (only head.request s) head size p
-      (subst (IsReusable pool size p) (sym (only-newest head.request s)) reuse) b
+      (subst (IsReusable p) (sym (only-newest head.request s)) reuse) b
 
   module _ (keeps : KeepsPool pool s.slots) where
     beside : IsBeside pool reuse.older rest
@@ -105,6 +106,10 @@ module _ (pool : Pool) (s : Session) (head : MessageHeader) (size p : ℕ)
 
     pub again-full : IsFull pool p
     again-full = rw (← reuse.place_is) (kept-answer pool reuse.older reuse.answer beside.own reuse.answer_is).full
+
+    -- in the slot's own buffer
+    pub again-own : HasOwn true (buf_at pool p)
+    again-own = rw (← reuse.place_is) ((kept-answer pool reuse.older reuse.answer beside.own reuse.answer_is).own reuse.own)
 
     again-free : names p rest ≡ 0
     again-free = rw (← reuse.place_is) (answer-apart pool reuse.older reuse.answer rest beside reuse.answer_is).0
@@ -136,7 +141,8 @@ module _ (pool : Pool) (s : Session) (head : MessageHeader) (size p : ℕ)
       again-counts es e q place = placed-behind (changed p b pool) e es q p place again-full
 
       -- the answer is the buffer's message
-      module _ (there : buf_at after p ≡ Some b) (fits : HasSize size (Some b)) where
+      module _ (there : buf_at after p ≡ Some b) (fits : HasSize size (Some b))
+          (mine : HasOwn true (Some b)) where
         again-beside : IsBeside after d rest
         again-beside = record {
           own = record {
@@ -144,6 +150,7 @@ module _ (pool : Pool) (s : Session) (head : MessageHeader) (size p : ℕ)
             answer = record {
               full = (held_refs (changed p b pool) p again-full).0;
               size = rw there fits;
+              own = λ e. rw there mine;
             };
           };
           others = keeps-off p pool after (one-again p b pool) rest again-free beside.others;
@@ -169,7 +176,7 @@ module _ (pool : Pool) (s : Session) (head : MessageHeader) (size p : ℕ)
         again-reply =
             is-reply after (with_slots (begun d s.slots) s) d 0 (begun-session s d h turn)
             (begun-newest s d h) (omega arith) (idle-reply d 0 refl)
-            (answer-held after d (record { place = p; size = size }) 0 refl again-held)
+            (answer-held after d (record { place = p; size = size; own = true }) 0 refl again-held)
 
         pub again-holds : (es : List EntryValue) → HoldsAll (without_newest head.request s) pool es
             → refs_of pool p ≡ 0
@@ -180,6 +187,6 @@ module _ (pool : Pool) (s : Session) (head : MessageHeader) (size p : ℕ)
             first-answered-holds pool s head.request h keeps d refl after
             (begun d (listed (newest head.request s)))
             (again-leaves b) es holds 0
-            (entry_at s.number s.peer 0 d) (record { place = p; size = size }) refl
+            (entry_at s.number s.peer 0 d) (record { place = p; size = size; own = true }) refl
             (omega (arith, unheld, (held_refs (changed p b pool) p again-full).1))
-            (late-placed d (record { place = p; size = size }) 0 refl one) again-reply mine
+            (late-placed d (record { place = p; size = size; own = true }) 0 refl one) again-reply mine

@@ -10,10 +10,11 @@ use Rattle.std.proofs.lemmas.List.{set_past}
 use Rattle.std.proofs.lemmas.List.Sums.{sum_by-set}
 use Rattle.buffer_pool.specs.declared.usage.Use.TheVariants.{Empty}
 use Rattle.buffer_pool.specs.Uses.{is_empty, is_full, refs_in}
-use Rattle.buffer_pool.specs.Pool.{Pool, IsFull, emptied, refs_of, spare_of, use_at}
+use Rattle.buffer_pool.specs.Pool.{Pool, IsFull, buf_at, emptied, refs_of, spare_of, use_at}
 use Rattle.rpc_base.specs.Tables.{without_first}
 use Rattle.server_core.specs.declared.slot.SlotRequest.{SlotRequest}
 use Rattle.server_core.specs.declared.slot.Stored.{Stored}
+use Rattle.server_core.specs.Homes.{HasOwn}
 use Rattle.server_core.specs.KeepsPool.{IsAsked, IsKept, IsStored, KeepsPool, answer_names}
 use Rattle.server_core.specs.KeepsPool.{ask_names, names, own_names}
 use Rattle.server_core.specs.Serving.{IsUnheld, given_up, without_answer, without_ask, without_buffers}
@@ -103,6 +104,23 @@ answer-unheld pool q rest beside unheld =
         → IfSome o (λ a. refs_of (without_ask (ask_of q.state) pool) a.place ≡ 0)
     by None other none = tt
     by (Some a) other none = ap refs_in (use-kept a.place (ask_of q.state) pool (other a refl)) ∙ none
+
+-- and its buffer
+buf-kept : (p : ℕ) (o : Option ℕ) (pool : Pool) → ask_names p o ≡ 0 → buf_at (without_ask o pool) p ≡ buf_at pool p
+buf-kept p None pool e = refl
+buf-kept p (Some a) pool e = (one-emptied a pool).other_bufs p (λ same. ask-away a p e (sym same))
+
+pub answer-own : (pool : Pool) (q : SlotRequest) (rest : List SlotRequest) → IsBeside pool q rest
+    → IfSome (answer_of q.state)
+    (λ a. a.own ≡ true → HasOwn true (buf_at (without_ask (ask_of q.state) pool) a.place))
+answer-own pool q rest beside =
+    by (answer_of q.state) (λ a is. (answer-apart pool q a rest beside is).1) beside.own.answer
+  where
+    by : (o : Option Stored) → ((a : Stored) → o ≡ Some a → ask_names a.place (ask_of q.state) ≡ 0)
+        → IfSome o (IsStored pool)
+        → IfSome o (λ a. a.own ≡ true → HasOwn true (buf_at (without_ask (ask_of q.state) pool) a.place))
+    by None other kept = tt
+    by (Some a) other kept = rw (buf-kept a.place (ask_of q.state) pool (other a refl)) kept.own
 
 -- its own place is full, and no entry names it
 pub ask-full : (pool : Pool) (size : ℕ) (o : Option ℕ) → IfSome o (IsAsked pool size)

@@ -22,7 +22,8 @@ use Rattle.server_core.specs.Noting.{early_facts, first_facts, last_facts, packe
 use Rattle.server_core.specs.Scene.{Desk, Incoming, Scene, pooled, without_ring}
 use Rattle.server_core.specs.Session.{IsSession, Session, newest}
 use Rattle.server_core.specs.Shown.{shown}
-use Rattle.server_core.specs.Steps.{AreServed, IsAsking, IsStepOf, LeavesPool, asked_with}
+use Rattle.server_core.specs.Steps.{AreServed, IsAsking, IsStepOf, LeavesPool, NeedsNoMemory}
+use Rattle.server_core.specs.Steps.{asked_with, whole_with}
 use Rattle.server_core.specs.declared.step.Step.{Step}
 use Rattle.server_core.specs.declared.step.Step.TheVariants.{Dropped}
 use Rattle.server_core.proofs.FlushLemmas.{grew-none, grew-then}
@@ -81,8 +82,11 @@ module _ {V R : Type 0} (v : Service.Ghosts V) (log : R → Log) (who : Who) (pa
       → Leaves v log (λ answer. early_facts who s entries row packet.head ask answer step)
       packet.head packet.body step (without_ring before) (without_ring after)
       → KeepsReplies entries (after.state.ring.items ++ replies_of step) s after.state.session
-      before.state.pool after.state.pool → Handles v log early_facts who packet step before after
-  handles-by asking sound keeps row is did left leaves replies =
+      before.state.pool after.state.pool
+      → NeedsNoMemory mode v.answer (v.stands before.service) packet.head
+      (whole_with packet.head packet.body v_shown) step
+      → Handles v log early_facts who packet step before after
+  handles-by asking sound keeps row is did left leaves replies short =
       let rule = row-shown before.state.pool mode packet.jobs_full packet.head s keeps in
       let at : IsStepOf mode packet.head (row_for v packet s) step =
       subst (λ r. IsStepOf mode packet.head r step) (sym is) did in
@@ -99,6 +103,7 @@ module _ {V R : Type 0} (v : Service.Ghosts V) (log : R → Log) (who : Who) (pa
         facts = λ own. by-rule s before.state.pool entries packet.head packet.body own mode
             packet.jobs_full sound asking step at;
         replies = replies;
+        short = short;
       }
 
   -- the last facts are noted
@@ -144,4 +149,5 @@ module _ {V R : Type 0} (v : Service.Ghosts V) (log : R → Log) (who : Who) (pa
         };
         facts = did.facts;
         replies = did.replies;
+        short = did.short;
       }

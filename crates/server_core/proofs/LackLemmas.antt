@@ -1,5 +1,5 @@
 -- Where memory is wanting, the drop is that of the server rule.
-use Rattle.std.proofs.Common.{◌≡◌, ℕ, Bool, true, false, not, ◌&&◌, ◌||◌, cond, ltb, Option, Some, None, refl}
+use Rattle.std.proofs.Common.{◌≡◌, ◌≢◌, ℕ, Bool, true, false, not, ◌&&◌, ◌||◌, cond, ltb, Option, Some, None, refl}
 use Rattle.std.specs.Prelude.{◌==◌, option_map}
 use Rattle.std.specs.List.{find}
 use Rattle.packet_header.specs.declared.packet.MessageHeader.{MessageHeader}
@@ -104,3 +104,43 @@ lacks-row mode full v peer h row step rule at is =
     let lacking : Lacking h (server_row mode full false (Some v) peer h) =
     rw rule (step-lacks mode h row step at is) in
     peer-lacks mode full v h (v.way.peer == peer) lacking
+
+-- where no memory is wanting, no row is a drop for want of it
+new-has : (a b c d : Bool)
+    → cond a (Drops NotFirst) (cond b (Drops Working)
+    (cond c (Drops Unserved) (cond d (Drops JobsFull) Begins))) ≢ Drops NoMemory
+new-has true b c d = λ e. cc
+new-has false true c d = λ e. cc
+new-has false false true d = λ e. cc
+new-has false false false true = λ e. cc
+new-has false false false false = λ e. cc
+
+own-has : (a b c w e f : Bool)
+    → cond a (Drops Mismatch) (cond b (Drops Ahead)
+    (cond c (cond w (Drops Working) Repeats) (cond e (Drops Beyond)
+    (cond f (Drops JobsFull) Takes)))) ≢ Drops NoMemory
+own-has true b c w e f = λ k. cc
+own-has false true c w e f = λ k. cc
+own-has false false true true e f = λ k. cc
+own-has false false true false e f = λ k. cc
+own-has false false false w true f = λ k. cc
+own-has false false false w false true = λ k. cc
+own-has false false false w false false = λ k. cc
+
+has-cases : (mode : Mode) (full : Bool) (n : Newest) (h : MessageHeader) (a b : Bool)
+    → cond a (Drops Old) (cond b (new_row mode n.working full false h)
+    (own_row mode full false n h)) ≢ Drops NoMemory
+has-cases mode full n h true b = λ e. cc
+has-cases mode full n h false true =
+    new-has (is_rfr h.kind || not (h.number == 0)) n.working (not (is_handled mode))
+    (makes_job mode h && full)
+has-cases mode full n h false false =
+    own-has (is_mismatch n h) (ltb n.taken h.number) (ltb h.number n.taken)
+    (is_worked_on n h.number) (is_rfr h.kind && is_past_end n.size n.answer h.number)
+    (makes_job mode h && full)
+
+pub row-has : (mode : Mode) (full : Bool) (o : Option Newest) (h : MessageHeader)
+    → newest_row mode full false o h ≢ Drops NoMemory
+row-has mode full None h =
+    new-has (is_rfr h.kind || not (h.number == 0)) false (not (is_handled mode)) (makes_job mode h && full)
+row-has mode full (Some n) h = has-cases mode full n h (ltb h.request n.number) (ltb n.number h.request)

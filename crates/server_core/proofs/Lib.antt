@@ -5,6 +5,7 @@ mod GivenLemmas
 mod HandlingLemmas
 mod HoldBeginLemmas
 mod HoldStepLemmas
+mod HomeLemmas
 mod LackLemmas
 mod ListLemmas
 mod OtherLemmas
@@ -14,9 +15,11 @@ mod PoolLemmas
 mod RecountLemmas
 mod ReplyLemmas
 mod RowLemmas
+mod ShortLemmas
 mod SlotLemmas
 mod StaysLemmas
 mod TakeLemmas
+mod WorkedLemmas
 pub mod AskedLemmas
 pub mod CountLemmas
 pub mod FlushLemmas

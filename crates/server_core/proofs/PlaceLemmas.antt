@@ -17,6 +17,7 @@ use Rattle.buffer_pool.proofs.PoolLemmas.{changed_own, held_refs}
 use Rattle.rpc_base.specs.Tables.{at_first, without_first}
 use Rattle.server_core.specs.declared.slot.Stored.{Stored}
 use Rattle.server_core.specs.declared.slot.SlotRequest.{SlotRequest}
+use Rattle.server_core.specs.Homes.{HasOwn}
 use Rattle.server_core.specs.KeepsPool.{IsAsked, IsKept, IsStored, KeepsPool, answer_names}
 use Rattle.server_core.specs.KeepsPool.{ask_names, names, own_names}
 use Rattle.server_core.specs.Serving.{without_answer, without_ask, without_buffers}
@@ -149,8 +150,9 @@ pub beside-answered : (pool : Pool) (p : ℕ) (b : Buffer) (q d : SlotRequest) (
     (rest : List SlotRequest) → IsBeside pool q rest → answer_of q.state ≡ None
     → lowest_empty pool ≡ Some p → buf_at (filled p b pool) p ≡ Some b
     → ask_of d.state ≡ (ask_of q.state) → d.size ≡ q.size → answer_of d.state ≡ Some a → a.place ≡ p
-    → HasSize a.size (Some b) → IsBeside (filled p b pool) d rest
-beside-answered pool p b q d a rest beside none lowest there ask size answer place fits =
+    → HasSize a.size (Some b) → (a.own ≡ true → HasOwn true (Some b))
+    → IsBeside (filled p b pool) d rest
+beside-answered pool p b q d a rest beside none lowest there ask size answer place fits mine =
     let empty = lowest-empty pool p lowest in
     let free = names-empty pool p rest empty beside.others.kept in
     let other = ask-empty pool p q.size (ask_of q.state) empty beside.own.ask in
@@ -159,7 +161,11 @@ beside-answered pool p b q d a rest beside none lowest there ask size answer pla
     record {
       own = record {
         ask = rw (ask, size) (ask-off p pool (filled p b pool) one q.size (ask_of q.state) other beside.own.ask);
-        answer = rw answer (record { full = rw place (ap is_full own); size = rw (place, there) fits });
+        answer = rw answer (record {
+          full = rw place (ap is_full own);
+          size = rw (place, there) fits;
+          own = rw (place, there) mine;
+        });
       };
       others = keeps-off p pool (filled p b pool) one rest free beside.others;
       apart = λ r. rw (ask, answer, place) (elim (cases_eq p r) [
@@ -178,7 +184,11 @@ beside-held pool q a rest beside is =
     record {
       own = record {
         ask = ask-off a.place pool (held a.place pool) one q.size (ask_of q.state) other beside.own.ask;
-        answer = rw is (record { full = (held_refs pool a.place stored.full).0; size = stored.size });
+        answer = rw is (record {
+          full = (held_refs pool a.place stored.full).0;
+          size = stored.size;
+          own = stored.own;
+        });
       };
       others = keeps-off a.place pool (held a.place pool) one rest free beside.others;
       apart = beside.apart;
@@ -206,6 +216,7 @@ answer-written pool p b None other kept = tt
 answer-written pool p b (Some a) other kept = record {
   full = kept.full;
   size = rw ((one-changed p b pool).other_bufs a.place (λ same. other a refl (sym same))) kept.size;
+  own = rw ((one-changed p b pool).other_bufs a.place (λ same. other a refl (sym same))) kept.own;
 }
 
 pub beside-written : (pool : Pool) (at : ℕ) (body : List ℕ) (b : Buffer) (q : SlotRequest) (p : ℕ)

@@ -61,6 +61,7 @@ module _ (p : ℕ) (pool new : Pool) (one : ChangesOne p pool new) where
       record {
         full = ap is_full (one.other_uses a.place other) ∙ kept.full;
         size = rw (one.other_bufs a.place other) kept.size;
+        own = rw (one.other_bufs a.place other) kept.own;
       }
 
   pub ask-off : (size : ℕ) (o : Option ℕ) → ask_names p o ≡ 0 → IfSome o (IsAsked pool size)
@@ -146,7 +147,11 @@ answer-used : (pool : Pool) (p : ℕ) (u : Use) (o : Option Stored) → is_full 
     → IfSome o (IsStored (record { uses = set pool.uses p u; bufs = pool.bufs }))
 answer-used pool p u None full kept = tt
 answer-used pool p u (Some a) full kept =
-    record { full = full-cases pool.uses p a.place u full kept.full; size = kept.size }
+    record {
+      full = full-cases pool.uses p a.place u full kept.full;
+      size = kept.size;
+      own = kept.own;
+    }
 
 ask-used : (pool : Pool) (p size : ℕ) (u : Use) (o : Option ℕ) → is_full u ≡ true
     → 0 < refs_of pool p → IfSome o (IsAsked pool size)

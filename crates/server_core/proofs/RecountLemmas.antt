@@ -85,6 +85,7 @@ module _ (g : ℕ → ℕ) (test : SlotRequest → Bool) where
     recount-session h turn = record {
       number = h.number;
       client = h.client;
+      life = h.life;
       few = h.few;
       apart = λ i. omega (arith, sum-as (λ x. cond (is_in_slot i x) 1 0) (λ q. refl) s.slots, h.apart i);
       in_turn = all-as IsInTurn s.slots turn h.in_turn;

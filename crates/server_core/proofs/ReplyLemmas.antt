@@ -120,8 +120,8 @@ owned-packet pool s e q h found = owned-cases pool s e.number q e.owner h found
 pub spelled-return : (pool : Pool) (s : Session) (e : EntryValue) (q : SlotRequest)
     (head body : List ℕ) → IsSession s → request_of s e ≡ Some q
     → ltb (e.number + 1) (packet_count q.size) ≡ true
-    → HasHead (Message (head_of s.client e.number q)) head → body ≡ []
-    → MessageInRange (head_of s.client e.number q) → IsSpelled (packet_of pool s e) head body
+    → HasHead (Message (head_of s.client s.life e.number q)) head → body ≡ []
+    → MessageInRange (head_of s.client s.life e.number q) → IsSpelled (packet_of pool s e) head body
 spelled-return pool s e q head body h found early has none range =
     rw (owned-packet pool s e q h found, early) (rw early at has, none, rw early at range)
 
@@ -130,9 +130,9 @@ pub spelled-part : (pool : Pool) (s : Session) (e : EntryValue) (q : SlotRequest
     (buf : Buffer) (head body : List ℕ) → IsSession s → request_of s e ≡ Some q
     → answer_of q.state ≡ Some a → ltb (e.number + 1) (packet_count q.size) ≡ false
     → buf_at pool a.place ≡ Some buf → HasSize a.size (buf_at pool a.place)
-    → HasHead (Message (head_of s.client e.number q)) head
+    → HasHead (Message (head_of s.client s.life e.number q)) head
     → body ≡ part (bytes_of buf) (e.number + 1 - packet_count q.size)
-    → MessageInRange (head_of s.client e.number q) → IsSpelled (packet_of pool s e) head body
+    → MessageInRange (head_of s.client s.life e.number q) → IsSpelled (packet_of pool s e) head body
 spelled-part pool s e q a buf head body h found is late there size has same range =
     let long : length (bytes_of buf) ≡ a.size =
     ap (λ o. length (message_in o)) (sym there)
@@ -167,8 +167,8 @@ placed-full pool s e p keeps posted place = placed-cases pool s e p (request_of 
 pub spelled-unplaced : (pool : Pool) (s : Session) (e : EntryValue) (q : SlotRequest)
     (head : List ℕ) → IsSession s → request_of s e ≡ Some q → IsInTurn q → e.number < q.taken
     → is_worked_on (as_newest q) e.number ≡ false → None ≡ place_of q e.number
-    → HasHead (Message (head_of s.client e.number q)) head
-    → MessageInRange (head_of s.client e.number q) → IsSpelled (packet_of pool s e) head []
+    → HasHead (Message (head_of s.client s.life e.number q)) head
+    → MessageInRange (head_of s.client s.life e.number q) → IsSpelled (packet_of pool s e) head []
 spelled-unplaced pool s e q head h found turn below idle place has range =
     spelled-return pool s e q head [] h found (unplaced-part q e.number turn below idle place) has refl range
 
@@ -179,9 +179,9 @@ not-early k n false t above = refl
 pub spelled-placed : (pool : Pool) (s : Session) (e : EntryValue) (q : SlotRequest) (p : ℕ)
     (buf : Buffer) (head body : List ℕ) → IsSession s → request_of s e ≡ Some q → IsKept pool q
     → Some p ≡ place_of q e.number → buf_at pool p ≡ Some buf
-    → HasHead (Message (head_of s.client e.number q)) head
+    → HasHead (Message (head_of s.client s.life e.number q)) head
     → body ≡ part (bytes_of buf) (e.number + 1 - packet_count q.size)
-    → MessageInRange (head_of s.client e.number q) → IsSpelled (packet_of pool s e) head body
+    → MessageInRange (head_of s.client s.life e.number q) → IsSpelled (packet_of pool s e) head body
 spelled-placed pool s e q p buf head body h found kept place at has same range =
     let (a, is, here, above) = placed-part q e.number p place in
     let late = not-early e.number (packet_count q.size) _ refl above in

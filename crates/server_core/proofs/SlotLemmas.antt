@@ -118,6 +118,7 @@ pub begun-session : (s : Session) (d : SlotRequest) → IsSession s → IsInTurn
 begun-session s d h turn = record {
   number = h.number;
   client = h.client;
+  life = h.life;
   few = h.few;
   apart = λ i.
       let sum = sum_by-append (λ x. cond (is_in_slot i x) 1 0)
@@ -142,6 +143,7 @@ pub gone-session : (s : Session) (q d : SlotRequest) → IsSession s → IsInTur
 gone-session s q d h turn same found = record {
   number = h.number;
   client = h.client;
+  life = h.life;
   few = h.few;
   apart = λ i.
       let sum = sum-changed (is_in_slot (d.number % 8)) q (λ x. cond (is_in_slot i x) 1 0) (λ x. d) s.slots found in

@@ -20,6 +20,7 @@ use Rattle.rpc_outside.specs.declared.service.Mode.{Mode}
 use Rattle.rpc_outside.specs.declared.service.Mode.TheVariants.{Unserved}
 use Rattle.server_core.specs.declared.slot.SlotRequest.{SlotRequest}
 use Rattle.server_core.specs.declared.slot.Stored.{Stored}
+use Rattle.server_core.specs.Homes.{HasOwn}
 use Rattle.server_core.specs.KeepsPool.{IsAsked, IsKept, IsStored, KeepsPool}
 use Rattle.server_core.specs.Replies.{CanHold, IsHeld, MayHold, held_at, place_of}
 use Rattle.server_core.specs.Serving.{gone_on, last_given, next_taken, with_slots, worked}
@@ -163,10 +164,11 @@ module _ (pool : Pool) (s : Session) (q : SlotRequest) (h : IsSession s)
       (asked : ask_of d.state ≡ (ask_of q.state)) (sized : d.size ≡ q.size) (p : ℕ) (b : Buffer)
       (a : Stored) (none : answer_of q.state ≡ None) (is : answer_of d.state ≡ Some a)
       (lowest : lowest_empty pool ≡ Some p) (there : buf_at (filled p b pool) p ≡ Some b)
-      (place : a.place ≡ p) (size : a.size ≡ b.len) (fits : b.len ≤ capacity_of b) where
+      (place : a.place ≡ p) (size : a.size ≡ b.len) (fits : b.len ≤ capacity_of b)
+      (mine : a.own ≡ true → HasOwn true (Some b)) where
     last-beside : IsBeside (filled p b pool) d rest
     last-beside = beside-answered pool p b q d a rest own-beside none lowest there asked sized is
-        place (sym size, omega (arith, size, fits))
+        place (sym size, omega (arith, size, fits)) mine
 
     pub last-keeps : KeepsPool (held a.place (filled p b pool)) (gone_on d s.slots)
     last-keeps = gone-keeps (held a.place (filled p b pool)) d number
@@ -195,13 +197,14 @@ module _ (pool : Pool) (s : Session) (q : SlotRequest) (h : IsSession s)
   -- from a worker
   module _ (p : ℕ) (b : Buffer) (a : Stored) (none : answer_of q.state ≡ None)
       (lowest : lowest_empty pool ≡ Some p) (there : buf_at (filled p b pool) p ≡ Some b)
-      (place : a.place ≡ p) (size : a.size ≡ b.len) (fits : b.len ≤ capacity_of b) where
+      (place : a.place ≡ p) (size : a.size ≡ b.len) (fits : b.len ≤ capacity_of b)
+      (mine : a.own ≡ true → HasOwn true (Some b)) where
     pub worked-shows : ask_of q.state ≡ None
         → shown (held a.place (filled p b pool)) (with_slots (gone_on (worked a q) s.slots) s)
         ≡ gone_on_as q.number (answered (bytes_of b)) (shown pool s)
     worked-shows gone =
-        let bytes = last-answer (worked a q) refl (sym gone) refl p b a none refl lowest there place size fits in
-        last-gone (worked a q) refl (sym gone) refl p b a none refl lowest there place size fits
+        let bytes = last-answer (worked a q) refl (sym gone) refl p b a none refl lowest there place size fits mine in
+        last-gone (worked a q) refl (sym gone) refl p b a none refl lowest there place size fits mine
         (answered (bytes_of b)) (rw bytes refl)
 
   -- it goes to a worker, and its bytes leave the pool

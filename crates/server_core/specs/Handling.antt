@@ -25,8 +25,8 @@ use Rattle.server_core.specs.Scene.{Desk, Incoming, Pooled, Scene, without_ring}
 use Rattle.server_core.specs.Session.{Session, newest}
 use Rattle.server_core.specs.Shown.{shown}
 use Rattle.server_core.specs.Steps.{AreServed, HasNoBytes, IfGiven, IfRan, IfReply, IsParcel}
-use Rattle.server_core.specs.Steps.{IsReply, IsStepOf, LeavesPool, LeavesSession, UnlessRan}
-use Rattle.server_core.specs.Steps.{asked_with}
+use Rattle.server_core.specs.Steps.{IsReply, IsStepOf, LeavesPool, LeavesSession, NeedsNoMemory}
+use Rattle.server_core.specs.Steps.{UnlessRan, asked_with, whole_with}
 use Rattle.server_core.specs.declared.step.Step.{Step}
 use Rattle.server_core.specs.declared.step.Step.TheVariants.{Dropped}
 
@@ -102,6 +102,10 @@ pub record Handles {V R : Type 0} (v : Service.Ghosts V) (log : R → Log) (note
       → IsByRule (v.mode_of packet.head.req_type) before.state.session before.state.ring.items
       (row_for v packet before.state.session) packet.head packet.body
       (shown before.state.pool before.state.session) step
+  -- a short answer of a type that is handled inline needs no memory
+  pub short : NeedsNoMemory (v.mode_of packet.head.req_type) v.answer (v.stands before.service)
+      packet.head
+      (whole_with packet.head packet.body (shown before.state.pool before.state.session)) step
   -- the ring with the reply holds each reply of the session that is neither sent nor flushed
   pub replies : KeepsReplies before.state.ring.items (after.state.ring.items ++ replies_of step)
       before.state.session after.state.session before.state.pool after.state.pool

@@ -1,17 +1,19 @@
 -- What a session needs of the pool that it works on.
 use Rattle.server_core.specs.Session.{ask_of, answer_of}
 use Rattle.std.specs.Prelude.{◌≡◌, ℕ, ◌+◌, ◌==◌, if◌then◌else◌, List, sum_by, Option}
-use Rattle.std.specs.Prelude.{Some, None, IfSome}
+use Rattle.std.specs.Prelude.{Some, None, IfSome, true}
 use Rattle.buffer_pool.specs.Places.{KeepsAll, LeavesUnnamed}
 use Rattle.buffer_pool.specs.Pool.{Pool, IsFull, buf_at, refs_of, spare_of}
 use Rattle.server_core.specs.declared.slot.Stored.{Stored}
 use Rattle.server_core.specs.declared.slot.SlotRequest.{SlotRequest}
 use Rattle.message_buffer.specs.Messages.{HasSize}
+use Rattle.server_core.specs.Homes.{HasOwn}
 
--- the pool has the buffer of a message
+-- the pool has the buffer of a message; if that is its slot's own, with the room of such a buffer
 pub record IsStored (pool : Pool) (a : Stored) : Type 0 where
   pub full : IsFull pool a.place
   pub size : HasSize a.size (buf_at pool a.place)
+  pub own : a.own ≡ true → HasOwn true (buf_at pool a.place)
 
 -- the pool has the buffer of a request of this size, which no entry names
 pub record IsAsked (pool : Pool) (size p : ℕ) : Type 0 where

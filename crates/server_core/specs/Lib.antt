@@ -3,6 +3,7 @@ pub mod Counting
 pub mod Finishing
 pub mod Flushing
 pub mod Handling
+pub mod Homes
 pub mod Keeping
 pub mod KeepsPool
 pub mod Noting

@@ -38,9 +38,9 @@ abbrev pub answer_size : Option Stored → ℕ
 answer_size None = 0
 answer_size (Some a) = a.size
 
--- the header of that reply
-abbrev pub head_of : (client k : ℕ) → SlotRequest → MessageHeader
-head_of client k q =
+-- the header of that reply, to a client session in this life of the client
+abbrev pub head_of : (client life k : ℕ) → SlotRequest → MessageHeader
+head_of client life k q =
     if nat_lt (k + 1) (packet_count q.size)
     then record {
       kind = Cr;
@@ -49,6 +49,7 @@ head_of client k q =
       session = client;
       number = k;
       request = q.number;
+      to_life = life;
     }
     else record {
       kind = Response;
@@ -57,6 +58,7 @@ head_of client k q =
       session = client;
       number = k;
       request = q.number;
+      to_life = life;
     }
 
 -- whether an owner's packets are the replies to a request

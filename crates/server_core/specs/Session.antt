@@ -7,15 +7,17 @@ use Rattle.rpc_base.specs.declared.owner.Owner.TheVariants.{Reply}
 use Rattle.rpc_base.specs.declared.limits.TheConstants.{MOST_CREDITS, SESSION_NUMBERS}
 use Rattle.rpc_base.specs.declared.limits.TheConstants.{MOST_REFERENCES}
 use Rattle.packet_header.specs.Parts.{packet_count, IsMessage}
+use Rattle.packet_header.specs.Ranges.{Within, lives}
 use Rattle.server_core.specs.declared.slot.Stored.{Stored}
 use Rattle.server_core.specs.declared.slot.SlotRequest.{SlotRequest}
 use Rattle.server_core.specs.declared.slot.SlotState.{SlotState}
 use Rattle.server_core.specs.declared.slot.SlotState.TheVariants.{Taking, Working, Answered}
 
 pub record Session : Type 0 where
-  -- the session's number here and at the client, and the client's peer
+  -- the session's number here and at the client, the client's life and its peer
   pub number : ℕ
   pub client : ℕ
+  pub life : ℕ
   pub peer : ℕ
   pub credits : ℕ
   -- the newest request of each slot in which one began, in the order in which they began
@@ -71,14 +73,21 @@ pub record IsInTurn (q : SlotRequest) : Type 0 where
 pub record IsSession (s : Session) : Type 0 where
   pub number : s.number < SESSION_NUMBERS
   pub client : s.client < SESSION_NUMBERS
+  pub life : Within lives s.life
   pub few : s.credits ≤ MOST_CREDITS
   pub apart : (i : ℕ) → count_by (is_in_slot i) s.slots ≤ 1
   pub in_turn : AllByRecursion IsInTurn s.slots
 
 -- no request began
-abbrev pub new_session : (number client peer credits : ℕ) → Session
-new_session number client peer credits =
-    record { number = number; client = client; peer = peer; credits = credits; slots = [] }
+abbrev pub new_session : (number client life peer credits : ℕ) → Session
+new_session number client life peer credits = record {
+  number = number;
+  client = client;
+  life = life;
+  peer = peer;
+  credits = credits;
+  slots = [];
+}
 
 -- whose packets the replies to a request are
 abbrev pub owner_of : ℕ → SlotRequest → Owner

@@ -14,7 +14,7 @@ use Rattle.message_buffer.specs.Messages.{message_in}
 
 -- what never changes of the session
 abbrev pub way_of : Session → Way
-way_of s = record { number = s.number; peer = s.peer; other = s.client }
+way_of s = record { number = s.number; peer = s.peer; other = s.client; life = s.life }
 
 -- the bytes of an answer
 abbrev pub answer_in : Pool → Stored → List ℕ

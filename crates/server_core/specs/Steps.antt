@@ -1,7 +1,7 @@
 -- What a Request or RFR, or a finished job, does to a session, in the words of the definitions over
 -- histories.
 use Rattle.std.specs.Prelude.{◌≡◌, ◌≢◌, ℕ, ◌+◌, ◌<◌, ◌≤◌, Bool, true, false, List, [], ◌∷◌, ◌++◌}
-use Rattle.std.specs.Prelude.{length, take, Option, Some, None, IfSome}
+use Rattle.std.specs.Prelude.{◌==◌, if◌then◌else◌, length, take, Option, Some, None, IfSome}
 use Rattle.std.specs.List.{AllByRecursion}
 use Rattle.rpc_base.specs.declared.limits.TheConstants.{HEAD_BYTES, PART_BYTES}
 use Rattle.rpc_base.specs.Tables.{at_first, without_first}
@@ -24,7 +24,7 @@ use Rattle.rpc_laws.specs.Requests.{in_slot_of, is_request, servers_after}
 use Rattle.rpc_laws.specs.ServerTable.{is_past_end, is_worked_on, makes_job, whole_ask}
 use Rattle.rpc_outside.specs.Served.{Served}
 use Rattle.rpc_outside.specs.declared.service.Mode.{Mode}
-use Rattle.rpc_outside.specs.declared.service.Mode.TheVariants.{Unserved}
+use Rattle.rpc_outside.specs.declared.service.Mode.TheVariants.{Inline, Unserved}
 use Rattle.worker_board.specs.declared.Parcel.{Parcel}
 use Rattle.server_core.specs.declared.slot.SlotRequest.{SlotRequest}
 use Rattle.server_core.specs.declared.step.Step.{Step}
@@ -48,6 +48,14 @@ HasTaken last job can_want (Again reply) = ⊥
 HasTaken last job can_want (Ran reply) = (last ≡ true) × (job ≡ false)
 HasTaken last job can_want (Give parcel) = job ≡ true
 HasTaken last job can_want (Dropped why) = (why ≡ NoMemory) × (can_want ≡ true)
+
+-- a request's last packet, of a type that is handled inline and whose answer fits in one packet,
+-- isn't dropped for want of memory
+abbrev pub NeedsNoMemory : Mode → (answer : Served → ℕ → List ℕ → List ℕ)
+    → (stands : Served → Type 0) → MessageHeader → (ask : List ℕ) → Step → Type 0
+NeedsNoMemory mode answer stands h ask step = mode ≡ Inline → is_last h ≡ true
+    → ((served : Served) → stands served → length (answer served h.req_type ask) ≤ PART_BYTES)
+    → step ≢ Dropped NoMemory
 
 abbrev pub IsAgain : Step → Type 0
 IsAgain (Took reply) = ⊥
@@ -80,6 +88,10 @@ gave h body v = servers_after (GivenEvent v.way.number h.request) [] None [] (to
 -- the bytes of its request up to and with this packet
 abbrev pub asked_with : MessageHeader → List ℕ → Server → List ℕ
 asked_with h body v = whole_ask (Some v) h.request body
+
+-- the bytes of a request that is whole with this packet: the packet's, if it is the only one
+abbrev pub whole_with : MessageHeader → List ℕ → Server → List ℕ
+whole_with h body v = if packet_count h.size == 1 then body else asked_with h body v
 
 -- what a step makes of the session, where a handler that ran answered with these bytes
 abbrev pub Steps : Step → (answer : List ℕ) → MessageHeader → List ℕ → Server → Server → Type 0

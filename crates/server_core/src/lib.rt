@@ -3,6 +3,8 @@
 //! handed, and knows nothing of the receive ring, links or clocks.
 #![tactic(auto)]
 
+mod buffers;
+mod homes;
 mod running;
 mod session;
 mod slot;

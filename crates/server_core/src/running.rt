@@ -1,14 +1,21 @@
 //! The buffers of a request and of its answer, made before anything else changes: the want of
 //! memory leaves all as it was.
-ghost use Rattle.std.specs.Prelude.{◌≡◌, ◌≢◌, ◌≤◌, ◌++◌, ◌∷◌, [], length, take, IfOk};
+ghost use Rattle.std.specs.Prelude.{◌≡◌, ◌≢◌, ◌<◌, ◌≤◌, ◌++◌, ◌∷◌, [], length, take, IfOk, OnErr};
+ghost use Rattle.std.specs.Prelude.{IsTrue, ◌↔◌, true};
+ghost use Rattle.buffer_pool.specs.Pool.{IsFull, buf_at, refs_of};
 ghost use Rattle.message_buffer.specs.Buffer.{bytes_of, capacity_of};
+ghost use Rattle.message_buffer.specs.Messages.{message_in};
 ghost use Rattle.rpc_outside.specs.declared.service.Mode.TheVariants.{Inline, Unserved};
 ghost use Rattle.rpc_outside.specs.Served.{Served, StandsForSome};
+ghost use Rattle.server_core.specs.Homes.{HasOwn};
+ghost use Rattle.server_core.specs.Reusing.{IsOwn, IsRewritten, IsRoom, size_in};
+ghost use Rattle.server_core.specs.Wanting.{CanServe};
 ghost use Rattle.server_core.specs.Serving.{IsFirstPart};
 ghost use Rattle.packet_header.specs.Parts.{IsMessage};
 
+use buffer_pool::BufferPool;
 use message_buffer::MsgBuf;
-use rpc_base::{MOST_MESSAGE_BYTES, NoMemory};
+use rpc_base::{MOST_MESSAGE_BYTES, NoMemory, PART_BYTES, Place};
 use rpc_outside::Service;
 use std::alloc::Global;
 
@@ -40,6 +47,49 @@ pub(crate) fn make_room<V: Service>(
     make_answer(alloc, service.room(req_type, ask))
 }
 
+/// Where the answer to a request that is handled inline is written.
+#[derive(Drop)]
+pub enum Room {
+    /// In the slot's own buffer: one of this size, no more than a part.
+    Own(u32),
+    /// In a buffer that was made for it, as long as it.
+    Made(MsgBuf),
+}
+
+impl Room {
+    /// The room for an answer of this size. `NoMemory` comes only where it is longer than a part
+    /// and there is no memory for it.
+    pub fn of(alloc: Global, size: u32) -> Result<Room, NoMemory>
+        requires { IsMessage size }
+        ensures room { IfOk result IsRoom }
+        ensures size { IfOk result (λ room. size_in room ≡ size) }
+        ensures long { OnErr result (PART_BYTES < size) }
+    {
+        if size <= PART_BYTES {
+            return Ok(Room::Own(size));
+        }
+        let answer = make_answer(alloc, size)?;
+        Ok(Room::Made(answer))
+    }
+
+    /// How long an answer it is for.
+    pub fn size(&self) -> u32
+        ensures { result ≡ size_in self.now }
+    {
+        match self {
+            Room::Own(size) => *size,
+            Room::Made(answer) => answer.len(),
+        }
+    }
+
+    /// Whether the answer is to stand in the slot's own buffer.
+    pub fn is_own(&self) -> bool
+        ensures { IsTrue result ↔ IsOwn self.now }
+    {
+        matches!(self, Room::Own(_))
+    }
+}
+
 /// A buffer for an answer of this size.
 pub(crate) fn make_answer(alloc: Global, size: u32) -> Result<MsgBuf, NoMemory>
     requires { IsMessage size }
@@ -65,4 +115,30 @@ pub(crate) fn serve<V: Service>(service: &mut V, req_type: u8, ask: &[u8], answe
         V.stands service.new (served ++ (req_type, ask.now) ∷ []) }
 {
     service.serve(req_type, ask, answer.whole_mut());
+}
+
+/// Runs the handler, whose answer of this size is written over the message at a place to which
+/// there is no reference, and which has a slot's own buffer.
+pub(crate) fn serve_at<V: Service>(
+    pool: &mut BufferPool,
+    service: &mut V,
+    place: Place,
+    size: u32,
+    req_type: u8,
+    ask: &[u8],
+)
+    requires full { IsFull pool.old place }
+    requires unheld { refs_of pool.old place ≡ 0 }
+    requires own { HasOwn true (buf_at pool.old place) }
+    requires short { size ≤ PART_BYTES }
+    requires serves { CanServe V.Service service.old req_type ask.now size }
+    ensures rewritten { IsRewritten size place pool.old pool.new }
+    ensures answer { (served : Served) → V.stands service.old served →
+        message_in (buf_at pool.new place) ≡ V.answer served req_type ask.now }
+    ensures next { (served : Served) → V.stands service.old served →
+        V.stands service.new (served ++ (req_type, ask.now) ∷ []) }
+{
+    let buffer = pool.get_mut(place);
+    buffer.set_len(size);
+    serve(service, req_type, ask, buffer);
 }

@@ -1,6 +1,7 @@
 //! A server session.
-ghost use Rattle.std.specs.Prelude.{◌≡◌, ◌<◌, ◌≤◌, [], ◌∷◌};
+ghost use Rattle.std.specs.Prelude.{◌≡◌, ◌<◌, ◌≤◌, [], ◌∷◌, IfOk};
 ghost use Rattle.buffer_pool.specs.Pool.{Pool};
+ghost use Rattle.rpc_laws.specs.Lives.{first_life};
 ghost use Rattle.server_core.specs.Counting.{CountsQueued};
 ghost use Rattle.server_core.specs.Flushing.{HoldsAll};
 ghost use Rattle.server_core.specs.KeepsPool.{KeepsPool};
@@ -21,15 +22,18 @@ mod taking;
 
 use crate::slot::SlotRequest;
 use crate::slots::Slots;
-use rpc_base::{MOST_CREDITS, Owner, Peer, RequestNo, SESSION_NUMBERS, SessionNo};
+use packet_header::Life;
+use rpc_base::{MOST_CREDITS, NoMemory, Owner, Peer, RequestNo, SESSION_NUMBERS, SessionNo};
+use std::alloc::Global;
 use std::marker::Model;
 
-/// The newest requests of one server session. Contracts see its numbers, its peer, its credits and
-/// the newest request of each slot, in the order in which they began.
+/// The newest requests of one server session. Contracts see its numbers, the client's life and its
+/// peer, its credits and the newest request of each slot, in the order in which they began.
 #[derive(Drop)]
 pub struct ServerSession {
     number: SessionNo,
     client: SessionNo,
+    life: Life,
     peer: Peer,
     credits: u16,
     slots: Slots,
@@ -43,6 +47,7 @@ impl Model for ServerSession {
     ghost view = { λ s. record {
       number = s.number;
       client = s.client;
+      life = s.life;
       peer = s.peer;
       credits = s.credits;
       slots = s.slots;
@@ -51,6 +56,7 @@ impl Model for ServerSession {
     ghost invariant = { λ s. IsSession (record {
       number = s.number;
       client = s.client;
+      life = s.life;
       peer = s.peer;
       credits = s.credits;
       slots = s.slots;
@@ -59,25 +65,37 @@ impl Model for ServerSession {
 
 impl ServerSession {
     /// A session in which no request began, by its number here and at the client, each below
-    /// 65,535, with the client's peer and 1 to 256 credits.
-    pub fn new(session: SessionNo, client: SessionNo, peer: Peer, credits: u16) -> ServerSession
+    /// 65,535, with the client's life, its peer and 1 to 256 credits. `NoMemory` comes only where
+    /// there is no memory for the slots' own buffers.
+    pub fn new(
+        alloc: Global,
+        session: SessionNo,
+        client: SessionNo,
+        life: Life,
+        peer: Peer,
+        credits: u16,
+    ) -> Result<ServerSession, NoMemory>
         requires session { session < SESSION_NUMBERS }
         requires client { client < SESSION_NUMBERS }
+        requires alive { 1 ≤ life }
         requires some { 1 ≤ credits }
         requires most { credits ≤ MOST_CREDITS }
-        ensures session { result ≡ new_session session client peer credits }
-        ensures keeps_pool { (pool : Pool) → KeepsPool pool result.slots }
-        ensures holds { (pool : Pool) → HoldsAll result pool [] }
-        ensures queued { CountsQueued result [] }
-        ensures step { (pool : Pool) → paired session client peer credits ≡ shown pool result ∷ [] }
+        ensures session { IfOk result (λ s. s ≡ new_session session client life peer credits) }
+        ensures keeps_pool { IfOk result (λ s. (pool : Pool) → KeepsPool pool s.slots) }
+        ensures holds { IfOk result (λ s. (pool : Pool) → HoldsAll s pool []) }
+        ensures queued { IfOk result (λ s. CountsQueued s []) }
+        ensures step { IfOk result (λ s. (pool : Pool) → life ≡ first_life →
+            paired session client peer credits ≡ shown pool s ∷ []) }
     {
-        ServerSession {
+        let slots = Slots::new(alloc)?;
+        Ok(ServerSession {
             number: session,
             client,
+            life,
             peer,
             credits,
-            slots: Slots::new(),
-        }
+            slots,
+        })
     }
 
     /// The session's number here.
@@ -92,6 +110,13 @@ impl ServerSession {
         ensures { result ≡ self.now.client }
     {
         self.client
+    }
+
+    /// The client's life.
+    pub fn life(&self) -> Life
+        ensures { result ≡ self.now.life }
+    {
+        self.life
     }
 
     /// The client's peer.

@@ -10,15 +10,17 @@ ghost use Rattle.server_core.specs.Replies.{CanHold, answer_size, entry_at, has_
 ghost use Rattle.server_core.specs.Replies.{place_of};
 ghost use Rattle.server_core.specs.Rows.{as_newest};
 ghost use Rattle.server_core.specs.Serving.{IsUnheld, first_answered, first_given, last_given};
-ghost use Rattle.server_core.specs.Serving.{one_left};
+ghost use Rattle.server_core.specs.Serving.{one_left, worked};
 ghost use Rattle.server_core.specs.Session.{IsInTurn, answer_of, ask_of, is_at_work};
 ghost use Rattle.server_core.specs.Session.{owner_of};
 ghost use Rattle.packet_header.specs.Parts.{IsMessage};
 
 use buffer_pool::BufferPool;
-use packet_header::{Kind, MessageHeader, count};
+use packet_header::{Kind, Life, MessageHeader, count};
 use packet_rings::Entry;
-use rpc_base::{DropReason, Owner, Peer, Place, RequestNo, SESSION_NUMBERS, SessionNo};
+use rpc_base::{
+    DropReason, MOST_REFERENCES, Owner, Peer, Place, RequestNo, SESSION_NUMBERS, SessionNo,
+};
 use rpc_laws::ServerRow;
 use rpc_outside::Mode;
 
@@ -29,6 +31,8 @@ pub struct Stored {
     pub place: Place,
     /// Its size, in bytes.
     pub size: u32,
+    /// Whether its buffer is the slot's own.
+    pub own: bool,
 }
 
 /// What a request waits for. A request of one packet begins as `Working`.
@@ -100,6 +104,18 @@ impl SlotRequest {
         SlotRequest {
             taken: self.taken + 1,
             state: SlotState::Working,
+            ..self
+        }
+    }
+
+    /// The request once its answer is there, and the reply to its last packet is queued.
+    pub fn worked(self, answer: Stored) -> SlotRequest
+        requires { self.queued < MOST_REFERENCES }
+        ensures { result ≡ worked answer self }
+    {
+        SlotRequest {
+            queued: self.queued + 1,
+            state: SlotState::Answered { answer },
             ..self
         }
     }
@@ -286,13 +302,14 @@ impl SlotRequest {
     }
 
     /// The header of the reply to a packet that was taken: a credit return before the last packet
-    /// of the request, and from then on the parts of the answer.
-    pub fn head(&self, client: SessionNo, number: u16) -> MessageHeader
+    /// of the request, and from then on the parts of the answer. `life` is the client's.
+    pub fn head(&self, client: SessionNo, life: Life, number: u16) -> MessageHeader
         requires turn { IsInTurn self.now }
         requires taken { number < self.now.taken }
         requires there { is_worked_on (as_newest self.now) number ≡ false }
         requires client { client < SESSION_NUMBERS }
-        ensures head { result ≡ head_of client number self.now }
+        requires alive { 1 ≤ life }
+        ensures head { result ≡ head_of client life number self.now }
         ensures in_range { MessageInRange result }
     {
         if u32::from(number) + 1 < count(self.size) {
@@ -303,10 +320,11 @@ impl SlotRequest {
                 session: client,
                 number,
                 request: self.number,
+                to_life: life,
             }
         } else {
             let size = self.answer_size();
-            answer_head(self.req_type, size, client, number, self.number)
+            answer_head(self.req_type, size, client, number, self.number, life)
         }
     }
 }
@@ -318,10 +336,12 @@ fn answer_head(
     session: SessionNo,
     number: u16,
     request: RequestNo,
+    to_life: Life,
 ) -> MessageHeader
     requires size { IsMessage size }
     requires session { session < SESSION_NUMBERS }
     requires number { number ≤ 2046 }
+    requires alive { 1 ≤ to_life }
     ensures head { result ≡ record {
       kind = Response;
       req_type = req_type;
@@ -330,6 +350,7 @@ fn answer_head(
           session;
       number = number;
       request = request;
+      to_life = to_life;
     } }
     ensures in_range { MessageInRange result }
 {
@@ -340,6 +361,7 @@ fn answer_head(
         session,
         number,
         request,
+        to_life,
     }
 }
 

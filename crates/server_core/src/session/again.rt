@@ -1,14 +1,13 @@
-//! A request of one packet whose answer is written into the buffer of the older one of its slot.
-ghost use Rattle.std.specs.Prelude.{◌≡◌, ◌≢◌, ◌<◌, ℕ, ◌++◌, ◌∷◌, [], IfSome, None, Some};
-ghost use Rattle.message_buffer.specs.Messages.{message_in};
+//! A request of one packet that is handled inline: its answer is written over the older one of its
+//! slot where both stand in the slot's own buffer.
+ghost use Rattle.std.specs.Prelude.{◌≡◌, ◌<◌, ◌≤◌, [], IfSome, None, true};
 ghost use Rattle.packet_header.specs.Parts.{packet_count, IsMessage};
-ghost use Rattle.buffer_pool.specs.Pool.{IsFull, buf_at, held, refs_of};
+ghost use Rattle.buffer_pool.specs.Pool.{IsFull, held, refs_of};
 ghost use Rattle.rpc_laws.specs.Requests.{given};
-ghost use Rattle.rpc_outside.specs.Served.{Served};
-ghost use Rattle.server_core.specs.KeepsPool.{KeepsPool};
 ghost use Rattle.server_core.specs.Noting.{IsServed};
 ghost use Rattle.server_core.specs.Replies.{entry_at};
-ghost use Rattle.server_core.specs.Reusing.{HasRoom, IsReusable, IsRewritten};
+ghost use Rattle.server_core.specs.Homes.{is_lent};
+ghost use Rattle.server_core.specs.Reusing.{IsOwn, IsReusable, IsRoom, size_in};
 ghost use Rattle.server_core.specs.Serving.{begun, first_answered, with_slots};
 ghost use Rattle.server_core.specs.Session.{IsSession, newest};
 ghost use Rattle.server_core.specs.Shown.{shown};
@@ -18,7 +17,7 @@ ghost use Rattle.server_core.specs.Scene.{in_scene, pooled, seen};
 ghost use Rattle.server_core.specs.Keeping.{BeginsWithReply};
 
 use super::ServerSession;
-use crate::running::serve;
+use crate::running::{Room, serve_at};
 use crate::slot::{SlotRequest, Stored};
 use buffer_pool::BufferPool;
 use packet_header::MessageHeader;
@@ -27,32 +26,63 @@ use rpc_base::{PART_BYTES, Place, RequestNo, Who};
 use rpc_outside::{Recorder, Service};
 
 impl ServerSession {
-    // Where the answer to the newest request of the slot of this number is. None comes exactly
-    // where there is no such answer, its buffer has no room for one of this size, or it is longer
-    // than that and than a part: so a slot doesn't keep the memory of one long answer for good.
-    pub(super) fn reusable(&self, pool: &BufferPool, request: RequestNo, size: u32) -> Option<Place>
-        requires keeps_pool { KeepsPool pool.now self.now.slots }
-        ensures place { IfSome result (λ p. IsReusable pool.now size p (newest request self.now)) }
-        ensures none { (p : ℕ) → IsReusable pool.now size p (newest request self.now) →
-            result ≡ Some p }
+    // A new request of this one packet begins, and its handler runs, which is noted with the bytes
+    // of both messages. The answer is held for the reply.
+    pub(super) fn begin_inline<V: Service, R: Recorder>(
+        &mut self,
+        pool: &mut BufferPool,
+        service: &mut V,
+        room: Room,
+        head: &MessageHeader,
+        body: &[u8],
+        who: &Who,
+        rec: &mut R,
+    ) -> Entry
+        requires session { IsSession self.old }
+        requires whole { CanBeginWhole head.now self.old pool.old }
+        requires newer { IfSome (newest head.now.request self.old)
+            (λ q. q.number < head.now.request) }
+        requires serves { CanServe V.Service service.old head.now.req_type body.now (size_in room) }
+        requires room { IsRoom room }
+        requires first { head.now.number ≡ 0 }
+        ensures answers { IsServed V.Service R.log who.now head.now body.now
+            (in_scene (begun_with (given (first_shown head.now [] None)) (shown pool.old self.old))
+            (pooled self.old pool.old service.old rec.old))
+            (seen (pooled self.new pool.new service.new rec.new)) }
+        ensures no_bytes { HasNoBytes (newest head.now.request self.new) }
+        ensures replies { BeginsWithReply head.now result self.old self.new pool.old pool.new }
     {
+        if let Some(place) = self.reusable(head.request, &room) {
+            let size = room.size();
+            return self.answer_again(pool, service, place, size, head, body, who, rec);
+        }
+        self.begin_working(pool, head);
+        let request = SlotRequest::given(head);
+        self.answer_inline(pool, service, request, head, body, room, who, rec)
+    }
+
+    // Where the answer to the newest request of the slot of this number is, if it stands in the
+    // slot's own buffer, and the next one is to.
+    fn reusable(&self, request: RequestNo, room: &Room) -> Option<Place>
+        ensures place { IfSome result (λ p. IsReusable p (newest request self.now)) }
+        ensures own { IfSome result (λ p. IsOwn room.now) }
+    {
+        if !room.is_own() {
+            return None;
+        }
         let Some(older) = self.slots.of_slot(request.slot()) else {
             return None;
         };
         let Some(answer) = older.answer() else {
             return None;
         };
-        let capacity = pool.get(answer.place).capacity();
-        if capacity < size || size.max(PART_BYTES) < capacity {
-            return None;
-        }
-        Some(answer.place)
+        if answer.own { Some(answer.place) } else { None }
     }
 
     // A new request of this one packet begins, and its handler runs, which is noted with the bytes
     // of both messages. Its answer is written over the older one of the slot, at the same place,
     // which is held for the reply.
-    pub(super) fn answer_again<V: Service, R: Recorder>(
+    fn answer_again<V: Service, R: Recorder>(
         &mut self,
         pool: &mut BufferPool,
         service: &mut V,
@@ -65,10 +95,10 @@ impl ServerSession {
     ) -> Entry
         requires session { IsSession self.old }
         requires whole { CanBeginWhole head.now self.old pool.old }
-        requires reusable { IsReusable pool.old size place (newest head.now.request self.old) }
+        requires reusable { IsReusable place (newest head.now.request self.old) }
         requires newer { IfSome (newest head.now.request self.old)
             (λ q. q.number < head.now.request) }
-        requires answer { IsMessage size }
+        requires short { size ≤ PART_BYTES }
         requires serves { CanServe V.Service service.old head.now.req_type body.now size }
         ensures answers { IsServed V.Service R.log who.now head.now body.now
             (in_scene (begun_with (given (first_shown head.now [] None)) (shown pool.old self.old))
@@ -79,7 +109,12 @@ impl ServerSession {
     {
         serve_at(pool, service, place, size, head.req_type, body);
         self.note_ran(head, body, pool.get(place).bytes(), who, rec);
-        self.begin_answered(pool, head, Stored { place, size })
+        let answer = Stored {
+            place,
+            size,
+            own: true,
+        };
+        self.begin_answered(pool, head, answer)
     }
 
     // A new request of this one packet begins, whose answer is there: it is held for the reply.
@@ -94,6 +129,8 @@ impl ServerSession {
         requires size { IsMessage head.now.size }
         requires one { packet_count head.now.size ≡ 1 }
         requires answer { IsMessage answer.size }
+        requires own { answer.own ≡ true }
+        requires lent { is_lent (newest head.now.request self.old) ≡ true }
         ensures pool { pool.new ≡ held answer.place pool.old }
         ensures session { self.new
             ≡ with_slots (begun (first_answered head.now answer) self.old.slots) self.old }
@@ -103,33 +140,7 @@ impl ServerSession {
         pool.hold(answer.place);
         let request = SlotRequest::answered(head, answer);
         let reply = request.entry(self.number, 0, self.peer);
-        self.slots.remove(head.request.slot());
-        self.slots.push(request);
+        self.slots.begin_again(request);
         reply
     }
-}
-
-// Runs the handler, whose answer of this size is written over the message at a place to which there
-// is no reference.
-fn serve_at<V: Service>(
-    pool: &mut BufferPool,
-    service: &mut V,
-    place: Place,
-    size: u32,
-    req_type: u8,
-    ask: &[u8],
-)
-    requires full { IsFull pool.old place }
-    requires unheld { refs_of pool.old place ≡ 0 }
-    requires fits { HasRoom size (buf_at pool.old place) }
-    requires serves { CanServe V.Service service.old req_type ask.now size }
-    ensures rewritten { IsRewritten size place pool.old pool.new }
-    ensures answer { (served : Served) → V.stands service.old served →
-        message_in (buf_at pool.new place) ≡ V.answer served req_type ask.now }
-    ensures next { (served : Served) → V.stands service.old served →
-        V.stands service.new (served ++ (req_type, ask.now) ∷ []) }
-{
-    let answer = pool.get_mut(place);
-    answer.set_len(size);
-    serve(service, req_type, ask, answer);
 }

@@ -6,7 +6,7 @@ ghost use Rattle.server_core.specs.KeepsPool.{KeepsPool, KeepsSpare, LeavesOther
 ghost use Rattle.server_core.specs.Serving.{IsUnheld, all_given_up};
 
 use super::ServerSession;
-use super::taking::empty_buffers;
+use crate::buffers::empty_buffers;
 use buffer_pool::BufferPool;
 
 impl ServerSession {
@@ -20,7 +20,7 @@ impl ServerSession {
         ensures counts { StillCounts pool.old pool.new }
     {
         for request in self.slots.as_slice() {
-            empty_buffers(pool, request);
+            let _own = empty_buffers(pool, request);
         }
     }
 }

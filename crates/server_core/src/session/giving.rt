@@ -24,8 +24,8 @@ ghost use Rattle.server_core.specs.Wanting.{CanBeginWhole, IsAwaited, IsNewest};
 ghost use Rattle.server_core.specs.Keeping.{GivesReply};
 
 use super::ServerSession;
-use super::taking::{give_up, put_message};
-use crate::slot::{SlotRequest, SlotState};
+use crate::buffers::put_message;
+use crate::slot::SlotRequest;
 use buffer_pool::BufferPool;
 use message_buffer::MsgBuf;
 use packet_header::MessageHeader;
@@ -93,11 +93,7 @@ impl ServerSession {
         let answer = put_message(pool, answer);
         pool.hold(answer.place);
         let number = request.taken - 1;
-        let request = SlotRequest {
-            queued: request.queued + 1,
-            state: SlotState::Answered { answer },
-            ..request
-        };
+        let request = request.worked(answer);
         let reply = request.entry(self.number, number, self.peer);
         self.slots.replace(request);
         reply
@@ -112,7 +108,7 @@ impl ServerSession {
         ensures awaited { IsAwaited (first_given head.now) self.new pool.new }
         ensures begins { BeginsSound head.now [] self.old self.new pool.old pool.new }
     {
-        give_up(&mut self.slots, pool, head.request.slot());
+        self.slots.give_up(pool, head.request.slot());
         self.slots.push(SlotRequest::given(head));
     }
 

@@ -26,7 +26,7 @@ impl ServerSession {
         let Some(request) = self.slots.of_owner(self.number, entry.owner) else {
             unreachable!()
         };
-        let header = request.head(self.client, entry.number);
+        let header = request.head(self.client, self.life, entry.number);
         encode(&Packet::Message(header), head);
         match entry.place {
             None => &[],

@@ -3,6 +3,7 @@ ghost use Rattle.std.specs.Prelude.{◌≡◌, ℕ, ◌<◌, ◌≤◌, ◌+◌,
 ghost use Rattle.packet_header.specs.Parts.{packet_count, IsMessage};
 ghost use Rattle.message_buffer.specs.Buffer.{capacity_of};
 ghost use Rattle.server_core.specs.Noting.{IsServed};
+ghost use Rattle.server_core.specs.Reusing.{IsRoom, size_in};
 ghost use Rattle.server_core.specs.Session.{newest};
 ghost use Rattle.server_core.specs.Steps.{HasNoBytes};
 ghost use Rattle.server_core.specs.Wanting.{CanServe, IsAwaited};
@@ -10,19 +11,90 @@ ghost use Rattle.server_core.specs.Scene.{pooled, seen};
 ghost use Rattle.server_core.specs.Keeping.{GivesReply};
 
 use super::ServerSession;
-use crate::running::serve;
-use crate::slot::SlotRequest;
+use crate::running::{Room, serve, serve_at};
+use crate::slot::{SlotRequest, Stored};
 use buffer_pool::BufferPool;
 use message_buffer::MsgBuf;
 use packet_header::MessageHeader;
 use packet_rings::Entry;
-use rpc_base::Who;
+use rpc_base::{PART_BYTES, Who};
 use rpc_outside::{Recorder, Service};
 
 impl ServerSession {
     // The handler of a request that was taken with its last packet runs, which is noted with the
     // bytes of both messages. The answer is held for the reply to that packet.
     pub(super) fn answer_inline<V: Service, R: Recorder>(
+        &mut self,
+        pool: &mut BufferPool,
+        service: &mut V,
+        request: SlotRequest,
+        head: &MessageHeader,
+        ask: &[u8],
+        room: Room,
+        who: &Who,
+        rec: &mut R,
+    ) -> Entry
+        requires awaited { IsAwaited request self.old pool.old }
+        requires own { request.number ≡ head.now.request }
+        requires last { head.now.number + 1 ≡ packet_count request.size }
+        requires serves { CanServe V.Service service.old head.now.req_type ask.now (size_in room) }
+        requires room { IsRoom room }
+        ensures answers { IsServed V.Service R.log who.now head.now ask.now
+            (seen (pooled self.old pool.old service.old rec.old))
+            (seen (pooled self.new pool.new service.new rec.new)) }
+        ensures no_bytes { HasNoBytes (newest head.now.request self.new) }
+        ensures replies { GivesReply head.now.request head.now.number result self.old self.new
+            pool.old pool.new }
+    {
+        match room {
+            Room::Own(size) => {
+                self.answer_short(pool, service, request, size, head, ask, who, rec)
+            }
+            Room::Made(room) => {
+                self.answer_long(pool, service, request, head, ask, room, who, rec)
+            }
+        }
+    }
+
+    // So it is where the answer stands in the slot's own buffer. No memory is wanted.
+    fn answer_short<V: Service, R: Recorder>(
+        &mut self,
+        pool: &mut BufferPool,
+        service: &mut V,
+        request: SlotRequest,
+        size: u32,
+        head: &MessageHeader,
+        ask: &[u8],
+        who: &Who,
+        rec: &mut R,
+    ) -> Entry
+        requires awaited { IsAwaited request self.old pool.old }
+        requires own { request.number ≡ head.now.request }
+        requires last { head.now.number + 1 ≡ packet_count request.size }
+        requires serves { CanServe V.Service service.old head.now.req_type ask.now size }
+        requires short { size ≤ PART_BYTES }
+        ensures answers { IsServed V.Service R.log who.now head.now ask.now
+            (seen (pooled self.old pool.old service.old rec.old))
+            (seen (pooled self.new pool.new service.new rec.new)) }
+        ensures no_bytes { HasNoBytes (newest head.now.request self.new) }
+        ensures replies { GivesReply head.now.request head.now.number result self.old self.new
+            pool.old pool.new }
+    {
+        let place = self.slots.lend(pool, &request, size);
+        serve_at(pool, service, place, size, head.req_type, ask);
+        self.note_ran(head, ask, pool.get(place).bytes(), who, rec);
+        pool.hold(place);
+        let answer = Stored {
+            place,
+            size,
+            own: true,
+        };
+        let request = request.worked(answer);
+        request.entry(self.number, head.number, self.peer)
+    }
+
+    // So it is where the answer stands in a buffer that was made for it.
+    fn answer_long<V: Service, R: Recorder>(
         &mut self,
         pool: &mut BufferPool,
         service: &mut V,

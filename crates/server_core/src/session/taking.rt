@@ -1,13 +1,9 @@
 //! What a packet that is taken does: a request begins or goes on, and its handler runs after its
 //! last packet.
-ghost use Rattle.std.specs.Prelude.{◌≡◌, ◌≢◌, ℕ, ◌<◌, ◌≤◌, ◌+◌, ◌*◌, List, [], ◌∷◌, ◌++◌, length};
-ghost use Rattle.std.specs.Prelude.{take, IfSome, None, Some, true};
-ghost use Rattle.std.specs.List.{find};
-ghost use Rattle.rpc_base.specs.Tables.{without_first};
+ghost use Rattle.std.specs.Prelude.{◌≡◌, ◌≢◌, ◌<◌, ◌≤◌, List, [], ◌++◌, length};
+ghost use Rattle.std.specs.Prelude.{IfSome, None, Some, true};
 ghost use Rattle.packet_header.specs.Parts.{packet_count, part_size};
 ghost use Rattle.message_buffer.specs.Buffer.{bytes_of, capacity_of};
-ghost use Rattle.buffer_pool.specs.Pool.{IsFull, buf_at, emptied, filled, lowest_empty, refs_of};
-ghost use Rattle.buffer_pool.specs.Pool.{spare_of};
 ghost use Rattle.packet_rings.specs.Rings.{ring};
 ghost use Rattle.packet_rings.specs.Values.{EntryValue};
 ghost use Rattle.rpc_laws.specs.declared.rows.ServerRow.TheVariants.{Begins};
@@ -15,20 +11,15 @@ ghost use Rattle.rpc_laws.specs.ServerTable.{is_last, makes_job};
 ghost use Rattle.rpc_outside.specs.declared.service.Mode.{Mode};
 ghost use Rattle.rpc_outside.specs.declared.service.Mode.TheVariants.{Unserved};
 ghost use Rattle.server_core.specs.Flushing.{replies_of, ring_after};
-ghost use Rattle.server_core.specs.KeepsPool.{IsKept, KeepsPool};
-ghost use Rattle.server_core.specs.KeepsPool.{own_names};
 ghost use Rattle.server_core.specs.Noting.{early_facts, first_facts};
 ghost use Rattle.server_core.specs.Replies.{CanHold};
-ghost use Rattle.server_core.specs.Serving.{IsUnheld, given_up, next_taken};
-ghost use Rattle.server_core.specs.Serving.{without_answer, without_ask, without_buffers};
+ghost use Rattle.server_core.specs.Serving.{next_taken};
 ghost use Rattle.server_core.specs.declared.slot.SlotState.TheVariants.{Taking};
-ghost use Rattle.server_core.specs.Session.{IsInTurn, IsSession, ask_of, is_in_slot};
-ghost use Rattle.server_core.specs.Session.{newest};
+ghost use Rattle.server_core.specs.Session.{IsInTurn, IsSession, ask_of, newest};
 ghost use Rattle.server_core.specs.Shown.{ask_in, shown};
-ghost use Rattle.server_core.specs.Steps.{HasTaken};
-ghost use Rattle.server_core.specs.Steps.{IsNextOf};
+ghost use Rattle.server_core.specs.Steps.{HasTaken, IsNextOf, NeedsNoMemory};
 ghost use Rattle.server_core.specs.Steps.{asked_with, begun_with};
-ghost use Rattle.server_core.specs.Steps.{bytes_with, first_shown, gone_on_as, grown};
+ghost use Rattle.server_core.specs.Steps.{bytes_with, first_shown, gone_on_as, grown, whole_with};
 ghost use Rattle.server_core.specs.Handling.{Leaves};
 ghost use Rattle.server_core.specs.Keeping.{KeepsReplies, StaysSound};
 ghost use Rattle.server_core.specs.Wanting.{CanBegin, IsNewest, IsServing, MayBegin, MayTake};
@@ -36,9 +27,9 @@ ghost use Rattle.server_core.specs.Scene.{pooled};
 ghost use Rattle.server_core.specs.Keeping.{BeginsWithReply, GivesReply};
 
 use super::ServerSession;
-use crate::running::{make_answer, make_message, make_room};
-use crate::slot::{SlotRequest, SlotState, Stored, is_background};
-use crate::slots::Slots;
+use crate::buffers::put_message;
+use crate::running::{Room, make_answer, make_message, make_room};
+use crate::slot::{SlotRequest, SlotState, is_background};
 use crate::step::Step;
 use buffer_pool::BufferPool;
 use message_buffer::MsgBuf;
@@ -52,7 +43,7 @@ use worker_board::Parcel;
 impl ServerSession {
     // A new request begins with this packet. Where it is the only one, its handler runs, or it goes
     // to a worker. The buffers are made first, and then the replies to the older request of the
-    // slot are flushed. None is made where the older answer's buffer can be used again.
+    // slot are flushed. None is made for a short answer of a type that is handled inline.
     pub(super) fn begin<V: Service, R: Recorder>(
         &mut self,
         alloc: Global,
@@ -79,6 +70,8 @@ impl ServerSession {
             (pooled self.new pool.new service.new rec.new) }
         ensures replies { KeepsReplies tx.old.items (tx.new.items ++ replies_of result) self.old
             self.new pool.old pool.new }
+        ensures short { NeedsNoMemory mode V.answer (V.stands service.old) head.now
+            (whole_with head.now body.now (shown pool.old self.old)) result }
     {
         if count(head.size) > 1 {
             let Ok(ask) = make_message(alloc, head.size, body) else {
@@ -99,19 +92,11 @@ impl ServerSession {
             self.begin_working(pool, head);
             return Step::Give(self.parcel(head, ask, room));
         }
-        let size = service.room(head.req_type, body);
-        if let Some(place) = self.reusable(pool, head.request, size) {
-            self.flush_older(pool, tx, head.request, who, rec);
-            let reply = self.answer_again(pool, service, place, size, head, body, who, rec);
-            return Step::Ran { reply };
-        }
-        let Ok(room) = make_answer(alloc, size) else {
+        let Ok(room) = Room::of(alloc, service.room(head.req_type, body)) else {
             return Step::Dropped(DropReason::NoMemory);
         };
         self.flush_older(pool, tx, head.request, who, rec);
-        self.begin_working(pool, head);
-        let request = SlotRequest::given(head);
-        let reply = self.answer_inline(pool, service, request, head, body, room, who, rec);
+        let reply = self.begin_inline(pool, service, room, head, body, who, rec);
         Step::Ran { reply }
     }
 
@@ -136,7 +121,8 @@ impl ServerSession {
     }
 
     // The next packet of a request is taken. After its last one the handler runs, or the request
-    // goes to a worker. The buffer of the answer is made first.
+    // goes to a worker. The buffer of the answer is made first, but for a short one of a type that
+    // is handled inline.
     pub(super) fn take<V: Service, R: Recorder>(
         &mut self,
         alloc: Global,
@@ -160,6 +146,8 @@ impl ServerSession {
             (pooled self.new pool.new service.new rec.new) }
         ensures replies { (entries : List EntryValue) → KeepsReplies entries
             (entries ++ replies_of result) self.old self.new pool.old pool.new }
+        ensures short { NeedsNoMemory mode V.answer (V.stands service.old) head.now
+            (whole_with head.now body.now (shown pool.old self.old)) result }
     {
         let Some(request) = self.newest(head.request) else {
             unreachable!()
@@ -177,13 +165,18 @@ impl ServerSession {
             return Step::Took { reply: Some(reply) };
         }
         let whole = pool.get(place).bytes();
-        let Ok(room) = make_room(alloc, service, head.req_type, whole) else {
+        let size = service.room(head.req_type, whole);
+        if is_background(mode) {
+            let Ok(room) = make_answer(alloc, size) else {
+                return Step::Dropped(DropReason::NoMemory);
+            };
+            let ask = self.take_working(pool, request, place);
+            return Step::Give(self.parcel(head, ask, room));
+        }
+        let Ok(room) = Room::of(alloc, size) else {
             return Step::Dropped(DropReason::NoMemory);
         };
         let ask = self.take_working(pool, request, place);
-        if is_background(mode) {
-            return Step::Give(self.parcel(head, ask, room));
-        }
         let given = request.last_given();
         let reply = self.answer_inline(pool, service, given, head, ask.bytes(), room, who, rec);
         Step::Ran { reply }
@@ -199,7 +192,7 @@ impl ServerSession {
             ≡ begun_with (first_shown head.now (bytes_of ask) None) (shown pool.old self.old) }
         ensures replies { BeginsWithReply head.now result self.old self.new pool.old pool.new }
     {
-        give_up(&mut self.slots, pool, head.request.slot());
+        self.slots.give_up(pool, head.request.slot());
         let ask = put_message(pool, ask);
         let request = SlotRequest {
             number: head.request,
@@ -252,77 +245,4 @@ impl ServerSession {
         let at = PART_BYTES * u32::from(request.taken);
         pool.get_mut(place).write(at, body);
     }
-}
-
-/// The newest request of a slot is given up, of which no reply is queued: its buffers leave the
-/// pool.
-pub(super) fn give_up(slots: &mut Slots, pool: &mut BufferPool, slot: u8)
-    requires keeps_pool { KeepsPool pool.old slots.old }
-    requires unheld { IfSome (find (is_in_slot slot) slots.old) (IsUnheld pool.old) }
-    ensures slots { slots.new ≡ without_first (is_in_slot slot) slots.old }
-    ensures pool { pool.new ≡ given_up (find (is_in_slot slot) slots.old) pool.old }
-{
-    let Some(request) = slots.of_slot(slot) else {
-        return;
-    };
-    slots.remove(slot);
-    empty_buffers(pool, &request);
-}
-
-/// Drops the buffers of a request of which no reply is queued: they leave the pool.
-pub(super) fn empty_buffers(pool: &mut BufferPool, request: &SlotRequest)
-    requires kept { IsKept pool.old request.now }
-    requires apart { (p : ℕ) → own_names p request.now ≤ 1 }
-    requires unheld { IsUnheld pool.old request.now }
-    ensures { pool.new ≡ without_buffers request.now pool.old }
-{
-    empty_ask(pool, request.ask());
-    empty_answer(pool, request.answer());
-}
-
-// Drops the buffer of a place to which there is no reference.
-fn empty_place(pool: &mut BufferPool, place: Place)
-    requires full { IsFull pool.old place }
-    requires unheld { refs_of pool.old place ≡ 0 }
-    ensures { pool.new ≡ emptied place pool.old }
-{
-    let Ok(_dropped) = pool.take(place) else {
-        unreachable!()
-    };
-}
-
-// Drops the buffer of a request, unless it went with a job.
-fn empty_ask(pool: &mut BufferPool, ask: Option<Place>)
-    requires full { IfSome ask (IsFull pool.old) }
-    requires unheld { IfSome ask (λ p. refs_of pool.old p ≡ 0) }
-    ensures { pool.new ≡ without_ask ask pool.old }
-{
-    if let Some(place) = ask {
-        empty_place(pool, place);
-    }
-}
-
-// Drops the buffer of an answer, if there is one.
-fn empty_answer(pool: &mut BufferPool, answer: Option<Stored>)
-    requires full { IfSome answer (λ a. IsFull pool.old a.place) }
-    requires unheld { IfSome answer (λ a. refs_of pool.old a.place ≡ 0) }
-    ensures { pool.new ≡ without_answer answer pool.old }
-{
-    if let Some(answer) = answer {
-        empty_place(pool, answer.place);
-    }
-}
-
-/// Puts a message into the pool, which has an empty place.
-pub(super) fn put_message(pool: &mut BufferPool, message: MsgBuf) -> Stored
-    requires { 0 < spare_of pool.old }
-    ensures place { lowest_empty pool.old ≡ Some result.place }
-    ensures pool { pool.new ≡ filled result.place message pool.old }
-    ensures there { buf_at pool.new result.place ≡ Some message }
-    ensures size { result.size ≡ message.len }
-    ensures fits { message.len ≤ capacity_of message }
-{
-    let place = pool.put(message);
-    let size = pool.get(place).len();
-    Stored { place, size }
 }

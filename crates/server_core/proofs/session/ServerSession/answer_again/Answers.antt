@@ -1,4 +1,4 @@
-use Rattle.std.proofs.Common.{◌≡◌, Some, refl, sym, ap, ◌∙◌, arith}
+use Rattle.std.proofs.Common.{◌≡◌, Some, true, refl, sym, ap, ◌∙◌, arith}
 use Rattle.message_buffer.specs.Buffer.{bytes_of}
 use Rattle.message_buffer.specs.Messages.{message_in}
 use Rattle.buffer_pool.specs.Pool.{buf_at}
@@ -6,7 +6,7 @@ use Rattle.server_core.specs.Serving.{begun, with_slots}
 use Rattle.server_core.specs.Session.{newest}
 use Rattle.server_core.specs.Shown.{shown}
 use Rattle.server_core.proofs.AgainLemmas.{again-counts, again-full, again-holds, again-keeps}
-use Rattle.server_core.proofs.AgainLemmas.{again-others, again-reply, again-shows, again-spare}
+use Rattle.server_core.proofs.AgainLemmas.{again-others, again-own, again-reply, again-shows, again-spare}
 use Rattle.server_core.proofs.AgainLemmas.{again-unheld, again_request}
 use Rattle.server_core.proofs.AgainLemmas.{answered-turn}
 use Rattle.server_core.proofs.BeginLemmas.{begun-newest, begun-served}
@@ -19,6 +19,15 @@ pub serve_at-requires-clause-full : goal.serve_at-requires-clause-full
 serve_at-requires-clause-full g c =
     again-full c.args.pool.now c.args.self.now c.args.head.now c.args.size c.args.place
     c.requires.reusable c.requires.whole.begins.keeps_pool
+
+pub serve_at-requires-clause-own : goal.serve_at-requires-clause-own
+serve_at-requires-clause-own g c =
+    again-own c.args.pool.now c.args.self.now c.args.head.now c.args.size c.args.place
+    c.requires.reusable c.requires.whole.begins.keeps_pool
+
+pub begin_answered-requires-clause-lent : goal.begin_answered-requires-clause-lent
+begin_answered-requires-clause-lent g c =
+    rw (c.requires.reusable.newest_is, c.requires.reusable.answer_is) c.requires.reusable.own
 
 pub get-requires : goal.get-requires
 get-requires g c = rw c.serve_at.ensures.rewritten.after_is
@@ -50,7 +59,7 @@ returns-clause-answers g c =
       answer = bytes_of re.buf;
       shown_is = rw (c.begin_answered.ensures.session, c.begin_answered.ensures.pool, re.after_is)
           (again-shows c.args.pool.now c.args.self.now c.args.head.now c.args.size c.args.place
-          c.requires.reusable c.requires.whole.begins.keeps_pool re.buf (rw re.after_is at re.there) re.size_is)
+          c.requires.reusable c.requires.whole.begins.keeps_pool re.buf (rw re.after_is at re.there) re.size_is re.own)
           ∙ answered-begun v c.args.head.now (bytes_of re.buf) none;
       by_service = λ served stands. (
         sym bytes ∙ c.serve_at.ensures.answer served stands,
@@ -67,12 +76,12 @@ returns-clause-replies g c =
     let re = c.serve_at.ensures.rewritten in
     let e = c.begin_answered.result in
     let d = again_request head c.args.size c.args.place in
-    let turn = answered-turn head (record { place = c.args.place; size = c.args.size })
-    c.requires.whole.begins.size c.requires.whole.one c.requires.answer in
+    let turn = answered-turn head (record { place = c.args.place; size = c.args.size; own = true })
+    c.requires.whole.begins.size c.requires.whole.one (omega (arith, c.requires.short)) in
     let unheld = again-unheld pool s head c.args.size c.args.place c.requires.reusable
     c.requires.whole.begins.keeps_pool (rw c.requires.reusable.newest_is at c.requires.whole.begins.unheld) in
     let place = ap (λ x. x.place) c.begin_answered.ensures.reply
-    ∙ late-placed d (record { place = c.args.place; size = c.args.size }) 0 refl
+    ∙ late-placed d (record { place = c.args.place; size = c.args.size; own = true }) 0 refl
     (omega (arith, c.requires.whole.one)) in
     rw (c.begin_answered.ensures.session, c.begin_answered.ensures.pool, re.after_is) (record {
       reply = rw c.begin_answered.ensures.reply (again-reply pool s head c.args.size c.args.place
@@ -84,7 +93,7 @@ returns-clause-replies g c =
               c.requires.whole.begins.keeps_pool re.buf;
           others = again-others pool s head c.args.size c.args.place c.requires.reusable re.buf;
           keeps_pool = again-keeps pool s head c.args.size c.args.place c.requires.reusable
-              c.requires.whole.begins.keeps_pool re.buf (rw re.after_is at re.there) re.size_is;
+              c.requires.whole.begins.keeps_pool re.buf (rw re.after_is at re.there) re.size_is re.own;
         };
         replies = λ es. record {
           holds = λ all. rw c.begin_answered.ensures.reply (again-holds pool s head c.args.size

@@ -1,4 +1,5 @@
 use Rattle.std.proofs.Common.{◌≡◌, None, [], ◌∷◌, refl, sym, ap, ◌∙◌, arith}
+use Rattle.std.proofs.lemmas.Bool.{eq-eqb}
 use Rattle.packet_header.specs.Parts.{packet_count}
 use Rattle.packet_header.proofs.PartsLemmas.{packet_count_above}
 use Rattle.rpc_laws.specs.Requests.{answered, given}
@@ -7,8 +8,9 @@ use Rattle.server_core.specs.Steps.{begun_with, first_shown, gone_on_as}
 use Rattle.server_core.proofs.FlushLemmas.{grew-none, grew-then}
 use Rattle.server_core.proofs.StepLemmas.{asked-begun, first-took, gave-begun, none-shown}
 use Rattle.server_core.proofs.StepLemmas.{ran-whole, took-begun, whole-first}
+use Rattle.server_core.proofs.ShortLemmas.{is-long}
 use Rattle.server_core.proofs.session.ServerSession.begin.Goals as goal
-use Rattle.server_core.proofs.StaysLemmas.{begins-then, places-then, replies-then}
+use Rattle.server_core.proofs.StaysLemmas.{places-then, replies-then}
 
 pub make_message-requires-clause-first : goal.make_message-requires-clause-first
 make_message-requires-clause-first g c =
@@ -98,12 +100,12 @@ returns-then-is_background-clause-replies g c =
     replies-then c.flush_older-then-is_background.ensures.replies
     (c.begin_working.ensures.begins.replies c.flush_older-then-is_background.new.tx.items)
 
-pub returns-in-Some-clause-leaves : goal.returns-in-Some-clause-leaves
-returns-in-Some-clause-leaves g c =
+pub returns-clause-leaves : goal.returns-clause-leaves
+returns-clause-leaves g c =
     let v = shown c.args.pool.now c.args.self.now in
     let none = none-shown c.args.pool.now c.args.self.now c.args.head.now.request c.requires.ready.session
     c.requires.ready.beginning.newer in
-    let answers = c.answer_again-reply.ensures.answers in
+    let answers = c.begin_inline-reply.ensures.answers in
     let asked = asked-begun v c.args.head.now c.args.body.now none in
     record {
       handled = record {
@@ -112,65 +114,38 @@ returns-in-Some-clause-leaves g c =
             ∙ ap (λ w. w ∷ []) (sym (answers.shown_is
             ∙ ap (λ x. gone_on_as c.args.head.now.request (answered answers.answer)
             (begun_with (given (first_shown c.args.head.now [] None)) x))
-            c.flush_older-in-Some.ensures.shown));
+            c.flush_older-2.ensures.shown));
         by_service = rw asked answers.by_service;
         grew = rw asked (grew-then g.R.Recorder.log c.args.rec.now
-            c.flush_older-in-Some.new.rec c.answer_again-reply.new.rec _ _
-            c.flush_older-in-Some.ensures.noted answers.grew);
+            c.flush_older-2.new.rec c.begin_inline-reply.new.rec _ _
+            c.flush_older-2.ensures.noted answers.grew);
       };
-      reply = rw c.requires.ready.beginning.first c.answer_again-reply.ensures.replies.reply;
+      reply = rw c.requires.ready.beginning.first c.begin_inline-reply.ensures.replies.reply;
       give = tt;
-      no_bytes = c.answer_again-reply.ensures.no_bytes;
+      no_bytes = c.begin_inline-reply.ensures.no_bytes;
       service = tt;
       session = tt;
       pool = tt;
-      all_served = c.answer_again-reply.ensures.replies.begins.served g.V.Service.mode_of
+      all_served = c.begin_inline-reply.ensures.replies.begins.served g.V.Service.mode_of
           (rw c.requires.serving.mode c.requires.served) c.requires.serving.all_served;
-      places = places-then c.flush_older-in-Some.ensures.places
-          c.answer_again-reply.ensures.replies.begins.places;
-    }
-
-pub returns-in-Some-clause-replies : goal.returns-in-Some-clause-replies
-returns-in-Some-clause-replies g c =
-    replies-then c.flush_older-in-Some.ensures.replies
-    (c.answer_again-reply.ensures.replies.begins.replies c.flush_older-in-Some.new.tx.items)
-
-pub returns-clause-leaves : goal.returns-clause-leaves
-returns-clause-leaves g c =
-    let v = shown c.args.pool.now c.args.self.now in
-    let none = none-shown c.args.pool.now c.args.self.now c.args.head.now.request c.requires.ready.session
-    c.requires.ready.beginning.newer in
-    let answers = c.answer_inline-reply.ensures.answers in
-    let before : shown c.begin_working-2.new.pool c.begin_working-2.new.self
-    ≡ begun_with (given (first_shown c.args.head.now [] None)) v =
-    c.begin_working-2.ensures.shown ∙ ap (begun_with _) c.flush_older-2.ensures.shown in
-    let asked = asked-begun v c.args.head.now c.args.body.now none in
-    let noted = rw c.begin_working-2.ensures.number at answers.grew in
-    record {
-      handled = record {
-        answer = answers.answer;
-        steps = ran-whole v c.args.head.now c.args.body.now answers.answer none
-            ∙ ap (λ w. w ∷ []) (sym (answers.shown_is
-            ∙ ap (gone_on_as c.args.head.now.request (answered answers.answer)) before));
-        by_service = rw asked answers.by_service;
-        grew = rw asked (grew-then g.R.Recorder.log c.args.rec.now
-            c.flush_older-2.new.rec c.answer_inline-reply.new.rec _ _ c.flush_older-2.ensures.noted
-            noted);
-      };
-      reply = c.answer_inline-reply.ensures.replies.reply;
-      give = tt;
-      no_bytes = c.answer_inline-reply.ensures.no_bytes;
-      service = tt;
-      session = tt;
-      pool = tt;
-      all_served = c.answer_inline-reply.ensures.replies.stays.served g.V.Service.mode_of
-          (c.begin_working-2.ensures.begins.served g.V.Service.mode_of
-          (rw c.requires.serving.mode c.requires.served) c.requires.serving.all_served);
-      places = places-then c.flush_older-2.ensures.places (places-then
-          c.begin_working-2.ensures.begins.places c.answer_inline-reply.ensures.replies.stays.places);
+      places = places-then c.flush_older-2.ensures.places
+          c.begin_inline-reply.ensures.replies.begins.places;
     }
 
 pub returns-clause-replies : goal.returns-clause-replies
 returns-clause-replies g c =
-    let both = begins-then c.begin_working-2.ensures.begins c.answer_inline-reply.ensures.replies.stays in
-    replies-then c.flush_older-2.ensures.replies (both.replies c.flush_older-2.new.tx.items)
+    replies-then c.flush_older-2.ensures.replies
+    (c.begin_inline-reply.ensures.replies.begins.replies c.flush_older-2.new.tx.items)
+
+pub returns-in_default-of-clause-short : goal.returns-in_default-of-clause-short
+returns-in_default-of-clause-short g c = λ inline last fits same.
+    let one : packet_count c.args.head.now.size ≡ 1 =
+    omega (
+      arith,
+      c.if-count-gt1.false,
+      c.count.ensures,
+      packet_count_above c.args.head.now.size,
+    ) in
+    is-long g.V.Service.answer (g.V.Service.stands c.args.service.now) c.args.head.now.req_type
+    c.args.body.now c.room-2.result c.requires.serving.founded c.room-2.ensures.length
+    c.in_default-of.ensures.long (rw (eq-eqb (packet_count c.args.head.now.size) 1 one) at fits)

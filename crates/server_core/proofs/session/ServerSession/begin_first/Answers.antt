@@ -33,8 +33,8 @@ put_message-ask-requires c =
       c.requires.begins.spare,
     ))
 
-pub push-requires : goal.push-requires
-push-requires c = rw (c.give_up.ensures.slots, c.slot.ensures)
+pub push-requires-clause-few : goal.push-requires-clause-few
+push-requires-clause-few c = rw (c.give_up.ensures.slots, c.slot.ensures)
     (few-left (the_view c.self.inside) c.self.invariant _ (omega arith))
 
 pub invariant_of-self : goal.invariant_of-self
@@ -123,3 +123,6 @@ returns-clause-replies c =
         served = λ mode_of new all. begun-served mode_of s.slots d new all;
       };
     })
+
+pub give_up-requires-clause-apart : goal.give_up-requires-clause-apart
+give_up-requires-clause-apart c = c.self.invariant.apart c.slot.result

@@ -17,8 +17,8 @@ use Rattle.std.proofs.Common.{◌+◌}
 use Rattle.packet_rings.specs.Mentions.{mentions}
 use Rattle.server_core.proofs.StaysLemmas.{replies-still}
 
-pub push-requires : goal.push-requires
-push-requires c = rw (c.give_up.ensures.slots, c.slot.ensures)
+pub push-requires-clause-few : goal.push-requires-clause-few
+push-requires-clause-few c = rw (c.give_up.ensures.slots, c.slot.ensures)
     (few-left (the_view c.self.inside) c.self.invariant _ (omega arith))
 
 pub invariant_of-self : goal.invariant_of-self
@@ -98,3 +98,6 @@ returns-clause-begins c =
       });
       served = λ mode_of new all. begun-served mode_of s.slots d new all;
     })
+
+pub give_up-requires-clause-apart : goal.give_up-requires-clause-apart
+give_up-requires-clause-apart c = c.self.invariant.apart c.slot.result

@@ -7,8 +7,8 @@ use Rattle.server_core.proofs.OtherLemmas.{all-others}
 use Rattle.server_core.proofs.SpareLemmas.{all-spare}
 use Rattle.server_core.proofs.session.ServerSession.finish.Goals as goal
 
-pub empty_buffers-requires-clause-apart : goal.empty_buffers-requires-clause-apart
-empty_buffers-requires-clause-apart c = λ p.
+pub empty_buffers-own-requires-clause-apart : goal.empty_buffers-own-requires-clause-apart
+empty_buffers-own-requires-clause-apart c = λ p.
     let front = next-front c.as_slice-request-items.result.now c.loop-request.request-index
     c.request-item.result c.loop-request-test.true c.request-item.is in
     let beside = front-beside c.loop-request.pool c.request-item.result _
@@ -22,7 +22,7 @@ loop-request-preserved c =
     let beside = front-beside c.loop-request.pool c.request-item.result _
     (rw front at c.loop-request.invariant.keeps) in
     let unheld = rw front at c.loop-request.invariant.unheld in
-    rw c.empty_buffers.ensures (record {
+    rw c.empty_buffers-own.ensures.pool (record {
       left = rw front at c.loop-request.invariant.left;
       keeps = gone-keeps c.loop-request.pool c.request-item.result _ beside;
       unheld = unheld-rest c.loop-request.pool c.request-item.result _ beside unheld.1;

@@ -1,13 +1,18 @@
-use Rattle.std.proofs.Common.{[], refl, sym}
+use Rattle.std.proofs.Common.{◌≡◌, [], refl, sym, ap, ◌∙◌}
+use Rattle.std.specs.Prelude.{option_map}
+use Rattle.rpc_base.specs.declared.state.DropReason.TheVariants.{NoMemory}
 use Rattle.rpc_laws.specs.declared.rows.ServerRow.TheVariants.{Drops, Begins, Takes, Repeats}
 use Rattle.server_core.specs.Handling.{Handles}
 use Rattle.server_core.specs.Noting.{early_facts}
+use Rattle.server_core.specs.Rows.{as_newest}
 use Rattle.server_core.specs.Scene.{at_desk, incoming}
+use Rattle.server_core.specs.Session.{newest}
 use Rattle.server_core.specs.Shown.{shown}
 use Rattle.server_core.specs.declared.step.Step.TheVariants.{Again, Dropped}
 use Rattle.server_core.specs.Steps.{asked_with}
 use Rattle.server_core.proofs.FlushLemmas.{grew-none}
 use Rattle.server_core.proofs.HandlingLemmas.{dropped-leaves, handles-by, handles-noted}
+use Rattle.server_core.proofs.LackLemmas.{row-has}
 use Rattle.server_core.proofs.StaysLemmas.{replies-still, same-places, same-replies}
 use Rattle.server_core.proofs.TableLemmas.{row-begins}
 use Rattle.server_core.proofs.session.ServerSession.on_packet.Goals as goal
@@ -53,7 +58,10 @@ returns g c =
           (asked_with h body (shown pool s)) answer (Dropped w.in-Drops.reason)) h body
           w.in-Drops.reason s pool pool c.args.service.now c.args.rec.now refl refl
           c.requires.all_served (same-places s pool keeps) (refl, λ other. refl))
-          (replies-still (same-replies s pool tx.items))))
+          (replies-still (same-replies s pool tx.items)) (λ inline last fits same.
+          let why : w.in-Drops.reason ≡ NoMemory = cc in
+          row-has c.mode-mode.result c.args.jobs_full (option_map as_newest (newest h.request s)) h
+          (sym w.in-Drops.ensures.row ∙ ap Drops why))))
       | in-Begins w ↦ (
           let b = w.begin-step in
           rw (w.self-is, w.pool-is, w.tx-is, w.service-is, w.rec-is, w.step-is)
@@ -62,7 +70,7 @@ returns g c =
           w.in-Begins.ensures.sound keeps Begins
           (rw c.mode-mode.ensures at (sym w.in-Begins.ensures.row))
           (rw c.mode-mode.ensures at b.ensures.taken) b.ensures.ring b.ensures.leaves
-          b.ensures.replies))
+          b.ensures.replies (rw c.mode-mode.ensures at b.ensures.short)))
       | in-Takes w ↦ (
           let t = w.take-step in
           rw (w.self-is, w.pool-is, w.tx-is, w.service-is, w.rec-is, w.step-is)
@@ -71,7 +79,7 @@ returns g c =
           w.in-Takes.ensures.sound keeps Takes
           (rw c.mode-mode.ensures at (sym w.in-Takes.ensures.row))
           (rw c.mode-mode.ensures at t.ensures.taken) refl t.ensures.leaves
-          (t.ensures.replies tx.items)))
+          (t.ensures.replies tx.items) (rw c.mode-mode.ensures at t.ensures.short)))
       | in-Repeats w ↦ (
           let r = w.repeat-reply in
           rw (w.self-is, w.pool-is, w.tx-is, w.service-is, w.rec-is, w.step-is)
@@ -95,6 +103,6 @@ returns g c =
             all_served = r.ensures.replies.stays.served v.mode_of c.requires.all_served;
             places = r.ensures.replies.stays.places;
           })
-          (r.ensures.replies.stays.replies tx.items)))
+          (r.ensures.replies.stays.replies tx.items) (λ inline last fits same. cc)))
     ] in
     handles-noted v log who packet m.step before after did c.note.new.rec c.note.ensures

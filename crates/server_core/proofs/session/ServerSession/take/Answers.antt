@@ -1,4 +1,6 @@
-use Rattle.std.proofs.Common.{◌≡◌, ◌≢◌, ◌+◌, ◌%◌, ◌≤◌, true, Some, None, ◌∷◌, [], refl, sym, ap, ◌∙◌, arith}
+use Rattle.std.specs.Prelude.{◌==◌}
+use Rattle.std.proofs.lemmas.Bool.{ne_eqb}
+use Rattle.std.proofs.Common.{◌≡◌, ◌≢◌, ◌+◌, ◌%◌, ◌≤◌, true, false, Some, None, ◌∷◌, [], refl, sym, ap, ◌∙◌, arith}
 use Rattle.rpc_laws.specs.Requests.{answered, given}
 use Rattle.rpc_laws.specs.ServerTable.{is_rfr}
 use Rattle.rpc_outside.specs.declared.service.Mode.TheVariants.{Unserved}
@@ -12,6 +14,7 @@ use Rattle.server_core.proofs.FlushLemmas.{grew-none}
 use Rattle.server_core.proofs.StepLemmas.{asked-gone, gave-gone, is-inline, is-taking, last-inline}
 use Rattle.server_core.proofs.StepLemmas.{more-bytes, more-turn, part-turn, ran-gone, took-gone}
 use Rattle.server_core.proofs.StepLemmas.{taking-by, whole-bytes}
+use Rattle.server_core.proofs.ShortLemmas.{is-long}
 use Rattle.server_core.proofs.session.ServerSession.take.Goals as goal
 use Rattle.server_core.proofs.StaysLemmas.{places-then, stays-then}
 use Rattle.rpc_base.proofs.FirstLemmas.{found-holds}
@@ -55,8 +58,8 @@ unreachable-requires-in_default-ask g c =
     let some : ask_of c.in-Some.request.state ≡ Some p = ap ask_of taking in
     cc
 
-pub make_room-requires-clause-message : goal.make_room-requires-clause-message
-make_room-requires-clause-message g c =
+pub room-size-requires-clause-message : goal.room-size-requires-clause-message
+room-size-requires-clause-message g c =
     let found = sym c.in-Some.ensures in
     let turn = found-holds (is_in_slot (c.args.head.now.request % 8)) IsInTurn c.args.self.now.slots
     c.in-Some.request c.requires.ready.session.in_turn found in
@@ -68,8 +71,8 @@ make_room-requires-clause-message g c =
     let size = rw c.get.ensures at asked.size_is in
     omega (arith, c.bytes-whole.ensures.len, size.0, turn.size)
 
-pub make_room-requires-clause-served : goal.make_room-requires-clause-served
-make_room-requires-clause-served g c =
+pub room-size-requires-clause-served : goal.room-size-requires-clause-served
+room-size-requires-clause-served g c =
     let found = sym c.in-Some.ensures in
     let next = rw found at c.requires.next in
     let part = next.part (sym c.is_rfr.ensures ∙ c.if-is_rfr.false) in
@@ -85,6 +88,14 @@ take_working-ask-requires-clause-kept g c =
     c.write_part.ensures.stays.places.keeps_pool.kept found in
     rw (sym c.in-Some-ask.ensures) at kept.ask
 
+pub take_working-ask-requires-2-clause-kept : goal.take_working-ask-requires-2-clause-kept
+take_working-ask-requires-2-clause-kept g c =
+    let found = sym c.in-Some.ensures in
+    let kept = found-holds (is_in_slot (c.args.head.now.request % 8))
+    (IsKept c.write_part.new.pool) c.args.self.now.slots c.in-Some.request
+    c.write_part.ensures.stays.places.keeps_pool.kept found in
+    rw (sym c.in-Some-ask.ensures) at kept.ask
+
 pub write_part-requires-clause-taking : goal.write_part-requires-clause-taking
 write_part-requires-clause-taking g c = taking-by c.in-Some.request.state c.in-Some-ask.place c.in-Some-ask.ensures
 
@@ -92,8 +103,19 @@ pub take_working-ask-requires-clause-taking : goal.take_working-ask-requires-cla
 take_working-ask-requires-clause-taking g c =
     taking-by c.in-Some.request.state c.in-Some-ask.place c.in-Some-ask.ensures
 
+pub take_working-ask-requires-2-clause-taking : goal.take_working-ask-requires-2-clause-taking
+take_working-ask-requires-2-clause-taking g c =
+    taking-by c.in-Some.request.state c.in-Some-ask.place c.in-Some-ask.ensures
+
 pub take_working-ask-requires-clause-size : goal.take_working-ask-requires-clause-size
 take_working-ask-requires-clause-size g c =
+    let found = sym c.in-Some.ensures in
+    let turn = found-holds (is_in_slot (c.args.head.now.request % 8)) IsInTurn c.args.self.now.slots
+    c.in-Some.request c.requires.ready.session.in_turn found in
+    turn.size
+
+pub take_working-ask-requires-2-clause-size : goal.take_working-ask-requires-2-clause-size
+take_working-ask-requires-2-clause-size g c =
     let found = sym c.in-Some.ensures in
     let turn = found-holds (is_in_slot (c.args.head.now.request % 8)) IsInTurn c.args.self.now.slots
     c.in-Some.request c.requires.ready.session.in_turn found in
@@ -110,7 +132,7 @@ last_given-given-requires g c =
 
 pub answer_inline-reply-requires-clause-awaited : goal.answer_inline-reply-requires-clause-awaited
 answer_inline-reply-requires-clause-awaited g c =
-    rw c.last_given-given.ensures c.take_working-ask.ensures.awaited
+    rw c.last_given-given.ensures c.take_working-ask-2.ensures.awaited
 
 pub answer_inline-reply-requires-clause-serves : goal.answer_inline-reply-requires-clause-serves
 answer_inline-reply-requires-clause-serves g c =
@@ -123,8 +145,8 @@ answer_inline-reply-requires-clause-serves g c =
     c.get.result.now kept (sym c.in-Some-ask.ensures) c.get.ensures
     (omega (arith, c.if-from-count.false, c.from.ensures, c.count.ensures)) in
     let own = whole-bytes c.write_part.new.pool c.in-Some.request c.in-Some-ask.place
-    c.take_working-ask.result kept (sym c.in-Some-ask.ensures)
-    c.take_working-ask.ensures.ask (omega
+    c.take_working-ask-2.result kept (sym c.in-Some-ask.ensures)
+    c.take_working-ask-2.ensures.ask (omega
     (arith, c.if-from-count.false, c.from.ensures, c.count.ensures)) in
     let next = rw found at c.requires.next in
     let part = next.part (sym c.is_rfr.ensures ∙ c.if-is_rfr.false) in
@@ -136,7 +158,8 @@ answer_inline-reply-requires-clause-serves g c =
     record {
       inline = rw c.requires.serving.mode (is-inline c.args.mode known
           (sym c.is_background.ensures ∙ c.if-is_background.false));
-      room = λ served stands. rw (c.bytes.ensures.message, own, ← ask_is) (c.in-Ok.ensures.room served stands);
+      room = λ served stands. rw (c.bytes.ensures.message, own, ← ask_is, c.in-Ok-of.ensures.size)
+          (c.room-size.ensures.length served stands);
       founded = c.requires.serving.founded;
     }
 
@@ -266,8 +289,9 @@ returns-then-is_background-clause-leaves g c =
         request = refl;
         req_type = refl;
         ask = own ∙ sym asked;
-        room = λ served stands. rw (own, ← ask_is) (c.in-Ok.ensures.room served stands);
-        most = c.in-Ok.ensures.message.0;
+        room = λ served stands. rw (own, ← ask_is, c.in-Ok.ensures.0)
+            (c.room-size.ensures.length served stands);
+        most = rw c.in-Ok.ensures.0 c.room-size.ensures.most;
       });
       no_bytes = tt;
       service = refl;
@@ -296,14 +320,14 @@ returns-clause-leaves g c =
     c.requires.ready.session found next.same c.args.body.now bytes
     (sym c.write_part.ensures.bytes) in
     let own = whole-bytes c.write_part.new.pool c.in-Some.request c.in-Some-ask.place
-    c.take_working-ask.result kept (sym c.in-Some-ask.ensures)
-    c.take_working-ask.ensures.ask (omega
+    c.take_working-ask-2.result kept (sym c.in-Some-ask.ensures)
+    c.take_working-ask-2.ensures.ask (omega
     (arith, c.if-from-count.false, c.from.ensures, c.count.ensures)) in
     let answers = c.answer_inline-reply.ensures.answers in
     let v = shown c.args.pool.now c.args.self.now in
-    let before : shown c.take_working-ask.new.pool c.take_working-ask.new.self
+    let before : shown c.take_working-ask-2.new.pool c.take_working-ask-2.new.self
     ≡ gone_on_as c.in-Some.request.number (λ x. given (grown [] x)) v =
-    c.take_working-ask.ensures.shown ∙ ap
+    c.take_working-ask-2.ensures.shown ∙ ap
     (gone_on_as c.in-Some.request.number (λ x. given (grown [] x)))
     c.write_part.ensures.shown in
     let same = c.bytes.ensures.message ∙ own ∙ sym asked in
@@ -316,7 +340,7 @@ returns-clause-leaves g c =
             (answers.shown_is ∙ ap (gone_on_as c.args.head.now.request (answered answers.answer))
             before));
         by_service = rw same at answers.by_service;
-        grew = rw (same, c.take_working-ask.ensures.number) at answers.grew;
+        grew = rw (same, c.take_working-ask-2.ensures.number) at answers.grew;
       };
       reply = c.answer_inline-reply.ensures.replies.reply;
       give = tt;
@@ -325,13 +349,39 @@ returns-clause-leaves g c =
       session = tt;
       pool = tt;
       all_served = c.answer_inline-reply.ensures.replies.stays.served g.V.Service.mode_of
-          (c.take_working-ask.ensures.stays.served g.V.Service.mode_of c.requires.serving.all_served);
+          (c.take_working-ask-2.ensures.stays.served g.V.Service.mode_of c.requires.serving.all_served);
       places = places-then c.write_part.ensures.stays.places (places-then
-          c.take_working-ask.ensures.stays.places c.answer_inline-reply.ensures.replies.stays.places);
+          c.take_working-ask-2.ensures.stays.places c.answer_inline-reply.ensures.replies.stays.places);
     }
 
 pub returns-clause-replies : goal.returns-clause-replies
 returns-clause-replies g c =
     let all = stays-then c.write_part.ensures.stays
-    (stays-then c.take_working-ask.ensures.stays c.answer_inline-reply.ensures.replies.stays) in
+    (stays-then c.take_working-ask-2.ensures.stays c.answer_inline-reply.ensures.replies.stays) in
     all.replies
+
+pub returns-in_default-of-clause-short : goal.returns-in_default-of-clause-short
+returns-in_default-of-clause-short g c = λ inline last fits same.
+    let found = sym c.in-Some.ensures in
+    let next = rw found at c.requires.next in
+    let kept = found-holds (is_in_slot (c.args.head.now.request % 8))
+    (IsKept c.write_part.new.pool) c.args.self.now.slots c.in-Some.request
+    c.write_part.ensures.stays.places.keeps_pool.kept found in
+    let part = next.part (sym c.is_rfr.ensures ∙ c.if-is_rfr.false) in
+    let turn = found-holds (is_in_slot (c.args.head.now.request % 8)) IsInTurn c.args.self.now.slots
+    c.in-Some.request c.requires.ready.session.in_turn found in
+    let several : (packet_count c.args.head.now.size == 1) ≡ false =
+    ne_eqb (packet_count c.args.head.now.size) 1
+    (λ one. absurd (omega (arith, rw part.size at one, part.within, next.in_turn, turn.some))) in
+    let bytes = bytes_with c.write_part.new.pool c.in-Some.request in
+    let asked = asked-gone c.args.pool.now c.args.self.now c.in-Some.request c.args.head.now
+    c.requires.ready.session found next.same c.args.body.now bytes
+    (sym c.write_part.ensures.bytes) in
+    let ask_is = c.bytes-whole.ensures.message
+    ∙ whole-bytes c.write_part.new.pool c.in-Some.request c.in-Some-ask.place
+    c.get.result.now kept (sym c.in-Some-ask.ensures) c.get.ensures
+    (omega (arith, c.if-from-count.false, c.from.ensures, c.count.ensures)) in
+    is-long g.V.Service.answer (g.V.Service.stands c.args.service.now) c.args.head.now.req_type
+    bytes c.room-size.result c.requires.serving.founded
+    (rw ask_is at c.room-size.ensures.length) c.in_default-of.ensures.long
+    (rw (several, asked) at fits)

@@ -1,5 +1,5 @@
 use Rattle.message_buffer.specs.Buffer.{bytes_of}
-use Rattle.server_core.proofs.session.ServerSession.answer_inline.Goals as goal
+use Rattle.server_core.proofs.session.ServerSession.answer_long.Goals as goal
 
 pub returns-clause-answers : goal.returns-clause-answers
 returns-clause-answers g c = record {

@@ -1,7 +1,7 @@
 use Rattle.server_core.specs.Session.{ask_of}
 use Rattle.std.proofs.Common.{[]}
-use Rattle.server_core.proofs.GivenLemmas.{alone, answer-full, answer-unheld, ask-full}
-use Rattle.server_core.proofs.session.taking.empty_buffers.Goals as goal
+use Rattle.server_core.proofs.GivenLemmas.{alone, answer-full, answer-own, answer-unheld, ask-full}
+use Rattle.server_core.proofs.buffers.empty_buffers.Goals as goal
 
 pub empty_ask-requires-clause-full : goal.empty_ask-requires-clause-full
 empty_ask-requires-clause-full c =
@@ -25,3 +25,9 @@ empty_answer-requires-clause-unheld c =
     (answer-unheld c.args.pool.now c.args.request.now []
     (alone c.args.pool.now c.args.request.now c.requires.kept c.requires.apart)
     c.requires.unheld)
+
+pub empty_answer-requires-clause-own : goal.empty_answer-requires-clause-own
+empty_answer-requires-clause-own c =
+    rw (c.answer.ensures, c.empty_ask.ensures, c.ask.ensures)
+    (answer-own c.args.pool.now c.args.request.now []
+    (alone c.args.pool.now c.args.request.now c.requires.kept c.requires.apart))
