@@ -219,10 +219,10 @@ module _ (sides : List Side) (servers : List Serving) (s : Side) where
       )
 
 pub kept-paired : (pool : Pool) (sides : List Side) (servers : List Serving) (tx : Ring EntryValue)
-    (s : Side) (server credits : ℕ) → Kept pool sides servers tx
-    → s.session ≡ new_session (length sides) server credits
+    (s : Side) (server life credits : ℕ) → Kept pool sides servers tx
+    → s.session ≡ new_session (length sides) server life credits
     → Kept pool (sides ++ s ∷ []) servers tx
-kept-paired pool sides servers tx s server credits kept session =
+kept-paired pool sides servers tx s server life credits kept session =
     let number : s.session.number ≡ length sides = ap (λ (x : Session). x.number) session in
     let none : s.session.active ≡ [] = ap (λ (x : Session). x.active) session in
     record {

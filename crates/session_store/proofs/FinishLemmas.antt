@@ -237,10 +237,10 @@ new-own pool sides servers n P below (e ∷ es) all =
     (λ is. (let no = unowned pool sides servers n below e e.owner all.0 in cc), new-own pool sides servers n P below es all.1)
 
 pub kept-server : (pool : Pool) (sides : List Side) (servers : List Serving) (tx : Ring EntryValue)
-    (v : Serving) (n client peer credits : ℕ) → Kept pool sides servers tx
+    (v : Serving) (n client life peer credits : ℕ) → Kept pool sides servers tx
     → AllByRecursion (λ x. x.way.number < n) (map (shown_server pool) servers)
-    → v ≡ new_session n client peer credits → Kept pool sides (servers ++ v ∷ []) tx
-kept-server pool sides servers tx v n client peer credits kept below new =
+    → v ≡ new_session n client life peer credits → Kept pool sides (servers ++ v ∷ []) tx
+kept-server pool sides servers tx v n client life peer credits kept below new =
     let slots : v.slots ≡ [] = ap (λ (x : Serving). x.slots) new in
     let number : v.number ≡ n = ap (λ (x : Serving). x.number) new in
     record {

@@ -283,6 +283,7 @@ module _ {V R : Type 0} {v : Service.Ghosts V} {log : R → Log} {jobs_full : Bo
             (map queued_of (old.items ++ ps)) server h body
             (λ r. numbers-calls s.number r old.items ps calls) row;
         replies = beside-replies old.items new.items ps (replies_of step) calls g.replies;
+        short = g.short;
       }
 
   abbrev pub beside-step : {i : ℕ} {servers now : List Serving}

@@ -2,7 +2,7 @@
 -- store holds then, and what is shown of the session is as the definitions over histories have it.
 use Rattle.std.proofs.Common.{◌≡◌, ℕ, ◌+◌, ◌^◌, ◌<◌, true, false, Some, List, []}
 use Rattle.std.proofs.Common.{◌∷◌, ◌++◌, refl, sym, ap, subst, ◌∙◌, inl, inr, arith}
-use Rattle.std.specs.Prelude.{map, slice_get, slice_set, IfSome, IsSome}
+use Rattle.std.specs.Prelude.{map, slice_get, slice_set, IfSome}
 use Rattle.std.specs.List.{AllByRecursion, list_any}
 use Rattle.std.proofs.lemmas.Bool.{cases_eq, ne_eqb}
 use Rattle.rpc_base.specs.declared.owner.Owner.{Owner}
@@ -13,7 +13,6 @@ use Rattle.buffer_pool.specs.Pool.{Pool, spare_of}
 use Rattle.packet_rings.specs.Rings.{Ring}
 use Rattle.packet_rings.specs.Values.{EntryValue}
 use Rattle.node_laws.specs.QueuedPackets.{is_ask_of}
-use Rattle.rpc_laws.specs.ControlSteps.{own_request}
 use Rattle.rpc_laws.specs.Sessions.{comes_to, connects, is_connected as takes_calls}
 use Rattle.rpc_laws.specs.declared.tables.Client.{Client}
 use Rattle.client_core.specs.Session.{Session}
@@ -24,7 +23,7 @@ use Rattle.session_store.specs.declared.stage.Stage.{Stage}
 use Rattle.session_store.specs.declared.stage.Stage.TheVariants.{Connecting, Connected, Closing}
 use Rattle.session_store.specs.declared.stage.Stage.TheVariants.{Closed, Failed, Broken}
 use Rattle.session_store.specs.Changes.{ChangesAt, HasNoCalls, HasRequest, IsConnected}
-use Rattle.session_store.specs.Changes.{IsInState, sent_again}
+use Rattle.session_store.specs.Changes.{IsInState, has_request, sent_again}
 use Rattle.session_store.specs.Ends.{shown_end}
 use Rattle.session_store.specs.Sides.{HasSlots, IsOf, IsOfOwner, IsOfSide, Kept, Shown, SideAscends}
 use Rattle.session_store.specs.Sides.{SideKept, SideQueued, places_in, served_places, shown_of}
@@ -149,7 +148,7 @@ module _ (pool : Pool) (peer : ℕ) (s : Session) where
   closes-end Failed e = cc
   closes-end Broken e = cc
 
-  pub asks-end : (stage : Stage) (clock : ℕ) → IsSome (own_request (shown_end stage pool peer s))
+  pub asks-end : (stage : Stage) (clock : ℕ) → has_request (shown_end stage pool peer s).state ≡ true
       → shown_end (asked clock stage) pool peer s ≡ sent_again clock (shown_end stage pool peer s)
   asks-end (Connecting n m) clock e = refl
   asks-end Connected clock e = cc
@@ -176,7 +175,7 @@ module _ (pool : Pool) (peer : ℕ) (s : Session) where
   not-connected Failed e t = cc
   not-connected Broken e t = cc
 
-  pub asks-apart : (stage : Stage) → IsSome (own_request (shown_end stage pool peer s))
+  pub asks-apart : (stage : Stage) → has_request (shown_end stage pool peer s).state ≡ true
       → stage ≡ Connected → ⊥
   asks-apart (Connecting n m) some t = cc
   asks-apart Connected some t = cc
@@ -280,7 +279,7 @@ module _ (pool : Pool) (sides : List Side) (servers : List Serving) (tx : Ring E
       → Moved pool sides servers tx i (sent_again clock) seen
       (slice_set sides i (record side { stage = stage }))
   moved-asked clock stage is h =
-      let some = looked (λ x. IsSome (own_request x)) h in
+      let some = looked (λ x. has_request x.state ≡ true) h in
       let idle = none-of sides servers i side at
       (never-unconnected side (asks-apart pool side.peer side.session side.stage some)) tx.items
       kept.stands in

@@ -150,7 +150,11 @@ module _ (pool after : Pool) where
   answer-kept None same kept = tt
   answer-kept (Some a) same kept =
       let here = same a.place (omega (arith, named-one a.place a.place refl)) in
-      record { full = ap is_full here.use_is ∙ kept.full; size = rw here.buf_is kept.size }
+      record {
+        full = ap is_full here.use_is ∙ kept.full;
+        size = rw here.buf_is kept.size;
+        own = rw here.buf_is kept.own;
+      }
 
   pub request-kept : (q : SlotRequest) → ((p : ℕ) → 1 ≤ own_names p q → IsSame pool after p)
       → IsServed pool q → IsServed after q

@@ -432,6 +432,7 @@ module _ {V R : Type 0} {v : Service.Ghosts V} {log : R → Log} {jobs_full : Bo
         };
         reply = reply-own step g.step.leaves.reply;
         give = g.step.leaves.give;
+        short = g.step.short;
         changed = sym later-view ∙ ap (map (shown_server after)) g.changed
             ∙ servers-set pool after sides servers i g.server g.later old final g.at kept
             serve-acts ∙ ap (λ vs. slice_set vs i (shown_server after g.later)) view;

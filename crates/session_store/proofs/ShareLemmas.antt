@@ -3,7 +3,7 @@
 use Rattle.std.proofs.Common.{◌≡◌, ℕ, zero, suc, ◌+◌, ◌*◌, ◌-◌, ◌≤◌, ◌<◌, ◌^◌, Bool, true, Option}
 use Rattle.std.proofs.Common.{Some, None, List, [], ◌∷◌, ◌++◌, length, refl, sym, ap, subst, ◌∙◌}
 use Rattle.std.proofs.Common.{arith}
-use Rattle.std.specs.Prelude.{IfSome, IsSome, OnErr, OnOk, Result, Ok, Err, map, slice_get}
+use Rattle.std.specs.Prelude.{IfSome, OnErr, OnOk, Result, Ok, Err, map, slice_get}
 use Rattle.std.specs.Prelude.{slice_set, sum, sum_by}
 use Rattle.std.specs.List.{AllByRecursion, remove}
 use Rattle.std.proofs.lemmas.List.{length-map, map_push}
@@ -16,7 +16,6 @@ use Rattle.rpc_base.proofs.FirstLemmas.{all-push}
 use Rattle.buffer_pool.specs.Pool.{Pool}
 use Rattle.packet_header.specs.declared.packet.MessageHeader.{MessageHeader}
 use Rattle.packet_rings.specs.Values.{EntryValue}
-use Rattle.rpc_laws.specs.ControlSteps.{request_by}
 use Rattle.rpc_laws.specs.Groups.{live_credits}
 use Rattle.rpc_base.specs.Tables.{at_first}
 use Rattle.rpc_base.proofs.FirstLemmas.{all-each}
@@ -48,6 +47,7 @@ use Rattle.session_store.specs.declared.stage.Stage.{Stage}
 use Rattle.session_store.specs.declared.stage.Stage.TheVariants.{Connecting, Connected, Closing}
 use Rattle.session_store.specs.declared.stage.Stage.TheVariants.{Closed, Failed, Broken}
 use Rattle.session_store.specs.Changes.{BeginsAt, ChangesAt, HasRequest, IsConnected, IsInState}
+use Rattle.session_store.specs.Changes.{has_request}
 use Rattle.session_store.specs.Changes.{LosesAt, PostsAt, RollsAt}
 use Rattle.session_store.specs.Effects.{ServerFinishes, ServerGone}
 use Rattle.session_store.specs.Ends.{shown_end}
@@ -311,20 +311,19 @@ pub live-connected : (o : Option Client) → IsConnected o → IfSome o (λ x. i
 live-connected None h = tt
 live-connected (Some x) h = live-taking x.state h
 
-live-asking-in : (state : SessionState) (number other credits : ℕ)
-    → IsSome (request_by state number other credits) → is_live state ≡ true
-live-asking-in SessionState.Connecting number other credits some = refl
-live-asking-in SessionState.Connected number other credits some = cc
-live-asking-in SessionState.Spent number other credits some = cc
-live-asking-in SessionState.Closing number other credits some = refl
-live-asking-in SessionState.Closed number other credits some = cc
-live-asking-in SessionState.Failed number other credits some = cc
-live-asking-in SessionState.Broken number other credits some = cc
-live-asking-in SessionState.Unknown number other credits some = cc
+live-asking-in : (state : SessionState) → has_request state ≡ true → is_live state ≡ true
+live-asking-in SessionState.Connecting some = refl
+live-asking-in SessionState.Connected some = cc
+live-asking-in SessionState.Spent some = cc
+live-asking-in SessionState.Closing some = refl
+live-asking-in SessionState.Closed some = cc
+live-asking-in SessionState.Failed some = cc
+live-asking-in SessionState.Broken some = cc
+live-asking-in SessionState.Unknown some = cc
 
 pub live-asking : (o : Option Client) → HasRequest o → IfSome o (λ x. is_live x.state ≡ true)
 live-asking None h = tt
-live-asking (Some x) h = live-asking-in x.state x.way.number x.way.other x.limit h
+live-asking (Some x) h = live-asking-in x.state h
 
 -- a client session's stage changes: while it is live its credits are part of the count, and then it
 -- gives them back
@@ -484,16 +483,16 @@ module _ (n : ℕ) (pool : Pool) (sides : List Side) (servers : List Serving)
       })
 
 -- a session that is made counts all its credits
-pub opened-share : (pool : Pool) (s : Side) (number server credits clock sends : ℕ)
-    → s.stage ≡ Connecting sends clock → s.session ≡ new_session number server credits
+pub opened-share : (pool : Pool) (s : Side) (number server life credits clock sends : ℕ)
+    → s.stage ≡ Connecting sends clock → s.session ≡ new_session number server life credits
     → live_credits (shown_side pool s) ≡ credits
-opened-share pool s number server credits clock sends stage session =
+opened-share pool s number server life credits clock sends stage session =
     rw (stage, session) (omega arith)
 
-pub paired-share : (pool : Pool) (s : Side) (number server credits : ℕ)
-    → s.stage ≡ Connected → s.session ≡ new_session number server credits
+pub paired-share : (pool : Pool) (s : Side) (number server life credits : ℕ)
+    → s.stage ≡ Connected → s.session ≡ new_session number server life credits
     → live_credits (shown_side pool s) ≡ credits
-paired-share pool s number server credits stage session = rw (stage, session) (omega arith)
+paired-share pool s number server life credits stage session = rw (stage, session) (omega arith)
 
 -- numbers that rise are at least their places
 rises-at : (n : ℕ) (ns : List ℕ) (j m : ℕ) → Rises ns → AllByRecursion (λ k. n ≤ k) ns

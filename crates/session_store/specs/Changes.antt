@@ -1,11 +1,11 @@
 -- What the client sessions of a store begin, post and become, as the definitions over histories
 -- have them.
 use Rattle.std.specs.Prelude.{ℕ, ◌≡◌, ◌<◌, ◌≤◌, ◌+◌, ◌*◌, Bool, true, false, Option, Some, None}
-use Rattle.std.specs.Prelude.{IfSome, IsSome, List, [], count_by, length, slice_get, slice_set}
+use Rattle.std.specs.Prelude.{IfSome, List, [], count_by, length, slice_get, slice_set}
 use Rattle.std.specs.Prelude.{option_and_then, option_map}
 use Rattle.std.specs.List.{AllByRecursion, find, list_any}
 use Rattle.rpc_base.specs.declared.owner.Owner.TheVariants.{Ask, Reply}
-use Rattle.rpc_base.specs.declared.state.SessionState.TheVariants.{Broken}
+use Rattle.rpc_base.specs.declared.state.SessionState.TheVariants.{Broken, Closing, Connecting}
 use Rattle.rpc_base.specs.declared.state.SessionState.{SessionState}
 use Rattle.packet_header.specs.Parts.{packet_count}
 use Rattle.packet_rings.specs.Values.{EntryValue}
@@ -13,7 +13,6 @@ use Rattle.client_core.specs.declared.active.Active.{Active}
 use Rattle.rpc_laws.specs.declared.tables.Call.{Call}
 use Rattle.rpc_laws.specs.declared.tables.Client.{Client}
 use Rattle.rpc_laws.specs.Posting.{beginning, if_connected, posting}
-use Rattle.rpc_laws.specs.ControlSteps.{own_request}
 use Rattle.rpc_laws.specs.GoBackN.{row_of}
 use Rattle.rpc_laws.specs.Sessions.{begins, ends, is_connected, posts, rolls}
 use Rattle.rpc_laws.specs.declared.rows.TimerRow.{TimerRow}
@@ -95,6 +94,7 @@ pub record IsClientEnd (e : ClientEnd) (x : Client) : Type 0 where
   pub peer : e.peer ≡ x.way.peer
   pub credits : e.credits ≡ x.limit
   pub server : e.server ≡ x.way.other
+  pub life : e.life ≡ x.way.life
 
 -- what never changes of a server session
 pub record IsEnd (e : ServerEnd) (v : Server) : Type 0 where
@@ -130,9 +130,14 @@ IsConnected o = IfSome o (λ x. is_connected x.state ≡ true)
 abbrev pub IsInState : SessionState → Option Client → Type 0
 IsInState state o = IfSome o (λ x. x.state ≡ state)
 
--- a session that has a request of its own: it is Connecting or Closing
+-- a session that is opened, and one that closes, has a request of its own
+abbrev pub has_request : SessionState → Bool
+has_request Connecting = true
+has_request Closing = true
+has_request _ = false
+
 abbrev pub HasRequest : Option Client → Type 0
-HasRequest o = IfSome o (λ x. IsSome (own_request x))
+HasRequest o = IfSome o (λ x. has_request x.state ≡ true)
 
 -- one more of these was sent, at this clock
 abbrev pub sent_again : (clock : ℕ) → Client → Client

@@ -25,7 +25,8 @@ use Rattle.server_core.specs.Flushing.{has_begun, replies_of}
 use Rattle.server_core.specs.Noting.{Handled}
 use Rattle.server_core.specs.Replies.{CanHold}
 use Rattle.server_core.specs.Session.{Session as Serving}
-use Rattle.server_core.specs.Steps.{AreServed, IfGiven, IfReply, IsParcel, IsStepOf}
+use Rattle.server_core.specs.Steps.{AreServed, IfGiven, IfReply, IsParcel, IsStepOf, NeedsNoMemory}
+use Rattle.server_core.specs.Steps.{whole_with}
 use Rattle.server_core.specs.declared.step.Step.{Step}
 use Rattle.server_core.specs.declared.step.Step.TheVariants.{Took, Again, Ran, Give, Dropped}
 use Rattle.session_store.specs.Queue.{is_owned}
@@ -90,6 +91,8 @@ pub record HandlesAt {R : Type 0} (log : R → Log)
       step
   pub reply : IfReply step (IsReplyOf server.way.number h)
   pub give : IfGiven step (IsParcel answer_of stands h body server)
+  -- a short answer of a type that is handled inline needs no memory
+  pub short : NeedsNoMemory mode answer_of stands h (whole_with h body server) step
   pub changed : new.servers ≡ slice_set old.servers i later
   pub queue : new.queued ≡ queue_handled (row_at mode jobs_full false h server) step server h
       old.queued

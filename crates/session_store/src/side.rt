@@ -17,7 +17,7 @@ ghost use Rattle.session_store.specs.Sides.{IsOfSide, MayPost, SideKept, server_
 use crate::stage::Stage;
 use buffer_pool::BufferPool;
 use client_core::{ClientSession, Done, Reply, Timer};
-use packet_header::MessageHeader;
+use packet_header::{Life, MessageHeader};
 use packet_rings::Entry;
 use rpc_base::{
     CallNo, HEAD_BYTES, MOST_CALLS, MOST_MESSAGE_BYTES, Peer, RequestNo, SESSION_NUMBERS, SessionNo,
@@ -40,6 +40,8 @@ pub struct ClientEnd {
     pub credits: u16,
     /// The session's number at the server, 65,535 before it is connected.
     pub server: SessionNo,
+    /// The life of the server's endpoint.
+    pub life: Life,
 }
 
 impl Side {

@@ -35,6 +35,8 @@ pub struct Store {
     shares: u32,
     // The codes of the server sessions, in rising order.
     ends: Vec<u64>,
+    // What a server session is made by.
+    alloc: Global,
 }
 
 impl Model for Store {
@@ -74,6 +76,7 @@ impl Store {
             servers: Vec::new(alloc),
             shares: 0,
             ends: Vec::new(alloc),
+            alloc,
         })
     }
 }

@@ -32,7 +32,7 @@ use crate::line::{holds_in, put_in};
 use crate::side::{Side, begin_at, enqueue_at, heard_at, post_at};
 use crate::stage::Stage;
 use client_core::{Active, ClientSession, Reply};
-use packet_header::MessageHeader;
+use packet_header::{FIRST_LIFE, Life, MessageHeader};
 use packet_rings::Entry;
 use rpc_base::{
     CallNo, DropReason, HEAD_BYTES, MOST_CALLS, MOST_CREDITS, MOST_DATAGRAM_BYTES,
@@ -110,7 +110,7 @@ impl Store {
     {
         let shares = self.shares_with(credits);
         let number = SessionNo(self.sides.len() as u16);
-        let session = ClientSession::new(alloc, number, server, credits);
+        let session = ClientSession::new(alloc, number, server, Life(FIRST_LIFE), credits);
         let side = Side {
             peer,
             stage: Stage::Connected,

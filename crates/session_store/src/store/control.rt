@@ -14,6 +14,7 @@ use super::Store;
 use crate::side::{ClientEnd, Side};
 use crate::stage::Stage;
 use client_core::ClientSession;
+use packet_header::{FIRST_LIFE, Life};
 use rpc_base::{MOST_CREDITS, NoMemory, Peer, SESSION_NUMBERS, SessionNo};
 use std::alloc::Global;
 
@@ -38,7 +39,7 @@ impl Store {
         let shares = self.shares_with(credits);
         let number = SessionNo(self.sides.len() as u16);
         // The server's number isn't known yet, and isn't shown.
-        let session = ClientSession::new(alloc, number, SessionNo(0), credits);
+        let session = ClientSession::new(alloc, number, SessionNo(0), Life(FIRST_LIFE), credits);
         let side = Side {
             peer,
             stage: Stage::Connecting {
@@ -101,8 +102,7 @@ impl Store {
         self.shares -= u32::from(side.session.limit());
     }
 
-    /// The peer, the credits and the server session of session `i`, which is 65,535 before it is
-    /// connected.
+    /// What is known of the other end of session `i`.
     pub fn end_of_client(&self, i: usize) -> ClientEnd
         requires known { i < length self.now.clients }
         ensures { IfSome (slice_get self.now.clients i) (IsClientEnd result) }
@@ -112,6 +112,7 @@ impl Store {
             peer: side.peer,
             credits: side.session.limit(),
             server: side.server(),
+            life: side.session.life(),
         }
     }
 

@@ -16,7 +16,7 @@ ghost use Rattle.session_store.specs.Leaving.{FinishesServer, MakesServer};
 use super::Store;
 use crate::ends::{code_at, end_in, place_in};
 use crate::server::{ServerEnd, asked_at, finished_at, place_of, reply_of};
-use packet_header::MessageHeader;
+use packet_header::{FIRST_LIFE, Life, MessageHeader};
 use packet_rings::Entry;
 use rpc_base::{MOST_CREDITS, NoMemory, NodeId, Peer, SESSION_NUMBERS, SessionNo, Who};
 use rpc_outside::{Recorder, Service};
@@ -87,7 +87,14 @@ impl Store {
         ensures { MakesServer (server_end number peer client credits) result self.old self.new }
     {
         let shares = self.shares_with(credits);
-        let session = ServerSession::new(number, client, peer, credits);
+        let session = ServerSession::new(
+            self.alloc,
+            number,
+            client,
+            Life(FIRST_LIFE),
+            peer,
+            credits,
+        )?;
         // There is room for the session before anything changes.
         self.servers.reserve(1)?;
         let code = code_at(peer, client, number);

@@ -1,5 +1,6 @@
 use Rattle.std.proofs.Common.{ℕ, refl, ◌≡◌, length, ap, ◌∙◌, arith}
 use Rattle.std.specs.Vec.{vec_len}
+use Rattle.rpc_laws.specs.Lives.{first_life}
 use Rattle.client_core.specs.Session.{Session, new_session}
 use Rattle.session_store.specs.declared.side.Side.{Side}
 use Rattle.session_store.specs.declared.stage.Stage.TheVariants.{Connecting}
@@ -15,9 +16,9 @@ pub invariant_of-self-2 : goal.invariant_of-self-2
 invariant_of-self-2 c =
     let long : vec_len c.self.inside.sides ≡ length c.self.inside.sides.items = omega arith in (
       rw c.in_ok-push.ensures.items (kept-paired c.self.inside.pool c.self.inside.sides.items
-          c.self.inside.servers.items (joined c.self.inside.tx c.self.inside.pacer) _ 0
+          c.self.inside.servers.items (joined c.self.inside.tx c.self.inside.pacer) _ 0 _
           c.args.credits c.self.invariant.0
-          (c.new-session.ensures.session ∙ ap (λ n. new_session n 0 c.args.credits)
+          (c.new-session.ensures.session ∙ ap (λ n. new_session n 0 first_life c.args.credits)
           (c.len.ensures ∙ long))),
       c.self.invariant.1,
       rw c.in_ok-push.ensures.items (client-added c.self.inside.shares c.self.inside.pool
@@ -26,6 +27,6 @@ invariant_of-self-2 c =
           c.shares_with-shares.result c.args.credits c.shares_with-shares.ensures c.requires.most
           (made c.args.peer c.new-session.result)
           (opened-share c.self.inside.pool (made c.args.peer c.new-session.result)
-          _ 0 c.args.credits 0 0 refl c.new-session.ensures.session)),
+          _ 0 _ c.args.credits 0 0 refl c.new-session.ensures.session)),
       c.self.invariant.3,
     )

@@ -1,4 +1,5 @@
 use Rattle.std.proofs.Common.{◌≡◌, ap, ◌∙◌}
+use Rattle.rpc_base.specs.declared.limits.TheConstants.{HEAD_BYTES}
 use Rattle.rpc_laws.specs.Pacing.{packet_size}
 use Rattle.std.proofs.Common.{Some, ◌+◌}
 use Rattle.rpc_base.proofs.PlaceLemmas.{all-at}
@@ -22,4 +23,4 @@ returns-clause-size c =
     (all-at (SideKept s.pool) s.sides.items c.args.i x c.self.invariant.0.keeps at) in
     read-at s.pool s.sides.items s.servers.items (joined s.tx s.pacer) (undue c.args.self.now) view
     c.args.i x at (λ y. _ ≡ packet_size c.args.request c.args.number (Some y)) (c.datagram_size.ensures.size
-    ∙ ap (λ n. 16 + part_size n c.args.number) c.bytes.ensures ∙ size)
+    ∙ ap (λ n. HEAD_BYTES + part_size n c.args.number) c.bytes.ensures ∙ size)

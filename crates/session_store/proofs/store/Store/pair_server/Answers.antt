@@ -11,14 +11,14 @@ use Rattle.session_store.proofs.store.Store.pair_server.Goals as goal
 pub invariant_of-self-2 : goal.invariant_of-self-2
 invariant_of-self-2 c =
     let s = c.self.inside in
-    let v = c.new-session.result in
-    let own = c.new-session.ensures.session in
+    let v = c.in_ok-session.session in
+    let own = c.in_ok-session.ensures.session in
     let below = rw (← c.self.view_is) at c.requires.above in
     let pushed : c.push.new.self.items ≡ s.servers.items ++ v ∷ [] =
     (rw c.unwrap.ensures at c.push.ensures.items)
     ∙ ap (λ (vs : List Serving). vs ++ v ∷ []) c.reserve.ensures.items in (
       rw pushed (kept-server s.pool s.sides.items s.servers.items (joined s.tx s.pacer) v
-          c.args.number c.args.client c.args.peer c.args.credits c.self.invariant.0 below own),
+          c.args.number c.args.client _ c.args.peer c.args.credits c.self.invariant.0 below own),
       c.self.invariant.1,
       rw pushed (server-added s.shares s.pool s.sides.items s.servers.items
           c.self.invariant.2 s.tx s.pacer c.args.self.now c.self.view_is
