@@ -6,6 +6,7 @@ use Rattle.rpc_base.specs.declared.state.SessionState.TheVariants.{Unknown, Conn
 use Rattle.rpc_base.specs.declared.state.SessionState.TheVariants.{Closing, Closed, Failed, Spent}
 use Rattle.rpc_base.specs.declared.state.SessionState.TheVariants.{Broken as IsBroken}
 use Rattle.rpc_laws.specs.ControlSteps.{request_by}
+use Rattle.rpc_laws.specs.declared.tables.Way.{Way}
 use Rattle.rpc_laws.specs.Groups.{told_state}
 
 -- the state that is told of a session
@@ -48,18 +49,17 @@ pub told-open : (state : SessionState) (asked : ℕ) → told_state state asked 
 told-open state asked other e = other (ap (λ x. told_state x asked) e)
 
 -- a session's own request is that of the state that is told
-pub told-request : (state : SessionState) (asked number other credits : ℕ)
-    → request_by (told_state state asked) number other credits
-    ≡ request_by state number other credits
-told-request Connected asked number other credits = by (ltb asked MOST_CALLS)
+pub told-request : (own : ℕ) (state : SessionState) (asked : ℕ) (way : Way) (credits : ℕ)
+    → request_by own (told_state state asked) way credits ≡ request_by own state way credits
+told-request own Connected asked way credits = by (ltb asked MOST_CALLS)
   where
-    by : (few : Bool) → request_by (cond few Connected Spent) number other credits ≡ None
+    by : (few : Bool) → request_by own (cond few Connected Spent) way credits ≡ None
     by true = refl
     by false = refl
-told-request Spent asked number other credits = refl
-told-request IsBroken asked number other credits = refl
-told-request Unknown asked number other credits = refl
-told-request Connecting asked number other credits = refl
-told-request Closing asked number other credits = refl
-told-request Closed asked number other credits = refl
-told-request Failed asked number other credits = refl
+told-request own Spent asked way credits = refl
+told-request own IsBroken asked way credits = refl
+told-request own Unknown asked way credits = refl
+told-request own Connecting asked way credits = refl
+told-request own Closing asked way credits = refl
+told-request own Closed asked way credits = refl
+told-request own Failed asked way credits = refl

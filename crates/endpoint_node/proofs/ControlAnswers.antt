@@ -5,7 +5,8 @@ use Rattle.std.specs.Prelude.{◌==◌, IfSome, flat_map, nat_le}
 use Rattle.std.specs.List.{AllByRecursion, find}
 use Rattle.std.proofs.lemmas.Bool.{eq-eqb, eqb-true, leb-false}
 use Rattle.packet_header.specs.Header.{ControlInRange, IsServer}
-use Rattle.packet_header.specs.Ranges.{Within, sessions}
+use Rattle.packet_header.specs.Ranges.{Within, lives, sessions}
+use Rattle.rpc_laws.specs.Lives.{first_life}
 use Rattle.packet_header.specs.declared.packet.ControlHeader.{ControlHeader}
 use Rattle.packet_header.specs.declared.packet.ControlKind.{ControlKind}
 use Rattle.packet_header.specs.declared.packet.ControlKind.TheVariants.{ConnectRequest}
@@ -179,52 +180,69 @@ RowInRange h _ = Unit {0}
 some-same : {A : Type 0} (a b : A) → Some a ≡ Some b → a ≡ b
 some-same a b e = cc
 
+-- the life of a node is in its range
+pub first-within : Within lives first_life
+first-within = (omega arith, omega arith)
+
 is-session : (t : ℕ) → t < SESSION_NUMBERS → Within sessions t
 is-session t below = (omega arith, omega (arith, below))
 
-reply-in-range : (h r : ControlHeader) (row : ControlRow) → Within sessions h.client
-    → RowInRange h row → Some r ≡ control_reply h row → ControlInRange r
-reply-in-range h r Ignores client range e = cc
-reply-in-range h r (Confirms t credits) client range e = rw (some-same r _ e) (record {
+reply-in-range : (own : ℕ) (h r : ControlHeader) (row : ControlRow) → Within lives own
+    → Within sessions h.client → RowInRange h row → Some r ≡ control_reply own h row
+    → ControlInRange r
+reply-in-range own h r Ignores mine client range e = cc
+reply-in-range own h r (Confirms t credits) mine client range e = rw (some-same r _ e) (record {
   client = client;
   server = is-session t range.0;
   credits = range.1;
   status = inl refl;
+  from_life = mine;
+  to_life = (omega arith, omega arith);
 })
-reply-in-range h r Declines client range e = rw (some-same r _ e) (record {
+reply-in-range own h r Declines mine client range e = rw (some-same r _ e) (record {
   client = client;
   server = tt;
   credits = range;
   status = inr refl;
+  from_life = mine;
+  to_life = (omega arith, omega arith);
 })
-reply-in-range h r Starves client range e = cc
-reply-in-range h r (Accepts t) client range e = rw (some-same r _ e) (record {
+reply-in-range own h r Starves mine client range e = cc
+reply-in-range own h r (Accepts t) mine client range e = rw (some-same r _ e) (record {
   client = client;
   server = is-session t range.0;
   credits = range.1;
   status = inl refl;
+  from_life = mine;
+  to_life = (omega arith, omega arith);
 })
-reply-in-range h r Ends client range e = rw (some-same r _ e) (record {
+reply-in-range own h r Ends mine client range e = rw (some-same r _ e) (record {
   client = client;
   server = range;
   credits = (omega arith, omega arith);
   status = inl refl;
+  from_life = mine;
+  to_life = (omega arith, omega arith);
 })
-reply-in-range h r Misses client range e = rw (some-same r _ e) (record {
+reply-in-range own h r Misses mine client range e = rw (some-same r _ e) (record {
   client = client;
   server = range;
   credits = (omega arith, omega arith);
   status = inr refl;
+  from_life = mine;
+  to_life = (omega arith, omega arith);
 })
-reply-in-range h r (Connects t) client range e = cc
-reply-in-range h r Disowns client range e = rw (some-same r _ e) (record {
+reply-in-range own h r (Connects t) mine client range e = cc
+reply-in-range own h r Disowns mine client range e = rw (some-same r _ e) (record {
   client = client;
   server = range;
   credits = (omega arith, omega arith);
   status = inl refl;
+  from_life = mine;
+  to_life = (omega arith, omega arith);
 })
-reply-in-range h r Fails client range e = cc
-reply-in-range h r Closes client range e = cc
+reply-in-range own h r Fails mine client range e = cc
+reply-in-range own h r Closes mine client range e = cc
 
 -- the number and the credits of a server session are in range
 abbrev IsNamed : Server → Type 0
@@ -356,10 +374,10 @@ module _ (lacks : Bool) (peer : ℕ) (h : ControlHeader) (s : Lists)
       (λ x. over-in-range h x.state x.way.other h.server)
 
   -- the packet that answers one in range is in range
-  pub answer-in-range : (r : ControlHeader) → ControlInRange h
-      → Some r ≡ control_reply h (control_row lacks peer h s) → ControlInRange r
-  answer-in-range r range e =
-      reply-in-range h r (control_row lacks peer h s) range.client
+  pub answer-in-range : (own : ℕ) (r : ControlHeader) → Within lives own → ControlInRange h
+      → Some r ≡ control_reply own h (control_row lacks peer h s) → ControlInRange r
+  answer-in-range own r mine range e =
+      reply-in-range own h r (control_row lacks peer h s) mine range.client
       (kind-in-range h.kind (has-range h.kind h refl range)) e
 
 -- no answer is a client session's own request
@@ -499,8 +517,8 @@ over-told clock r xs e =
     (each-if (λ x. requests clock r x ≡ x) (find (is_client r.client) xs)
     (λ x. requests-none clock r x (rw e refl)))
 
-module _ (clock : ℕ) (peer : ℕ) (h r : ControlHeader) (s : Lists) where
-  disown-told : Some r ≡ control_reply h Disowns
+module _ (clock : ℕ) (peer own : ℕ) (h r : ControlHeader) (s : Lists) where
+  disown-told : Some r ≡ control_reply own h Disowns
       → IfSome (find (is_client h.client) s.clients) (NotOwn h)
       → clients_told clock (Some r) s.clients ≡ s.clients
   disown-told e none =
@@ -515,7 +533,7 @@ module _ (clock : ℕ) (peer : ℕ) (h r : ControlHeader) (s : Lists) where
 
   pub answer-told : (row : ControlRow)
       → (row ≡ Disowns → IfSome (find (is_client h.client) s.clients) (NotOwn h))
-      → Some r ≡ control_reply h row
+      → Some r ≡ control_reply own h row
       → clients_told clock (Some r) (after_all clock s (control_facts s peer h row)).clients
       ≡ (after_all clock s (control_facts s peer h row)).clients
   answer-told Ignores none e = cc
@@ -535,13 +553,13 @@ module _ (clock : ℕ) (peer : ℕ) (h r : ControlHeader) (s : Lists) where
   answer-told Fails none e = cc
   answer-told Closes none e = cc
 
-pub row-told : (clock : ℕ) (lacks : Bool) (peer : ℕ) (h r : ControlHeader) (s : Lists)
-    → Some r ≡ control_reply h (control_row lacks peer h s)
+pub row-told : (clock : ℕ) (lacks : Bool) (peer own : ℕ) (h r : ControlHeader) (s : Lists)
+    → Some r ≡ control_reply own h (control_row lacks peer h s)
     → clients_told clock (Some r) (after_all clock s
     (control_facts s peer h (control_row lacks peer h s))).clients
     ≡ (after_all clock s (control_facts s peer h (control_row lacks peer h s))).clients
-row-told clock lacks peer h r s e =
-    answer-told clock peer h r s (control_row lacks peer h s)
+row-told clock lacks peer own h r s e =
+    answer-told clock peer own h r s (control_row lacks peer h s)
     (kind-disowns lacks peer h s h.kind) e
 
 -- what always holds of the server sessions says that what they are named by is in range

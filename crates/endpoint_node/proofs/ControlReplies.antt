@@ -131,6 +131,7 @@ module _ (me : ℕ) (limits : Limits) (tallies : Tallies) (paces : List Pace) (j
           record {
             some = old.some;
             most = old.most;
+            life = old.life;
             joined = λ has. below;
             few = omega arith;
             none_left = λ other. cc;
@@ -175,6 +176,7 @@ module _ (me : ℕ) (limits : Limits) (tallies : Tallies) (paces : List Pace) (j
           (record {
             some = old.some;
             most = old.most;
+            life = old.life;
             joined = λ has. cc;
             few = omega arith;
             none_left = λ other. old.none_left (ap is_connected was-connecting);
@@ -219,6 +221,7 @@ module _ (me : ℕ) (limits : Limits) (tallies : Tallies) (paces : List Pace) (j
           (record {
             some = old.some;
             most = old.most;
+            life = old.life;
             joined = λ has. cc;
             few = omega arith;
             none_left = λ other. old.none_left (ap is_connected was-closing);

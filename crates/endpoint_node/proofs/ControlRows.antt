@@ -52,7 +52,7 @@ module _ {R : Type 0} (log : R → Log) (before now : R) (peer : ℕ) (h : Contr
 
   pub acts-controls : (lacks : Bool) → control_row lacks peer h s.lists ≡ row
       → Makes log (Acts row peer h) s t before now
-      → Makes log (Controls peer h (control_reply h row)) s t before now
+      → Makes log (Controls peer h (control_reply s.lists.life h row)) s t before now
   acts-controls lacks is made = record {
     noted = made.noted;
     grew = made.grew;

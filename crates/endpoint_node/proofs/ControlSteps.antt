@@ -5,6 +5,7 @@ use Rattle.std.proofs.Common.{◌∙◌, append-nil, length, arith}
 use Rattle.std.specs.Prelude.{count_by, drop, option_map, slice_get, IfOk, IfSome, OnErr}
 use Rattle.std.specs.List.{AllByRecursion}
 use Rattle.packet_header.specs.Header.{AreBytes, ControlInRange, Spells}
+use Rattle.packet_header.specs.Ranges.{Within, lives}
 use Rattle.packet_header.specs.declared.packet.ControlHeader.{ControlHeader}
 use Rattle.packet_header.specs.declared.packet.Packet.TheVariants.{Control as ControlPacket}
 use Rattle.packet_header.proofs.Readings.{spells-decoded}
@@ -84,7 +85,7 @@ module _ (peer : ℕ) (h : ControlHeader) (reply : Option ControlHeader) (s t : 
       record {
         lacks = p.lacks;
         facts = ap (λ (y : List Fact). plain s.lists.me Heard ∷ y) facts;
-        answer = p.by.answer ∙ ap (control_reply h) same;
+        answer = p.by.answer ∙ ap (control_reply s.lists.life h) same;
         goes = p.by.goes;
       }
 
@@ -238,8 +239,8 @@ module _ (peer : ℕ) (h : ControlHeader) (s t : Timed) (x : List Fact) (front :
           let same = facts-same p.lacks peer h s.lists (drop 1 s.lists.inbox)
           (control_row p.lacks peer h s.lists) in
           let rows = row-same p.lacks peer h s.lists (drop 1 s.lists.inbox) in
-          let own = row-told s.clock p.lacks peer h r (unheard s).lists
-          (p.answer ∙ ap (control_reply h) (sym rows)) in
+          let own = row-told s.clock p.lacks peer s.lists.life h r (unheard s).lists
+          (p.answer ∙ ap (control_reply s.lists.life h) (sym rows)) in
           let clients : t.lists.clients ≡ (after_all s.clock (unheard s).lists (control_facts
           (unheard s).lists peer h (control_row p.lacks peer h (unheard s).lists))).clients =
           ap (λ (l : Lists). l.clients) (lists-are peer h (Some r) s t x p)
@@ -493,17 +494,18 @@ module _ {R L : Type 0} (log : R → Log)
 -- the answer is in range
 pub answer-range : {R : Type 0} (log : R → Log) (peer : ℕ)
     (h : ControlHeader) (s : Lists) (a b : Timed) (before now : R) (reply : Option ControlHeader)
-    → ControlInRange h → a.lists.servers ≡ s.servers
+    → ControlInRange h → Within lives a.lists.life → a.lists.servers ≡ s.servers
     → ((t : ℕ) → count_by (is_server t) s.servers + to_come s.server_numbers t ≤ 1)
     → s.server_numbers ≤ SESSION_NUMBERS → AllByRecursion HasCredit s.servers
     → Makes log (Controls peer h reply) a b before now
     → IfSome reply (λ r. ControlInRange r)
-answer-range log peer h s a b before now None range same alone few credits p = tt
-answer-range log peer h s a b before now (Some r) range same alone few credits p =
+answer-range log peer h s a b before now None range mine same alone few credits p = tt
+answer-range log peer h s a b before now (Some r) range mine same alone few credits p =
     let one = p.step no_asks in
     let named = named-all s.server_numbers s.servers few
     (numbers-below s.server_numbers s.servers alone) credits in
-    answer-in-range one.lacks peer h (asking no_asks a).lists (rw same named) r range one.by.answer
+    answer-in-range one.lacks peer h (asking no_asks a).lists (rw same named) a.lists.life r mine range
+    one.by.answer
 
 -- what handling a packet leaves, whoever records it
 module _ {R : Type 0} (log : R → Log) (peer : ℕ)

@@ -7,6 +7,7 @@ mod ControlRemoval
 mod ControlReplies
 mod ControlRows
 mod ControlSteps
+mod DueLemmas
 pub mod HandedBack
 pub mod HandedGiven
 pub mod JobsCrew
@@ -40,6 +41,7 @@ mod SessionFits
 mod SessionPairs
 mod SessionRates
 mod SessionSteps
+mod ShortLemmas
 mod StatusSteps
 mod TimerBreaks
 mod TimerCalls

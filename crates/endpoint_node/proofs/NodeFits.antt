@@ -137,15 +137,15 @@ has-places s places kept settled credits jobs long =
 
 -- a connected session that keeps its state, its limit, its ends and what it sent stays so
 pub settled-connected : (x y : Client) → IsSettled x → is_connected x.state ≡ true
-    → y.state ≡ x.state → y.limit ≡ x.limit → y.way.other ≡ x.way.other → y.sends ≡ x.sends
+    → y.state ≡ x.state → y.limit ≡ x.limit → y.way ≡ x.way → y.sends ≡ x.sends
     → IsSettled y
-settled-connected x y settled connected state limit other sends =
+settled-connected x y settled connected state limit way sends =
     let up : is_connected y.state ≡ true = ap is_connected state ∙ connected in
     record {
       some = omega (arith, limit, settled.some);
       most = omega (arith, limit, settled.most);
-      joined = λ has. (let low = settled.joined (ap has_server (sym state) ∙ has) in
-          omega (arith, other, low));
+      life = rw way settled.life;
+      joined = λ has. (let low = settled.joined (ap has_server (sym state) ∙ has) in rw way low);
       few = omega (arith, sends, settled.few);
       none_left = λ other. let clash : true ≡ false = sym up ∙ other in cc;
     }

@@ -173,15 +173,15 @@ module _ (q : Event → Bool) where
     retries-as (Some h) clock timeout me x facts r =
         retries-by me (retry_row clock timeout x.sends x.sent_at) x h facts r
 
-    retries-of : (clock timeout me : ℕ) (x : Option Client) (facts : List Fact)
-        → RetriesOf clock timeout me x facts → AllStill q facts
-    retries-of clock timeout me None facts r = rw r tt
-    retries-of clock timeout me (Some x) facts r =
-        retries-as (own_request x) clock timeout me x facts r
+    retries-of : (clock timeout me own : ℕ) (x : Option Client) (facts : List Fact)
+        → RetriesOf clock timeout me own x facts → AllStill q facts
+    retries-of clock timeout me own None facts r = rw r tt
+    retries-of clock timeout me own (Some x) facts r =
+        retries-as (own_request own x) clock timeout me x facts r
 
     pub retries-still : (timeout i : ℕ) → Stills q (Retries timeout i)
     retries-still timeout i s x t h =
-        retries-of s.clock timeout s.lists.me (slice_get s.lists.clients i) x h.facts
+        retries-of s.clock timeout s.lists.me s.lists.life (slice_get s.lists.clients i) x h.facts
 
   -- the timers of calls
   module _ (flushed : (o : Owner) (k : ℕ) → q (Flushed o k) ≡ false)

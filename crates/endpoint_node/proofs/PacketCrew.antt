@@ -39,7 +39,8 @@ use Rattle.endpoint_node.specs.Packets.{HandlesWith, MakesAllHandled, MakesHandl
 use Rattle.endpoint_node.specs.Packets.{WorksFor, with_all_given}
 use Rattle.endpoint_node.specs.Notes.{is_end}
 use Rattle.endpoint_node.specs.Seen.{Asks, arrival_of, asking, with_ask}
-use Rattle.endpoint_node.specs.Requests.{IsGiven, job_named, with_given}
+use Rattle.endpoint_node.specs.Requests.{IsGiven, IsNoWant, job_named, with_given}
+use Rattle.endpoint_node.proofs.ShortLemmas.{short-front}
 use Rattle.endpoint_node.proofs.PacketSteps.{asks-as, asks-of}
 use Rattle.endpoint_node.proofs.NoteEnds.{ends-append, me-goes}
 
@@ -290,9 +291,10 @@ module _ {R K W : Type 0} (log : R → Log)
   -- a packet of which no job is made
   pub handled-none : (stands then_stands : Served → Type 0) (a b : Timed) (f g : R) (j k : K)
       (w : W) → MakesHandled log given v stands then_stands (Handles v.mode) None a b f g j k
+      → a.lists.ring ≢ [] → b.lists.ring ≡ drop 1 a.lists.ring
       → MakesAllHandled log given staff v stands then_stands answer (Handles v.mode) a b f g
       j k w w
-  handled-none stands then_stands a b f g j k w h = record {
+  handled-none stands then_stands a b f g j k w h some left = record {
     noted = h.serves.makes.noted;
     grew = h.serves.makes.grew;
     answers = h.serves.answers;
@@ -308,6 +310,9 @@ module _ {R K W : Type 0} (log : R → Log)
     dones = h.dones;
     ends = h.ends;
     told = h.gave;
+    spared = λ all.
+        let (front, rest) = short-front v a.lists.ring some all in
+        (h.serves.spared front, rw left rest);
   }
 
   -- a packet of which a job is made, that the workers take
@@ -349,9 +354,10 @@ module _ {R K W : Type 0} (log : R → Log)
         absurd (not-full answer asks (staff w) a staffed h.serves.vacant (gave.0.0 refl))
 
     pub handled-some : (r : Result (Unit {0}) Parcel) → Gave r
+        → a.lists.ring ≢ [] → b.lists.ring ≡ drop 1 a.lists.ring
         → MakesAllHandled log given staff v stands then_stands answer (Handles v.mode) a b
         f g j k w x
-    handled-some r gave = record {
+    handled-some r gave some left = record {
       noted = h.serves.makes.noted;
       grew = h.serves.makes.grew;
       answers = h.serves.answers;
@@ -362,6 +368,9 @@ module _ {R K W : Type 0} (log : R → Log)
       dones = h.dones;
       ends = h.ends;
       told = h.gave;
+      spared = λ all.
+          let (front, rest) = short-front v a.lists.ring some all in
+          (h.serves.spared front, rw left rest);
     }
 
   -- turns, one after another
@@ -383,6 +392,7 @@ module _ {R K W : Type 0} (log : R → Log)
     dones = [];
     ends = refl;
     told = gave-none given j;
+    spared = λ all. (tt, all);
   }
 
   pub all-handled-more : (one two three : Served → Type 0) (P : Rel) (a b c : Timed) (f g h : R)
@@ -420,6 +430,10 @@ module _ {R K W : Type 0} (log : R → Log)
         ∙ ap (λ m. map (done_fact a.lists.me) p.dones ++ map (done_fact m) q.dones) me
         ∙ sym (map-append (done_fact a.lists.me) p.dones q.dones);
     told = gave-then given j k l p.dones q.dones p.told q.told;
+    spared = λ all.
+        let first = p.spared all in
+        let second = q.spared first.1 in
+        (all-both IsNoWant p.noted q.noted first.0 second.0, second.1);
   }
 
   -- until no more can be handled
@@ -447,4 +461,5 @@ module _ {R K W : Type 0} (log : R → Log)
     dones = p.dones;
     ends = p.ends;
     told = p.told;
+    spared = p.spared;
   }

@@ -318,9 +318,9 @@ module _ (me : ℕ) (limits : Limits) (tallies : Tallies) (paces : List Pace) (j
             → x ≡ replies_facts old d.peer h (body_of d.bytes)
             → seen q t ≡ record { lists = after_all clock old x; clock = clock }
             → CallsAscend p.later → p.later.state ≡ p.client.state
-            → p.later.limit ≡ p.client.limit → p.later.way.other ≡ p.client.way.other
+            → p.later.limit ≡ p.client.limit → p.later.way ≡ p.client.way
             → p.later.sends ≡ p.client.sends → Fits (seen q t) t.size t.places
-        fits-taken x r p takes-row is goes up state limit other sends =
+        fits-taken x r p takes-row is goes up state limit way sends =
             let connected = took-connected s.queued p.client d.peer h (length (body_of d.bytes))
             (p.row s.queued refl ∙ takes-row) in
             record {
@@ -343,7 +343,7 @@ module _ (me : ℕ) (limits : Limits) (tallies : Tallies) (paces : List Pace) (j
               settled = rw p.changed (all-set IsSettled s.clients i p.later
                   (settled-connected p.client p.later
                   (all-at IsSettled s.clients i p.client fits.settled p.at) connected state limit
-                  other sends)
+                  way sends)
                   (λ j y e other. all-at IsSettled s.clients j y fits.settled e));
               credits = rw servers fits.credits;
               sendable = rw queued fits.sendable;
@@ -384,7 +384,7 @@ module _ (me : ℕ) (limits : Limits) (tallies : Tallies) (paces : List Pace) (j
               (subst CallsAscend later-took (ascends-T TookReply p))
               (ap (λ (z : Client). z.state) (sym later-took))
               (ap (λ (z : Client). z.limit) (sym later-took))
-              (ap (λ (z : Client). z.way.other) (sym later-took))
+              (ap (λ (z : Client). z.way) (sym later-took))
               (ap (λ (z : Client). z.sends) (sym later-took))
 
           pub node-took : {R : Type 0} (log : R → Log)
@@ -472,7 +472,7 @@ module _ (me : ℕ) (limits : Limits) (tallies : Tallies) (paces : List Pace) (j
               (ascends-without (is_call o.call) (T (Ended o) p).calls (ascends-T (Ended o) p)))
               (ap (λ (z : Client). z.state) (sym later-ended))
               (ap (λ (z : Client). z.limit) (sym later-ended))
-              (ap (λ (z : Client). z.way.other) (sym later-ended))
+              (ap (λ (z : Client). z.way) (sym later-ended))
               (ap (λ (z : Client). z.sends) (sym later-ended))
 
           pub node-ended : {R : Type 0} (log : R → Log)

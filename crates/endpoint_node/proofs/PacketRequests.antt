@@ -1,12 +1,13 @@
 -- A packet that asks, from its session to what the node notes.
-use Rattle.std.proofs.Common.{◌≡◌, ℕ, ◌+◌, ◌<◌, ◌≤◌, Bool, true, false, cond, Option, Some, None}
+use Rattle.std.proofs.Common.{◌≡◌, ◌≢◌, ℕ, ◌+◌, ◌<◌, ◌≤◌, Bool, true, false, cond, Option, Some, None}
 use Rattle.std.proofs.Common.{List, [], ◌∷◌, ◌++◌, length, drop, refl, sym, ap, subst, ◌∙◌, arith}
 use Rattle.endpoint_node.specs.Replies.{Drops as DropsFront}
 use Rattle.std.specs.Prelude.{◌==◌, IfSome, map, slice_get, slice_set}
 use Rattle.std.specs.List.{AllByRecursion, find, position}
-use Rattle.std.proofs.lemmas.Bool.{eqb-true, ne_eqb}
+use Rattle.std.proofs.lemmas.Bool.{eq-eqb, eqb-true, ne_eqb}
 use Rattle.std.proofs.lemmas.List.{drop-map}
 use Rattle.packet_header.specs.Kinds.{is_asking}
+use Rattle.packet_header.specs.Parts.{packet_count}
 use Rattle.packet_header.specs.Reading.{body_of}
 use Rattle.packet_header.specs.declared.packet.MessageHeader.{MessageHeader}
 use Rattle.packet_rings.specs.Rings.{Ring, ring}
@@ -20,8 +21,8 @@ use Rattle.rpc_base.specs.declared.limits.Limits.{Limits}
 use Rattle.rpc_base.specs.declared.owner.Owner.{Owner}
 use Rattle.rpc_base.specs.declared.owner.Owner.TheVariants.{Reply}
 use Rattle.rpc_base.specs.declared.state.DropReason.{DropReason}
-use Rattle.rpc_base.specs.declared.state.DropReason.TheVariants.{NoSession, WrongPeer}
-use Rattle.rpc_base.proofs.FirstLemmas.{found-changed, found-holds}
+use Rattle.rpc_base.specs.declared.state.DropReason.TheVariants.{NoMemory, NoSession, WrongPeer}
+use Rattle.rpc_base.proofs.FirstLemmas.{all-both, found-changed, found-holds}
 use Rattle.rpc_base.proofs.TablesLemmas.{at_first-found, find-found, find-missing}
 use Rattle.rpc_base.proofs.TakingLemmas.{find-passes}
 use Rattle.rpc_base.proofs.PlaceLemmas.{all-at}
@@ -68,7 +69,9 @@ use Rattle.session_store.proofs.ListLemmas.{all-set, set-own}
 use Rattle.endpoint_node.specs.Fits.{Fits, HasCredit, IsSendable}
 use Rattle.endpoint_node.specs.Notes.{Makes}
 use Rattle.endpoint_node.specs.Seen.{Asks, Tallies, arrival_of, asking_jobs, seen_node}
-use Rattle.endpoint_node.specs.Requests.{AllServed, AsksAs, IsGiven, MakesServed, ServesRequest}
+use Rattle.endpoint_node.specs.Requests.{AllServed, AsksAs, IsGiven, IsNoWant, IsShort, MakesServed}
+use Rattle.endpoint_node.specs.Requests.{ServesRequest}
+use Rattle.endpoint_node.proofs.ShortLemmas.{one-header}
 use Rattle.endpoint_node.specs.Requests.{SlotsServed, job_named, with_given}
 use Rattle.endpoint_node.proofs.PacketRows.{background-of, inline-of, unfilled}
 use Rattle.endpoint_node.proofs.QueueEntries.{one-reply, put-all}
@@ -133,8 +136,9 @@ module _ (me : ℕ) (limits : Limits) (tallies : Tallies) (paces : List Pace) (j
           → ((served : Served) → stands served → Answers v_of served x
           × then_stands (served_after_all mode_of served x))
           → IfSome o (IsGiven v_of stands) → js ≡ with_given o jobs
-          → IfSome o (λ p. are_full jobs ≡ false) → Result o ta js q u
-      node-served o ta js q u lacks answer x grew is goes answers parcel given vacant = record {
+          → IfSome o (λ p. are_full jobs ≡ false)
+          → (IsShort v_of (map arrival_of rx.items) → AllByRecursion IsNoWant x) → Result o ta js q u
+      node-served o ta js q u lacks answer x grew is goes answers parcel given vacant spared = record {
         makes = record {
           noted = x;
           grew = grew;
@@ -151,17 +155,18 @@ module _ (me : ℕ) (limits : Limits) (tallies : Tallies) (paces : List Pace) (j
         parcel = parcel;
         jobs = given;
         vacant = vacant;
+        spared = spared;
       }
 
       -- a packet to no session, or from another peer than its session's
-      dropped-by : (why : DropReason) (u : Timed)
+      dropped-by : (why : DropReason) → why ≢ NoMemory → (u : Timed)
           → ((js : Jobs) → asks_facts mode_of false [] (old js) d.peer h body
           ≡ plain me (DroppedEvent why) ∷ []) → u.lists.jobs ≡ jobs
           → ((served : Served) → stands served → then_stands served)
           → Makes log (DropsFront why) (seen tallies jobs rx s) u before now
           → MakesServed log v_of stands then_stands (ServesRequest mode_of h) None
           (seen tallies jobs rx s) u before now
-      dropped-by why u is left still makes = record {
+      dropped-by why other u is left still makes = record {
         makes = record {
           noted = makes.noted;
           grew = makes.grew;
@@ -181,6 +186,8 @@ module _ (me : ℕ) (limits : Limits) (tallies : Tallies) (paces : List Pace) (j
         parcel = tt;
         jobs = left;
         vacant = tt;
+        spared = λ short. subst (AllByRecursion IsNoWant) (sym (makes.step (λ a b. [])).facts)
+            ((λ e. let same : why ≡ NoMemory = cc in other same), tt);
       }
 
       pub node-unknown : (u : Timed) → position (is_server h.session) s.servers ≡ None
@@ -191,7 +198,7 @@ module _ (me : ℕ) (limits : Limits) (tallies : Tallies) (paces : List Pace) (j
           (seen tallies jobs rx s) u before now
       node-unknown u missing left still makes =
           let none = find-missing (is_server h.session) s.servers missing in
-          dropped-by NoSession u (λ js. rw none refl) left still makes
+          dropped-by NoSession (λ e. cc) u (λ js. rw none refl) left still makes
 
       pub node-stranger : (u : Timed) (i p : ℕ) → position (is_server h.session) s.servers ≡ Some i
           → IfSome (slice_get s.servers i) (λ v. p ≡ v.way.peer) → i < length s.servers
@@ -212,7 +219,7 @@ module _ (me : ℕ) (limits : Limits) (tallies : Tallies) (paces : List Pace) (j
               find-found (is_server h.session) s.servers i place ∙ e in
               let unlike : (v.way.peer == d.peer) ≡ false =
               ne_eqb v.way.peer d.peer (λ same. other (is ∙ same)) in
-              dropped-by WrongPeer u (λ js. rw (found, unlike) refl) left still makes
+              dropped-by WrongPeer (λ e. cc) u (λ js. rw (found, unlike) refl) left still makes
 
     -- what always holds, once the queue and one server session changed
     module _ (i : ℕ) (t : Shown) (clients : t.clients ≡ s.clients) (size : t.size ≡ s.size)
@@ -423,7 +430,7 @@ module _ (me : ℕ) (limits : Limits) (tallies : Tallies) (paces : List Pace) (j
                 (λ asks. facts-again (asking_jobs asks jobs) (full-asking asks jobs))
                 (λ asks asked. goes-again (asking_jobs asks jobs))
                 (λ old_served st. ((tt, (tt, tt)), still old_served st))
-                tt refl tt
+                tt refl tt (λ short. ((λ e. cc), ((λ e. cc), tt)))
 
         -- a packet that is dropped
         module _ (why : DropReason) (p : At (Dropped why)) (n : ℕ)
@@ -473,6 +480,17 @@ module _ (me : ℕ) (limits : Limits) (tallies : Tallies) (paces : List Pace) (j
               (servers-dropped ∙ sym (set-own s.servers i p.server p.place)) refl
               (rw queue-dropped fits.sendable) (rw queue-dropped (omega (arith, few))) refl
 
+          -- a short request isn't dropped for want of memory
+          not-wanted : IsShort serving (map arrival_of rx.items) → why ≢ NoMemory
+          not-wanted short same =
+              let own : short.head ≡ h = one-header (map arrival_of rx.items) short.head h short.front header in
+              let one : (packet_count h.size == 1) ≡ true =
+              eq-eqb (packet_count h.size) 1 (ap (λ (x : MessageHeader). packet_count x.size) (sym own) ∙ short.one) in
+              p.short (ap (λ (x : MessageHeader). mode_of x.req_type) (sym own) ∙ short.inline)
+              (ap is_last (sym own) ∙ short.last)
+              (λ old_served st. rw (one, ← body-here, ← own) (short.fits old_served))
+              (ap (λ x. Dropped x) same)
+
           pub node-drop : ((old_served : Served) → stands old_served → then_stands old_served)
               → Ends None dropped_tallies jobs
           node-drop still =
@@ -483,7 +501,7 @@ module _ (me : ℕ) (limits : Limits) (tallies : Tallies) (paces : List Pace) (j
               (λ asks. facts-drop (asking_jobs asks jobs) (full-asking asks jobs))
               (λ asks asked. goes-dropped (asking_jobs asks jobs))
               (λ old_served st. ((tt, tt), still old_served st))
-              tt refl tt
+              tt refl tt (λ short. ((λ e. not-wanted short (let same : why ≡ NoMemory = cc in same)), tt))
 
         -- a packet that is taken
         module _ (step : Step) (p : At step) (takes : takes_it step ≡ true) where
@@ -583,7 +601,8 @@ module _ (me : ℕ) (limits : Limits) (tallies : Tallies) (paces : List Pace) (j
                       (sym (tk.serves serving old_served (took ∷ posted ∷ [])))
                       (still old_served st),
                 ))
-                tt refl tt
+                tt refl tt (λ short. all-both IsNoWant tk.older (took ∷ posted ∷ []) tk.calm
+                ((λ e. cc), ((λ e. cc), tt)))
 
         abbrev Replied : Step → Server → Type 0
         Replied step v =
@@ -714,7 +733,8 @@ module _ (me : ℕ) (limits : Limits) (tallies : Tallies) (paces : List Pace) (j
                     (tt, (own.0, (tt, tt))),
                 subst then_stands (sym (then-served old_served)) own.1,
               ))
-              tt refl tt
+              tt refl tt (λ short. all-both IsNoWant tr.older (took ∷ ran_fact ∷ posted ∷ [])
+              tr.calm ((λ e. cc), ((λ e. cc), ((λ e. cc), tt))))
 
         pub unfull-of : (parcel : Parcel) → At (Give parcel) → full ≡ false
         unfull-of parcel p =
@@ -891,3 +911,5 @@ module _ (me : ℕ) (limits : Limits) (tallies : Tallies) (paces : List Pace) (j
               ))
               is-given (rw (← limit, ← more, ← named) refl)
               (sym is_full ∙ unfull-of parcel p)
+              (λ short. all-both IsNoWant tg.older (took ∷ given_fact ∷ []) tg.calm
+              ((λ e. cc), ((λ e. cc), tt)))

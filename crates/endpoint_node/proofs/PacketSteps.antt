@@ -56,6 +56,7 @@ use Rattle.endpoint_node.specs.Replies.{HearsReply, over_facts}
 use Rattle.endpoint_node.specs.Notes.{Makes, is_end}
 use Rattle.endpoint_node.specs.Seen.{Asks, asking}
 use Rattle.endpoint_node.specs.Requests.{AsksAs, MakesServed, ServesRequest}
+use Rattle.endpoint_node.proofs.ShortLemmas.{one-header}
 
 -- what stands in front of the ring is a packet
 pub packet-there : (ring : List Arrival) (o : Option MessageHeader) → o ≡ front_header ring
@@ -246,6 +247,10 @@ module _ {R K : Type 0} (log : R → Log)
           parcel = tt;
           jobs = jobs;
           vacant = tt;
+          spared = λ short.
+              let own : short.head ≡ h = one-header a.lists.ring short.head h short.front front in
+              let clash : false ≡ true = sym replying ∙ ap (λ (x : MessageHeader). is_asking x.kind) (sym own) ∙ short.asking in
+              cc;
         };
         dones = option_to_list o;
         ends = ends-over a.lists.me makes.noted o over first.over;
@@ -283,6 +288,7 @@ module _ {R K : Type 0} (log : R → Log)
           parcel = served.parcel;
           jobs = served.jobs;
           vacant = served.vacant;
+          spared = served.spared;
         };
         dones = [];
         ends = ap (λ (x : List Fact). filter is_end x) one.facts

@@ -1,5 +1,5 @@
 -- Where a session with a peer stands.
-use Rattle.std.proofs.Common.{◌≡◌, ℕ, Bool, false, length, ◌<◌, ◌≤◌, ◌+◌, slice_get, inl, inr}
+use Rattle.std.proofs.Common.{◌≡◌, ℕ, Bool, false, length, ◌<◌, ◌≤◌, ◌+◌, inl, inr}
 use Rattle.std.proofs.Common.{arith}
 use Rattle.std.proofs.lemmas.Bool.{cases_lt}
 use Rattle.std.proofs.lemmas.Option.{slice_get_past}

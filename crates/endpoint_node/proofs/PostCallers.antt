@@ -17,6 +17,7 @@ use Rattle.rpc_laws.specs.declared.tables.Client.{Client}
 use Rattle.rpc_laws.specs.declared.tables.Queued.{Queued}
 use Rattle.rpc_laws.specs.declared.tables.Timed.{Timed}
 use Rattle.rpc_base.specs.declared.fact.Fact.{Fact}
+use Rattle.rpc_laws.specs.declared.tables.Way.{Way}
 use Rattle.rpc_laws.specs.ControlSteps.{RetriesOf, TimesSession, request_by}
 use Rattle.rpc_base.specs.declared.state.SessionState.{SessionState}
 use Rattle.rpc_base.specs.declared.state.SessionState.TheVariants.{Closing, Connecting}
@@ -373,23 +374,23 @@ session-quiet timeout i s quiet = record {
   back = [];
   joined = refl;
   first = record {
-    facts = none-retried s.clock timeout s.lists.me (slice_get s.lists.clients i) quiet;
+    facts = none-retried s.clock timeout s.lists.me s.lists.life (slice_get s.lists.clients i) quiet;
     goes = refl;
   };
   second = watched (slice_get s.lists.clients i) refl quiet;
 }
   where
-    requested : (state : SessionState) (number other credits : ℕ) → has_request state ≡ false
-        → request_by state number other credits ≡ None
-    requested Connecting number other credits h = cc
-    requested Closing number other credits h = cc
-    requested _ number other credits h = refl
+    requested : (own : ℕ) (state : SessionState) (way : Way) (credits : ℕ)
+        → has_request state ≡ false → request_by own state way credits ≡ None
+    requested own Connecting way credits h = cc
+    requested own Closing way credits h = cc
+    requested own _ way credits h = refl
 
-    none-retried : (clock timeout me : ℕ) (o : Option Client)
-        → IfSome o (λ x. is_visited x ≡ false) → RetriesOf clock timeout me o []
-    none-retried clock timeout me None h = refl
-    none-retried clock timeout me (Some x) h =
-        rw (requested x.state x.way.number x.way.other x.limit
+    none-retried : (clock timeout me own : ℕ) (o : Option Client)
+        → IfSome o (λ x. is_visited x ≡ false) → RetriesOf clock timeout me own o []
+    none-retried clock timeout me own None h = refl
+    none-retried clock timeout me own (Some x) h =
+        rw (requested own x.state x.way x.limit
         (or-false (has_calls x) (has_request x.state) h).1) refl
 
     looks-none : (cs : List Call) → are_calls cs ≡ false

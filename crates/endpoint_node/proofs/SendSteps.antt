@@ -1,5 +1,6 @@
 -- What a sent packet is for the node.
 use Rattle.std.proofs.Common.{◌≡◌, ◌≢◌, ℕ, ◌+◌, ◌≤◌, ◌<◌, Bool, true, false, cond, ltb, Option, Some}
+use Rattle.rpc_base.specs.declared.limits.TheConstants.{HEAD_BYTES}
 use Rattle.std.proofs.Common.{None, List, [], ◌∷◌, ◌++◌, length, drop, refl, sym, ap, subst, ◌∙◌}
 use Rattle.std.proofs.Common.{arith}
 use Rattle.std.specs.Prelude.{map, option_map, slice_get, IfSome}
@@ -251,7 +252,7 @@ module _ (me : ℕ) (limits : Limits) (tallies : Tallies) (paces : List Pace) (j
         goes-by js e.owner e.number p head body (ap is_of_call (sym first.owner) ∙ ready.0) changed
         servers (out ∙ sym queued)
 
-    module _ (head body : List ℕ) (long : length head ≡ 16) (bytes : AreBytes head)
+    module _ (head body : List ℕ) (long : length head ≡ HEAD_BYTES) (bytes : AreBytes head)
         (spells : SpellsFront s head body) where
       spelled : Spelled (packet_in s e.owner e.number) head body
       spelled = spelled-out (packet_in s e.owner e.number) head body
@@ -325,6 +326,7 @@ module _ (me : ℕ) (limits : Limits) (tallies : Tallies) (paces : List Pace) (j
     settled-sent r k x settled = record {
       some = settled.some;
       most = settled.most;
+      life = settled.life;
       joined = settled.joined;
       few = settled.few;
       none_left = λ closed. ap (at_first (is_active r) (moved (sent_packet clock k)))

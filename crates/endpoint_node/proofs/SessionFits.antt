@@ -78,6 +78,7 @@ module _ (me : ℕ) (limits : Limits) (tallies : Tallies) (paces : List Pace) (j
               (record {
                 some = some;
                 most = most;
+                life = (omega arith, omega arith);
                 joined = λ has. below;
                 few = omega arith;
                 none_left = λ closed. refl;

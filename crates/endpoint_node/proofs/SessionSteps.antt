@@ -93,6 +93,7 @@ module _ (me : ℕ) (limits : Limits) (tallies : Tallies) (paces : List Pace) (j
         settled = rw clients (all-push IsSettled s.clients end fits.settled (record {
           some = some;
           most = most;
+          life = (omega arith, omega arith);
           joined = λ has. cc;
           few = omega arith;
           none_left = λ closed. refl;
@@ -144,6 +145,7 @@ module _ (me : ℕ) (limits : Limits) (tallies : Tallies) (paces : List Pace) (j
         (record {
           some = old.some;
           most = old.most;
+          life = old.life;
           joined = λ has. old.joined (connected-server at.client.state connected);
           few = omega arith;
           none_left = λ closed. idle;

@@ -340,6 +340,7 @@ module _ (me : ℕ) (limits : Limits) (tallies : Tallies) (paces : List Pace) (j
           record {
             some = was.some;
             most = was.most;
+            life = was.life;
             joined = λ has. cc;
             few = was.few;
             none_left = λ _. refl;

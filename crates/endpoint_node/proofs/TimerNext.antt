@@ -88,7 +88,7 @@ module _ (after : Option ℕ) (cs : List Call) where
       ne_eqb c.what.number d.what.number (λ t. omega (arith, low, t)) in
       rw other (ih e)
 
-own-found : (after : Option ℕ) (cs : List Call) (d : Call) → Ascends cs
+pub own-found : (after : Option ℕ) (cs : List Call) (d : Call) → Ascends cs
     → find (is_next after) cs ≡ Some d → find (is_call d.what.number) cs ≡ Some d
 own-found after [] d order e = cc
 own-found after (c ∷ cs) d order e =

@@ -30,7 +30,12 @@ use Rattle.rpc_laws.specs.declared.tables.Pace.{Pace}
 use Rattle.rpc_laws.specs.declared.tables.Queued.{Queued}
 use Rattle.rpc_laws.specs.declared.tables.Timed.{Timed}
 use Rattle.rpc_laws.specs.ControlSteps.{Retries, control_fact, given_up}
+use Rattle.packet_header.specs.Ranges.{Within, lives}
+use Rattle.rpc_laws.specs.Lives.{first_life}
 use Rattle.rpc_laws.specs.ControlSteps.{own_request}
+use Rattle.rpc_laws.specs.declared.tables.Way.{Way}
+use Rattle.session_store.specs.declared.side.ClientEnd.{ClientEnd}
+use Rattle.session_store.specs.Changes.{IsClientEnd, has_request}
 use Rattle.rpc_laws.specs.ControlSteps.{request_by, retry_row}
 use Rattle.rpc_laws.specs.Facts.{plain, with_two}
 use Rattle.rpc_laws.specs.Front.{control_in, control_of}
@@ -64,33 +69,37 @@ use Rattle.endpoint_node.proofs.SendCounts.{link-still, nothing}
 use Rattle.server_core.proofs.FlushLemmas.{grew-none}
 
 -- the request of a session is in its ranges
-pub range-of : (state : SessionState) (number other credits : ℕ) (h : ControlHeader)
-    → request_by state number other credits ≡ Some h → number < SESSION_NUMBERS → 1 ≤ credits
-    → credits ≤ MOST_CREDITS → (has_server state ≡ true → other < SESSION_NUMBERS)
-    → ControlInRange h
-range-of Connecting number other credits h e few one most joined =
+pub range-of : (own : ℕ) (state : SessionState) (way : Way) (credits : ℕ) (h : ControlHeader)
+    → request_by own state way credits ≡ Some h → Within lives own → way.number < SESSION_NUMBERS
+    → 1 ≤ credits → credits ≤ MOST_CREDITS → Within lives way.life
+    → (has_server state ≡ true → way.other < SESSION_NUMBERS) → ControlInRange h
+range-of own Connecting way credits h e mine few one most theirs joined =
     let same = some-header _ h e in
     subst ControlInRange same (record {
       client = (omega arith, omega (arith, few));
       server = tt;
       credits = (one, most);
       status = inl refl;
+      from_life = mine;
+      to_life = tt;
     })
   where
     some-header : (a b : ControlHeader) → Some a ≡ Some b → a ≡ b
     some-header a b t = cc
-range-of Closing number other credits h e few one most joined =
+range-of own Closing way credits h e mine few one most theirs joined =
     let same = some-header _ h e in
     subst ControlInRange same (record {
       client = (omega arith, omega (arith, few));
       server = (omega arith, omega (arith, joined refl));
       credits = (omega arith, omega arith);
       status = inl refl;
+      from_life = mine;
+      to_life = theirs;
     })
   where
     some-header : (a b : ControlHeader) → Some a ≡ Some b → a ≡ b
     some-header a b t = cc
-range-of _ number other credits h e few one most joined = cc
+range-of own _ way credits h e mine few one most theirs joined = cc
 
 -- a session that is there, and what is known of it
 pub known-at : (xs : List Client) (i : ℕ) → i < length xs → (x : Client) × (slice_get xs i ≡ Some x)
@@ -104,45 +113,53 @@ of-known P xs i x place h = rw place at h
 
 pub ranged : (xs : List Client) (i : ℕ) (x : Client) → slice_get xs i ≡ Some x
     → NumberedFrom client_no 0 xs → i < length xs → length xs ≤ SESSION_NUMBERS
-    → AllByRecursion IsSettled xs → (h : ControlHeader) → own_request x ≡ Some h → ControlInRange h
+    → AllByRecursion IsSettled xs → (h : ControlHeader) → own_request first_life x ≡ Some h
+    → ControlInRange h
 ranged xs i x place numbered low few settled h own =
     let old = all-at IsSettled xs i x settled place in
     let named = numbered-at client_no 0 i xs x numbered place in
-    range-of x.state x.way.number x.way.other x.limit h own (omega (arith, named, low, few))
-    old.some old.most old.joined
+    range-of first_life x.state x.way x.limit h own (omega arith, omega arith)
+    (omega (arith, named, low, few)) old.some old.most old.life old.joined
 
 -- it names the session, and is known as its request
-own-client : (state : SessionState) (number other credits : ℕ) (h : ControlHeader)
-    → request_by state number other credits ≡ Some h → h.client ≡ number
-own-client Connecting number other credits h e =
+own-client : (own : ℕ) (state : SessionState) (way : Way) (credits : ℕ) (h : ControlHeader)
+    → request_by own state way credits ≡ Some h → h.client ≡ way.number
+own-client own Connecting way credits h e =
     ap (λ (o : Option ControlHeader). client-in o) (sym e)
   where
     client-in : Option ControlHeader → ℕ
-    client-in None = number
+    client-in None = way.number
     client-in (Some k) = k.client
-own-client Closing number other credits h e =
+own-client own Closing way credits h e =
     ap (λ (o : Option ControlHeader). client-in o) (sym e)
   where
     client-in : Option ControlHeader → ℕ
-    client-in None = number
+    client-in None = way.number
     client-in (Some k) = k.client
-own-client _ number other credits h e = cc
+own-client own _ way credits h e = cc
 
-own-known : (state : SessionState) (number other credits : ℕ) (h : ControlHeader)
-    → request_by state number other credits ≡ Some h
-    → is_request_of h.kind h.server state other ≡ true
-own-known Connecting number other credits h e =
+own-known : (own : ℕ) (state : SessionState) (way : Way) (credits : ℕ) (h : ControlHeader)
+    → request_by own state way credits ≡ Some h
+    → is_request_of h.kind h.server state way.other ≡ true
+own-known own Connecting way credits h e =
     subst (λ (o : Option ControlHeader).
-    IfSome o (λ k. is_request_of k.kind k.server Connecting other ≡ true)) e refl
-own-known Closing number other credits h e =
+    IfSome o (λ k. is_request_of k.kind k.server Connecting way.other ≡ true)) e refl
+own-known own Closing way credits h e =
     subst (λ (o : Option ControlHeader).
-    IfSome o (λ k. is_request_of k.kind k.server Closing other ≡ true)) e (eq-eqb other other refl)
-own-known _ number other credits h e = cc
+    IfSome o (λ k. is_request_of k.kind k.server Closing way.other ≡ true)) e
+    (eq-eqb way.other way.other refl)
+own-known own _ way credits h e = cc
 
-asked-once : (clock : ℕ) (x : Client) (h : ControlHeader) → own_request x ≡ Some h
+-- a session that has it has a state in which sessions have one
+pub own-asks : (own : ℕ) (state : SessionState) (way : Way) (credits : ℕ) (h : ControlHeader)
+    → request_by own state way credits ≡ Some h → has_request state ≡ true
+own-asks own Connecting way credits h e = refl
+own-asks own Closing way credits h e = refl
+own-asks own _ way credits h e = cc
+
+asked-once : (clock own : ℕ) (x : Client) (h : ControlHeader) → own_request own x ≡ Some h
     → requests clock h x ≡ sent_again clock x
-asked-once clock x h own =
-    rw (own-known x.state x.way.number x.way.other x.limit h own) refl
+asked-once clock own x h is = rw (own-known own x.state x.way x.limit h is) refl
 
 -- no control packet is queued
 not-control : (o : Owner) (number : ℕ) (due : Option ℕ) → is_of_call o ≡ true
@@ -215,7 +232,7 @@ module _ (me : ℕ) (limits : Limits) (tallies : Tallies) (paces : List Pace) (j
   module _ (fits : Fits (seen s) s.size s.places) (i peer : ℕ) (h : ControlHeader)
       (at : ChangesAt i (sent_again clock) s.clients t.clients)
       (servers : t.servers ≡ s.servers) (queued : t.queued ≡ s.queued)
-      (own : own_request at.client ≡ Some h) (is : peer ≡ at.client.way.peer)
+      (own : own_request first_life at.client ≡ Some h) (is : peer ≡ at.client.way.peer)
       (head : List ℕ) (spells : Spells (ControlPacket h) head) where
     reads : control_of head ≡ Some h
     reads = ap control_in (spells-decoded (ControlPacket h) head spells)
@@ -230,10 +247,10 @@ module _ (me : ℕ) (limits : Limits) (tallies : Tallies) (paces : List Pace) (j
     told : t.clients ≡ clients_told clock (control_of head) s.clients
     told =
         let client : h.client ≡ 0 + i =
-        own-client at.client.state at.client.way.number at.client.way.other at.client.limit h own
+        own-client first_life at.client.state at.client.way at.client.limit h own
         ∙ numbered-at client_no 0 i s.clients at.client fits.kept.valid.numbered at.place in
         at.changed
-        ∙ ap (λ (x : Client). slice_set s.clients i x) (sym (asked-once clock at.client h own))
+        ∙ ap (λ (x : Client). slice_set s.clients i x) (sym (asked-once clock first_life at.client h own))
         ∙ sym (first-at (requests clock h) 0 i s.clients at.client fits.kept.valid.numbered
         at.place)
         ∙ ap (λ n. at_first (is_client n) (requests clock h) s.clients) (sym client)
@@ -258,6 +275,7 @@ module _ (me : ℕ) (limits : Limits) (tallies : Tallies) (paces : List Pace) (j
         (record {
           some = old.some;
           most = old.most;
+          life = old.life;
           joined = old.joined;
           few = omega (arith, few);
           none_left = old.none_left;
@@ -312,6 +330,7 @@ module _ (me : ℕ) (limits : Limits) (tallies : Tallies) (paces : List Pace) (j
           (record {
             some = old.some;
             most = old.most;
+            life = old.life;
             joined = λ has. (let no : false ≡ true = sym left ∙ has in cc);
             few = omega arith;
             none_left = λ other. old.none_left (ap is_connected stood ∙ closed);
@@ -451,7 +470,7 @@ module _ {R : Type 0} (log : R → Log) (i : ℕ) where
 module _ {R L : Type 0} (log : R → Log)
     (net : Link.Ghosts L) (timeout i : ℕ) (a : Timed)
     (x : Client) (place : slice_get a.lists.clients i ≡ Some x) where
-  pub retries-none : own_request x ≡ None → (f : R) (l : L)
+  pub retries-none : own_request a.lists.life x ≡ None → (f : R) (l : L)
       → MakesSpoken log net (Retries timeout i) nothing a a f f l l
   retries-none none f l = record {
     makes = record {
@@ -462,7 +481,7 @@ module _ {R L : Type 0} (log : R → Log)
     link = link-still net [] l tt tt;
   }
 
-  module _ (h : ControlHeader) (own : own_request x ≡ Some h) where
+  module _ (h : ControlHeader) (own : own_request a.lists.life x ≡ Some h) where
     pub retries-rest : retry_row a.clock timeout x.sends x.sent_at ≡ Rests → (f : R) (l : L)
         → MakesSpoken log net (Retries timeout i) nothing a a f f l l
     retries-rest row f l = record {
@@ -524,11 +543,13 @@ module _ {R L : Type 0} (log : R → Log)
 
 -- the own request of a session, by what is told of it
 pub own-told : (xs : List Client) (i : ℕ) (x : Client) → slice_get xs i ≡ Some x
-    → NumberedFrom client_no 0 xs → (state : SessionState) {server credits : ℕ}
-    → server ≡ x.way.other → credits ≡ x.limit → state ≡ told_state x.state x.asked
-    → request_by state i server credits ≡ own_request x
-own-told xs i x place numbered state other limit told =
+    → NumberedFrom client_no 0 xs → (own : ℕ) (state : SessionState) (end : ClientEnd)
+    → IsClientEnd end x → state ≡ told_state x.state x.asked
+    → request_by own state
+    (record { number = i; peer = end.peer; other = end.server; life = end.life }) end.credits
+    ≡ own_request own x
+own-told xs i x place numbered own state end is told =
     let named : x.way.number ≡ i =
     (let at = numbered-at client_no 0 i xs x numbered place in omega (arith, at)) in
-    rw (told, other, limit, sym named)
-    (told-request x.state x.asked x.way.number x.way.other x.limit)
+    rw (told, is.peer, is.server, is.life, is.credits, sym named)
+    (told-request own x.state x.asked x.way x.limit)

@@ -3,16 +3,9 @@ use Rattle.std.specs.Prelude.{◌≡◌, ℕ, ◌<◌, ◌≤◌, ◌||◌, Bool
 use Rattle.std.specs.Prelude.{IfSome, List}
 use Rattle.std.specs.Prelude.{slice_get}
 use Rattle.std.specs.List.{Contains}
-use Rattle.rpc_base.specs.declared.state.SessionState.{SessionState}
-use Rattle.rpc_base.specs.declared.state.SessionState.TheVariants.{Closing, Connecting}
 use Rattle.rpc_laws.specs.declared.tables.Client.{Client}
+pub use Rattle.session_store.specs.Changes.{has_request}
 use Rattle.session_store.specs.Sides.{has_calls}
-
--- a session that is opened, and one that closes, has a request of its own
-abbrev pub has_request : SessionState → Bool
-has_request Connecting = true
-has_request Closing = true
-has_request _ = false
 
 -- a poll visits a session that has calls or a request of its own
 abbrev pub is_visited : Client → Bool

@@ -22,7 +22,7 @@ pub record Handles (peer : ℕ) (h : ControlHeader) (reply : Option ControlHeade
   pub lacks : Bool
   pub facts : x ≡ plain s.lists.me Heard ∷ control_facts s.lists peer h
       (control_row lacks peer h s.lists)
-  pub answer : reply ≡ control_reply h (control_row lacks peer h s.lists)
+  pub answer : reply ≡ control_reply s.lists.life h (control_row lacks peer h s.lists)
   pub goes : Goes s x t
 
 -- what is told of one packet whose answer was handed to the link

@@ -24,7 +24,7 @@ pub record Acts (row : ControlRow) (peer : ℕ) (h : ControlHeader) (s : Timed) 
 pub record ControlsBy (row : ControlRow) (peer : ℕ) (h : ControlHeader)
     (reply : Option ControlHeader) (s : Timed) (x : List Fact) (t : Timed) : Type 0 where
   pub facts : x ≡ control_facts s.lists peer h row
-  pub answer : reply ≡ control_reply h row
+  pub answer : reply ≡ control_reply s.lists.life h row
   pub goes : Goes s x t
 
 -- by that of the control rule, where memory for a server session is wanting or not

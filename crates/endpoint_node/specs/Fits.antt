@@ -1,6 +1,7 @@
 -- What always holds of a node and of what its store has room for.
 use Rattle.std.specs.Prelude.{◌≡◌, ℕ, ◌+◌, ◌*◌, ◌<◌, ◌≤◌, Bool, true, false, None, [], length}
 use Rattle.std.specs.List.{AllByRecursion}
+use Rattle.packet_header.specs.Ranges.{Within, lives}
 use Rattle.rpc_base.specs.declared.limits.TheConstants.{MOST_CREDITS, MOST_RING, SESSION_NUMBERS}
 use Rattle.rpc_base.specs.declared.owner.Owner.{Owner}
 use Rattle.rpc_base.specs.declared.owner.Owner.TheVariants.{Ask, Reply, Control}
@@ -40,11 +41,13 @@ has_server Spent = true
 has_server Closing = true
 has_server _ = false
 
--- a client session has 1 to 256 credits, and the number of its server session, where it has one. It
--- sent its own request nine times at most. One that isn't connected has no call
+-- a client session has 1 to 256 credits, the life of its server's endpoint, and the number of its
+-- server session, where it has one. It sent its own request nine times at most. One that isn't
+-- connected has no call
 pub record IsSettled (x : Client) : Type 0 where
   pub some : 1 ≤ x.limit
   pub most : x.limit ≤ MOST_CREDITS
+  pub life : Within lives x.way.life
   pub joined : has_server x.state ≡ true → x.way.other < SESSION_NUMBERS
   pub few : x.sends ≤ 9
   pub none_left : is_connected x.state ≡ false → x.calls ≡ []

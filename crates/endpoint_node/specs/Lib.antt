@@ -5,6 +5,7 @@ pub mod Control
 pub mod ControlRows
 pub mod Counts
 pub mod Deliveries
+pub mod Due
 pub mod Ends
 pub mod Fits
 pub mod Fronts

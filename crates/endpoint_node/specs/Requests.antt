@@ -1,25 +1,30 @@
 -- What a node does with the request in front of its receive ring, and with a job that is finished.
 use Rattle.std.specs.Prelude.{◌≡◌, ◌≢◌, ℕ, ◌+◌, ◌++◌, Bool, false, Option, Some, None, IfSome, List}
-use Rattle.std.specs.Prelude.{[], ◌∷◌, length, slice_get}
+use Rattle.std.specs.Prelude.{◌≤◌, true, [], ◌∷◌, length, slice_get}
 use Rattle.std.specs.List.{AllByRecursion, find}
 use Rattle.rpc_outside.specs.Recording.{Log}
 use Rattle.message_buffer.specs.Buffer.{bytes_of}
-use Rattle.packet_header.specs.Parts.{IsMessage}
+use Rattle.packet_header.specs.Kinds.{is_asking, is_last}
+use Rattle.packet_header.specs.Parts.{IsMessage, packet_count}
 use Rattle.packet_header.specs.Reading.{body_of}
 use Rattle.packet_header.specs.declared.packet.MessageHeader.{MessageHeader}
+use Rattle.rpc_base.specs.declared.event.Event.TheVariants.{Dropped}
 use Rattle.rpc_base.specs.declared.fact.Fact.{Fact}
+use Rattle.rpc_base.specs.declared.limits.TheConstants.{PART_BYTES}
+use Rattle.rpc_base.specs.declared.state.DropReason.TheVariants.{NoMemory}
 use Rattle.rpc_laws.specs.declared.tables.Arrival.{Arrival}
 use Rattle.rpc_laws.specs.declared.tables.Job.{Job}
 use Rattle.rpc_laws.specs.declared.tables.Jobs.{Jobs}
 use Rattle.rpc_laws.specs.declared.tables.Server.{Server}
 use Rattle.rpc_laws.specs.declared.tables.Timed.{Timed}
+use Rattle.rpc_laws.specs.Front.{front_body, front_header}
 use Rattle.rpc_laws.specs.Jobs.{are_full, is_job}
 use Rattle.rpc_laws.specs.PollOrder.{asks_facts, finished_facts}
 use Rattle.rpc_laws.specs.Service.{Answers, Serving, served_after_all}
 use Rattle.rpc_laws.specs.Steps.{Rel, Goes}
 use Rattle.rpc_outside.specs.Served.{Served}
 use Rattle.rpc_outside.specs.declared.service.Mode.{Mode}
-use Rattle.rpc_outside.specs.declared.service.Mode.TheVariants.{Background, Unserved}
+use Rattle.rpc_outside.specs.declared.service.Mode.TheVariants.{Background, Inline, Unserved}
 use Rattle.worker_board.specs.declared.Parcel.{Parcel}
 use Rattle.endpoint_node.specs.Notes.{MakesWhere}
 use Rattle.endpoint_node.specs.Seen.{Asks}
@@ -63,6 +68,26 @@ with_given None jobs = jobs
 with_given (Some p) jobs =
     record jobs { given = jobs.given + 1; out = jobs.out ++ job_named p ∷ [] }
 
+-- the packet in front of the ring is a request of one packet, of a type that is handled inline and
+-- whose answer fits in one packet, whatever was served before
+pub record IsShort (v : Serving) (ring : List Arrival) : Type 0 where
+  pub head : MessageHeader
+  pub front : front_header ring ≡ Some head
+  pub asking : is_asking head.kind ≡ true
+  pub last : is_last head ≡ true
+  pub one : packet_count head.size ≡ 1
+  pub inline : v.mode head.req_type ≡ Inline
+  pub fits : (served : Served)
+      → length (v.answer served head.req_type (front_body ring)) ≤ PART_BYTES
+
+-- so is each packet in the ring
+abbrev pub AreShort : Serving → List Arrival → Type 0
+AreShort v ring = AllByRecursion (λ a. IsShort v (a ∷ [])) ring
+
+-- a fact other than that a packet was dropped for want of memory
+abbrev pub IsNoWant : Fact → Type 0
+IsNoWant f = f.event ≢ Dropped NoMemory
+
 -- a step that may run a handler, or make a job, which is given out, and then the jobs weren't full.
 -- Where the service stood for what was served before, each handler that ran has its answer, and the
 -- service stands for what was served after
@@ -75,6 +100,8 @@ pub record MakesServed {R : Type 0} (log : R → Log) (v : Serving)
   pub parcel : IfSome given (IsGiven v stands)
   pub jobs : new.lists.jobs ≡ with_given given old.lists.jobs
   pub vacant : IfSome given (λ p. are_full old.lists.jobs ≡ false)
+  -- a short request needs no memory
+  pub spared : IsShort v old.lists.ring → AllByRecursion IsNoWant makes.noted
 
 -- the job of this request is finished, with this answer
 pub record FinishesWith (session request : ℕ) (answer : List ℕ) (s : Timed) (x : List Fact)

@@ -1,5 +1,6 @@
 -- A node as the definitions over histories have it.
 use Rattle.std.specs.Prelude.{ℕ, List, [], map}
+use Rattle.rpc_laws.specs.Lives.{first_life}
 use Rattle.packet_rings.specs.Rings.{Ring}
 use Rattle.packet_rings.specs.Values.{DatagramValue}
 use Rattle.rpc_base.specs.declared.limits.Limits.{Limits}
@@ -51,6 +52,7 @@ abbrev pub seen_node : (me : ℕ) → Limits → Tallies → List Pace → Jobs 
 seen_node me limits tallies paces jobs clock rx s = record {
   lists = record {
     me = me;
+    life = first_life;
     room = rx.size;
     timeout = limits.timeout;
     asked = tallies.asked;

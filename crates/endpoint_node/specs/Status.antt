@@ -5,7 +5,6 @@ use Rattle.rpc_base.specs.declared.state.SessionState.{SessionState}
 use Rattle.rpc_base.specs.declared.state.SessionState.TheVariants.{Closing, Connected, Spent}
 use Rattle.rpc_laws.specs.declared.tables.Client.{Client}
 use Rattle.rpc_laws.specs.declared.tables.Lists.{Lists}
-use Rattle.endpoint_node.specs.Callers.{NoneCalls}
 
 -- a session that takes calls, or took them and is closing
 abbrev pub has_credits : SessionState → Bool
@@ -23,11 +22,6 @@ free_told (Some x) = if has_credits x.state then Some x.free else None
 abbrev pub pending_told : Option Client → ℕ
 pending_told None = 0
 pending_told (Some x) = length x.calls
-
--- no timer runs: no client session has calls or a request of its own, and no packet is queued
-pub record HasNoTimers (s : Lists) : Type 0 where
-  pub calm : NoneCalls 0 (length s.clients) s.clients
-  pub queued : s.queued ≡ []
 
 -- every datagram that came was handled
 pub record IsDrained (s : Lists) : Type 0 where

@@ -1,12 +1,14 @@
 //! What an endpoint has, beside its service and its workers.
 ghost use Rattle.std.specs.Prelude.{◌≡◌, ◌≤◌, [], IfOk};
 ghost use Rattle.endpoint_node.specs.Handed.{holding};
+ghost use Rattle.rpc_laws.specs.Lives.{first_life};
 ghost use Rattle.rpc_base.specs.Limits.{Fits as InRange};
 ghost use Rattle.rpc_laws.specs.Groups.{shares};
 ghost use Rattle.rpc_laws.specs.NodeLists.{new_node};
 
 mod calls;
 mod delivery;
+mod due;
 mod pairs;
 mod peers;
 mod poll;
@@ -18,6 +20,7 @@ use crate::inbox::Inbox;
 use calling_sessions::CallingSessions;
 pub use calls::{AskError, Refused};
 pub use delivery::Delivery;
+use packet_header::{FIRST_LIFE, Life};
 use packet_rings::RxRing;
 pub use poll::{Asking, Listening, Sending};
 use rpc_base::{Limits, NoMemory, NodeId, RequestNo, SessionNo};
@@ -122,7 +125,7 @@ impl Node {
     /// comes where there is no memory for its rings, its inbox and its pool.
     pub fn new(alloc: Global, me: NodeId, limits: Limits) -> Result<Node, NoMemory>
         requires limits { InRange limits }
-        ensures { IfOk result (λ n. n ≡ holding [] (new_node me limits)) }
+        ensures { IfOk result (λ n. n ≡ holding [] (new_node me first_life limits)) }
     {
         let places = PLACES_OF_SESSION * limits.ring + PLACES_OF_JOB * limits.jobs;
         Ok(Node {
@@ -145,6 +148,14 @@ impl Node {
             store: Store::new(alloc, limits.ring, places)?,
             callers: CallingSessions::new(alloc)?,
         })
+    }
+
+    // The life that the endpoint has.
+    fn life(&self) -> Life
+        ensures { result ≡ self.now.lists.life }
+    {
+        let _me = self.me;
+        Life(FIRST_LIFE)
     }
 
     // The credits of its live sessions.

@@ -1,8 +1,8 @@
 //! What a node tells of itself.
 ghost use Rattle.node_laws.specs.NodeRun.{IsCredits};
-ghost use Rattle.std.specs.Prelude.{◌≡◌, false, ◌≤◌, ◌↔◌, None, IfErr, IsSome, IsTrue, OnOk, length};
+ghost use Rattle.std.specs.Prelude.{◌≡◌, ◌≤◌, ◌↔◌, None, IfErr, IsSome, IsTrue, OnOk, length};
 ghost use Rattle.std.specs.List.{find};
-ghost use Rattle.endpoint_node.specs.Status.{HasNoTimers, IsDrained, IsQuiet, free_told, pending_told};
+ghost use Rattle.endpoint_node.specs.Status.{IsDrained, IsQuiet, free_told, pending_told};
 ghost use Rattle.rpc_laws.specs.Groups.{pair_refusal};
 ghost use Rattle.rpc_laws.specs.Sessions.{is_client};
 ghost use Rattle.session_mgmt.specs.Refusals.{refused};
@@ -54,17 +54,6 @@ impl Node {
             return 0;
         }
         self.store.pending(i)
-    }
-
-    /// Whether a timer may run: where a client session has calls or a request of its own, or a
-    /// packet is queued. Where none does a poll without datagrams does nothing, at whatever moment.
-    pub fn has_timers(&self) -> bool
-        ensures { result ≡ false → HasNoTimers self.now.lists }
-    {
-        if self.store.queued() != 0 {
-            return true;
-        }
-        self.next_caller(0, self.store.clients()).is_some()
     }
 
     /// Whether its ring and its inbox are empty.

@@ -1,4 +1,5 @@
 use Rattle.std.proofs.Common.{◌≡◌, ◌+◌, None, length, refl, sym, subst, ap, ◌∙◌, arith}
+use Rattle.rpc_base.specs.declared.limits.TheConstants.{HEAD_BYTES}
 use Rattle.endpoint_node.proofs.PacketSteps.{packet-there}
 use Rattle.std.specs.Option.{option_copied}
 use Rattle.packet_header.specs.Header.{MessageLength}
@@ -32,10 +33,10 @@ returns-clause-long c =
     let here = sym c.front.ensures ∙ ap option_copied c.in-Some.is in
     let m = c.message_header.result in
     let body = body-there c.self.inside.rx.items c.in-Some.front.now here in
-    let same : length c.bytes.result.now ≡ 16 + length (front_body c.args.self.now.lists.ring) =
+    let same : length c.bytes.result.now ≡ HEAD_BYTES + length (front_body c.args.self.now.lists.ring) =
     rw (← c.self.view_is, body, c.bytes.ensures.bytes) (omega (
       arith,
-      length-drop 16 c.in-Some.front.now.bytes,
+      length-drop HEAD_BYTES c.in-Some.front.now.bytes,
       rw c.bytes.ensures.bytes at c.message_header.ensures.spelled.head.whole,
     )) in
     subst (λ n. MessageLength m.kind m.size m.number n) same c.message_header.ensures.spelled.long

@@ -1,4 +1,5 @@
 use Rattle.std.proofs.Common.{◌+◌, ℕ, List, length, refl, sym, ap, subst, ◌∙◌, arith, rules}
+use Rattle.rpc_base.specs.declared.limits.TheConstants.{HEAD_BYTES}
 use Rattle.std.specs.Option.{option_copied}
 use Rattle.packet_header.specs.Header.{MessageLength}
 use Rattle.packet_header.specs.Reading.{body_of}
@@ -34,7 +35,7 @@ on_packet-step-requires-clause-asking g c =
       kind = c.requires.asks.asking;
       in_range = c.requires.asks.in_range;
       body = subst (λ (b : List ℕ). MessageLength c.args.head.now.kind c.args.head.now.size
-          c.args.head.now.number (16 + length b)) same long;
+          c.args.head.now.number (HEAD_BYTES + length b)) same long;
     }
 
 pub on_packet-step-requires-clause-ring : goal.on_packet-step-requires-clause-ring

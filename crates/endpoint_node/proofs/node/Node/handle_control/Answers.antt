@@ -2,6 +2,7 @@ use Rattle.std.proofs.Common.{refl, ◌∙◌, ap}
 use Rattle.endpoint_node.specs.Handed.{timed_of, Holding}
 use Rattle.endpoint_node.specs.contracts.node.Node.{the_view}
 use Rattle.endpoint_node.proofs.ControlSteps.{answer-range, made-me, made-ring, made-served}
+use Rattle.endpoint_node.proofs.ControlAnswers.{first-within}
 use Rattle.endpoint_node.proofs.ControlSteps.{makes-handled}
 use Rattle.endpoint_node.proofs.node.Node.handle_control.Goals as goal
 
@@ -29,5 +30,5 @@ pub returns-clause-in_range : goal.returns-clause-in_range
 returns-clause-in_range g c =
     let fits = c.self.invariant.0 in
     answer-range g.R.Recorder.log _ _ (the_view c.self.inside).lists _ _ _ _
-    c.on_control.result c.requires.in_range refl fits.kept.valid.alone fits.server_numbers
+    c.on_control.result c.requires.in_range first-within refl fits.kept.valid.alone fits.server_numbers
     fits.credits c.on_control.ensures.makes

@@ -9,6 +9,6 @@ act-done-requires g c = record {
 
 pub returns : goal.returns
 returns g c = record {
-  makes = rw c.control_reply.ensures c.act-done.ensures.makes;
+  makes = rw (c.control_reply.ensures, c.life-own.ensures) c.act-done.ensures.makes;
   rest = c.act-done.ensures.rest;
 }

@@ -1,6 +1,6 @@
 use Rattle.std.proofs.lemmas.Bool.{false≢true}
 use Rattle.std.proofs.lemmas.Grind.{common_steps}
-use Rattle.std.proofs.Common.{◌≡◌, sym, ap, rules, refl, arith, ◌∙◌}
+use Rattle.std.proofs.Common.{◌≡◌, sym, ap, rules, refl, arith}
 use Rattle.session_mgmt.specs.Refusals.{refused}
 use Rattle.endpoint_node.specs.Handed.{timed_of}
 use Rattle.endpoint_node.proofs.SessionPairs.{server-made, server-refused}

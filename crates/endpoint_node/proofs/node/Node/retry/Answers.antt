@@ -12,7 +12,7 @@ pub returns-in_default : goal.returns-in_default
 returns-in_default g c = record {
   spoken = let s = timed_of c.args.self.now in
       let x = known-at s.lists.clients c.args.i c.requires.known in
-      let own = of-known (λ y. None ≡ own_request y) s.lists.clients c.args.i x.0 x.1
+      let own = of-known (λ y. None ≡ own_request s.lists.life y) s.lists.clients c.args.i x.0 x.1
       (rw c.in_default.is at c.own_request.ensures) in
       retries-none g.R.Recorder.log g.L.Link c.args.timeout c.args.i s x.0 x.1 (sym own) _ _;
   rest = leaves-none _;
@@ -24,7 +24,7 @@ pub returns-in-Rests : goal.returns-in-Rests
 returns-in-Rests g c = record {
   spoken = let s = timed_of c.args.self.now in
       let x = known-at s.lists.clients c.args.i c.requires.known in
-      let own = of-known (λ y. Some c.in-Some.head ≡ own_request y) s.lists.clients c.args.i x.0 x.1
+      let own = of-known (λ y. Some c.in-Some.head ≡ own_request s.lists.life y) s.lists.clients c.args.i x.0 x.1
       (rw c.in-Some.is at c.own_request.ensures) in
       let row = of-known (λ (y : Client). Rests ≡ retry_row s.clock c.args.timeout y.sends y.sent_at)
       s.lists.clients c.args.i x.0 x.1 (rw c.in-Rests.is at c.retry_row.ensures) in
@@ -39,7 +39,7 @@ pub returns-in-Asks : goal.returns-in-Asks
 returns-in-Asks g c = record {
   spoken = let s = timed_of c.args.self.now in
       let x = known-at s.lists.clients c.args.i c.requires.known in
-      let own = of-known (λ y. Some c.in-Some.head ≡ own_request y) s.lists.clients c.args.i x.0 x.1
+      let own = of-known (λ y. Some c.in-Some.head ≡ own_request s.lists.life y) s.lists.clients c.args.i x.0 x.1
       (rw c.in-Some.is at c.own_request.ensures) in
       let row = of-known (λ (y : Client). Asks ≡ retry_row s.clock c.args.timeout y.sends y.sent_at)
       s.lists.clients c.args.i x.0 x.1 (rw c.in-Asks.is at c.retry_row.ensures) in
@@ -54,7 +54,7 @@ pub returns-in-GivesUp : goal.returns-in-GivesUp
 returns-in-GivesUp g c = record {
   spoken = let s = timed_of c.args.self.now in
       let x = known-at s.lists.clients c.args.i c.requires.known in
-      let own = of-known (λ y. Some c.in-Some.head ≡ own_request y) s.lists.clients c.args.i x.0 x.1
+      let own = of-known (λ y. Some c.in-Some.head ≡ own_request s.lists.life y) s.lists.clients c.args.i x.0 x.1
       (rw c.in-Some.is at c.own_request.ensures) in
       let row = of-known (λ (y : Client). GivesUp
       ≡ retry_row s.clock c.args.timeout y.sends y.sent_at) s.lists.clients c.args.i x.0 x.1 (rw c.in-GivesUp.is at c.retry_row.ensures) in

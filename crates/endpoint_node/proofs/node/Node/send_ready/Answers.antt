@@ -1,7 +1,7 @@
 use Rattle.std.proofs.lemmas.Result.{err_from_is_err_and}
 use Rattle.std.proofs.lemmas.Grind.{common_steps}
 use Rattle.std.proofs.lemmas.Bool.{false≢true}
-use Rattle.std.proofs.Common.{◌∙◌, Some, ap, refl, arith, rules, sym}
+use Rattle.std.proofs.Common.{◌∙◌, Some, ap, refl, arith, sym}
 use Rattle.endpoint_node.proofs.NodeFits.{few-queued}
 use Rattle.endpoint_node.proofs.LeavesSteps.{leaves-none, leaves-then}
 use Rattle.endpoint_node.proofs.SendCounts.{held-busy, held-fault, held-none}

@@ -1,6 +1,7 @@
 use Rattle.endpoint_node.proofs.LeavesSteps.{leaves-none}
 use Rattle.std.proofs.Common.{◌≡◌, ◌<◌, Some, false, true, refl, arith}
 use Rattle.rpc_laws.specs.declared.tables.Client.{Client}
+use Rattle.rpc_laws.specs.Lives.{first_life}
 use Rattle.rpc_laws.specs.ControlSteps.{own_request}
 use Rattle.session_store.specs.Changes.{IsClientEnd, sent_again}
 use Rattle.endpoint_node.specs.Handed.{timed_of}
@@ -21,7 +22,7 @@ speak-requires g c =
     record {
       in_range = ranged xs c.args.i x.0 x.1 fits.kept.valid.numbered known fits.numbers
           fits.settled c.args.head.now
-          (of-known (λ y. own_request y ≡ Some c.args.head.now) xs c.args.i x.0 x.1
+          (of-known (λ y. own_request first_life y ≡ Some c.args.head.now) xs c.args.i x.0 x.1
           (rw (← c.self.view_is) at c.requires.own));
     }
 
@@ -41,7 +42,7 @@ invariant_of-self g c =
           c.self.inside.jobs.items) c.self.inside.clock c.self.inside.rx c.self.inside.store
           c.request_sent.new.self c.self.invariant.0 c.args.i _ c.args.head.now at h.servers
           h.queued
-          (of-known (λ y. own_request y ≡ Some c.args.head.now) xs c.args.i at.client at.place
+          (of-known (λ y. own_request first_life y ≡ Some c.args.head.now) xs c.args.i at.client at.place
           (rw (← c.self.view_is) at c.requires.own))
           (of-known (IsClientEnd c.end_of_client-end.result) xs c.args.i at.client at.place
           c.end_of_client-end.ensures).peer
@@ -68,7 +69,7 @@ returns-in-Ok-true g c = record {
       }) c.self.inside.paces.items (jobs_in c.self.inside.limits.jobs c.self.inside.given
       c.self.inside.jobs.items) c.self.inside.clock c.self.inside.rx c.self.inside.store
       c.request_sent.new.self c.self.invariant.0 c.args.i _ c.args.head.now at h.servers h.queued
-      (of-known (λ y. own_request y ≡ Some c.args.head.now) xs c.args.i at.client at.place
+      (of-known (λ y. own_request first_life y ≡ Some c.args.head.now) xs c.args.i at.client at.place
       (rw (← c.self.view_is) at c.requires.own))
       (of-known (IsClientEnd c.end_of_client-end.result) xs c.args.i at.client at.place
       c.end_of_client-end.ensures).peer

@@ -149,7 +149,8 @@ impl Node {
         requires in_range { ControlInRange head.now }
         requires some { 1 ≤ head.now.credits }
         requires most { head.now.credits ≤ MOST_CREDITS }
-        ensures { StepsControl R.log (Controls peer head.now (control_reply head.now result))
+        ensures { StepsControl R.log
+            (Controls peer head.now (control_reply self.old.lists.life head.now result))
             (self.old ⟶ self.new) (rec.old ⟶ rec.new) }
     {
         match self.add_accepted(peer, head.client, head.credits, rec) {

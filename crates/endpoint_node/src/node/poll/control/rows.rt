@@ -42,7 +42,8 @@ impl Node {
             ≡ starved_if lacks row }
         requires cause { HasCause row head.now (found_in peer head.now self.old.lists) }
         requires in_range { ControlInRange head.now }
-        ensures { StepsControl R.log (Controls peer head.now (control_reply head.now result))
+        ensures { StepsControl R.log
+            (Controls peer head.now (control_reply self.old.lists.life head.now result))
             (self.old ⟶ self.new) (rec.old ⟶ rec.new) }
     {
         self.sound();
@@ -88,9 +89,10 @@ impl Node {
         ensures { StepsControl R.log (Controls peer head.now result) (self.old ⟶ self.new)
             (rec.old ⟶ rec.new) }
     {
+        let own = self.life();
         let found = self.found(peer, head);
         let row = control_row(peer, head, &found);
         let done = self.act(row, peer, head, rec);
-        control_reply(head, &done)
+        control_reply(own, head, &done)
     }
 }

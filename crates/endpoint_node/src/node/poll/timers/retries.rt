@@ -13,7 +13,7 @@ use crate::node::Node;
 use crate::node::poll::link::speak;
 use packet_header::ControlHeader;
 use rpc_base::{Event, SessionNo, SessionState, Who};
-use rpc_laws::RetryRow;
+use rpc_laws::{RetryRow, Way};
 use rpc_outside::{Link, Recorder};
 use session_mgmt::{own_request, retry_row};
 
@@ -73,7 +73,7 @@ impl Node {
     ) -> Asking
         requires known { i < length self.old.lists.clients }
         requires own { IfSome (slice_get self.old.lists.clients i)
-            (λ x. own_request x ≡ Some head.now) }
+            (λ x. own_request self.old.lists.life x ≡ Some head.now) }
         requires few { IfSome (slice_get self.old.lists.clients i) (λ x. x.sends < 9) }
         ensures { StepsSpoken R.log L.Link (SendsRequest i head.now) result (self.old ⟶ self.new)
             (rec.old ⟶ rec.new) (link.old ⟶ link.new) }
@@ -103,11 +103,17 @@ impl Node {
     // The own request of session `i`, where it has one.
     pub(crate) fn own_request(&self, i: usize) -> Option<ControlHeader>
         requires known { i < length self.now.lists.clients }
-        ensures { IfSome (slice_get self.now.lists.clients i) (λ x. result ≡ own_request x) }
+        ensures { IfSome (slice_get self.now.lists.clients i)
+            (λ x. result ≡ own_request self.now.lists.life x) }
     {
         let end = self.store.end_of_client(i);
-        let session = SessionNo(i as u16);
-        own_request(self.store.state(i), session, end.server, end.credits)
+        let way = Way {
+            number: SessionNo(i as u16),
+            peer: end.peer,
+            other: end.server,
+            life: end.life,
+        };
+        own_request(self.life(), self.store.state(i), &way, end.credits)
     }
 
     // What session `i` does about it, with this timeout, in microseconds.
