@@ -77,7 +77,7 @@ module _ (q : Event → Bool) (flushed : (o : Owner) (k : ℕ) → q (Flushed o 
       let row = control_row h.lacks h.front.peer h.header s.lists in
       still-append q (control_facts s.lists h.front.peer h.header row) h.said
       (control-still s.lists h.front.peer h.header row)
-      (speaks-still s.lists.me h.front.peer (control_reply h.header row) h.said h.speaks)
+      (speaks-still s.lists.me h.front.peer (control_reply s.lists.life h.header row) h.said h.speaks)
 
   pub hears-still : q Heard ≡ false → Stills q HearsAll
   hears-still heard s x t h =

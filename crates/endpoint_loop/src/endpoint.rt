@@ -7,6 +7,7 @@ ghost use Rattle.node_laws.specs.Kept.{Kept};
 ghost use Rattle.rpc_base.specs.Limits.{Fits as InRange};
 ghost use Rattle.rpc_laws.specs.Groups.{state_of};
 ghost use Rattle.rpc_laws.specs.NodeLists.{new_node};
+ghost use Rattle.rpc_laws.specs.Lives.{first_life};
 ghost use Rattle.rpc_laws.specs.Sessions.{is_client};
 ghost use Rattle.endpoint_node.specs.Packets.{WorksFor};
 ghost use Rattle.endpoint_loop.specs.Stands.{StandsFor};
@@ -96,7 +97,7 @@ impl<V: Service, W: Workers> Endpoint<V, W> {
         requires works { WorksFor W.answer (rules_of V.Service) }
         requires service { V.stands service [] }
         ensures made { IfOk result (λ e. e ≡ record {
-          timed = new_node me limits;
+          timed = new_node me first_life limits;
           handed = [];
           service = service;
           workers = workers;

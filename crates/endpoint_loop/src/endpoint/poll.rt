@@ -1,6 +1,6 @@
 //! A poll, step by step.
 ghost use Rattle.endpoint_node.specs.Handed.{GivesBackTo};
-ghost use Rattle.std.specs.Prelude.{◌≡◌, ◌≤◌, ◌*◌, true, IfOk};
+ghost use Rattle.std.specs.Prelude.{◌≡◌, ◌≤◌, ◌*◌, ◌↔◌, IsTrue, false, true, IfOk};
 ghost use Rattle.endpoint_loop.specs.Polls.{MakesPoll, turn_of, turn_told, wire_of};
 ghost use Rattle.endpoint_loop.specs.Stands.{GoesOn};
 ghost use Rattle.rpc_laws.specs.Deliveries.{inbox_room};
@@ -37,6 +37,15 @@ pub struct Turn {
     pub sent: u32,
     /// Whether packets that may be sent are left, since the link was busy.
     pub busy: bool,
+}
+
+impl Turn {
+    /// Whether it handled and sent no packet, and left none to be sent.
+    pub fn is_idle(&self) -> bool
+        ensures { IsTrue result ↔ (self.now ≡ record { handled = 0; sent = 0; busy = false }) }
+    {
+        self.handled == 0 && self.sent == 0 && !self.busy
+    }
 }
 
 // What a poll tells, which handled so many packets of calls, by what its steps handed to the link:

@@ -1,7 +1,8 @@
 //! What an endpoint tells of itself.
-ghost use Rattle.std.specs.Prelude.{◌≡◌, false, ◌≤◌, ◌↔◌, None, IfErr, IsSome, IsTrue, OnOk};
+ghost use Rattle.std.specs.Prelude.{◌≡◌, ◌≤◌, ◌↔◌, None, IfErr, IsSome, IsTrue, OnOk};
 ghost use Rattle.std.specs.List.{find};
-ghost use Rattle.endpoint_node.specs.Status.{HasNoTimers, IsQuiet, free_told, pending_told};
+ghost use Rattle.endpoint_node.specs.Due.{IsFirstDue};
+ghost use Rattle.endpoint_node.specs.Status.{IsQuiet, free_told, pending_told};
 ghost use Rattle.rpc_laws.specs.Groups.{pair_refusal};
 ghost use Rattle.rpc_laws.specs.Sessions.{is_client};
 ghost use Rattle.session_mgmt.specs.Refusals.{refused};
@@ -52,12 +53,20 @@ impl<V: Service, W: Workers> Endpoint<V, W> {
         self.node.counts()
     }
 
-    /// Whether a timer may run: where a client session has calls or a request of its own, or a
-    /// packet is queued. Where none does a poll without datagrams does nothing, at whatever moment.
-    pub fn has_timers(&self) -> bool
-        ensures { result ≡ false → HasNoTimers self.now.timed.lists }
+    /// Its clock, in microseconds: the latest moment of a poll.
+    pub fn clock(&self) -> u64
+        ensures { result ≡ self.now.timed.clock }
     {
-        self.node.has_timers()
+        self.node.clock()
+    }
+
+    /// The first moment from its clock on, and up to `until`, both in microseconds, at which
+    /// something is due: a session's own request is to be sent or given up, a call times out, or a
+    /// queued packet may be sent. None comes exactly where nothing is due up to then.
+    pub fn first_due(&self, until: u64) -> Option<u64>
+        ensures { IsFirstDue self.now.timed.clock until self.now.timed.lists result }
+    {
+        self.node.first_due(until)
     }
 
     /// Whether its rings and its inbox are empty, no packet is queued, and no job is out.
