@@ -12,7 +12,7 @@ use Rattle.rpc_tools.specs.declared.reading.Input.TheVariants.{Whole, TooLong, F
 use Rattle.run_status.specs.declared.status.Status.{Status}
 use Rattle.run_status.specs.declared.status.Status.TheVariants.{Done, BadScript, ReadFault}
 use Rattle.run_status.specs.declared.status.Status.TheVariants.{WriteFault, NoMemory}
-use Rattle.rpc_world.specs.Lawful.{Lawful}
+use Rattle.lawful_history.specs.Lawful.{Lawful}
 use Rattle.script_grammar.specs.declared.bad.BadScript.{BadScript as Bad}
 use Rattle.script_grammar.specs.declared.line.Line.{Line}
 use Rattle.script_grammar.specs.Script.{script_of}

@@ -2,7 +2,6 @@ pub mod CallLemmas
 pub mod CrewLemmas
 pub mod EndLemmas
 pub mod FollowLemmas
-pub mod LawfulLemmas
 pub mod LineLemmas
 pub mod NetLemmas
 pub mod PairLemmas

@@ -17,6 +17,7 @@ use Rattle.rpc_laws.specs.Deliveries.{Delivers}
 use Rattle.rpc_laws.specs.Facts.{of_net, plain}
 use Rattle.rpc_laws.specs.InFlight.{flight_after_net}
 use Rattle.rpc_laws.specs.NodeLists.{new_node}
+use Rattle.rpc_laws.specs.Lives.{first_life}
 use Rattle.rpc_laws.specs.UsualLimits.{with_ring}
 use Rattle.rpc_laws.specs.Working.{worked_of}
 use Rattle.sim_script.specs.FollowsScript.{Arrives, AtNode, Carries, Makes, OfNet, Ticks, is_wanting}
@@ -95,7 +96,7 @@ none-of n (w ∷ worked) all =
 -- a node is made
 module _ (ring : ℕ) (z : Play) (e : End)
     (made : e ≡ record {
-      timed = new_node (length z.ends) (with_ring ring);
+      timed = new_node (length z.ends) first_life (with_ring ring);
       handed = [];
       service = 0;
       workers = record { limit = 64; given = 0; waiting = []; worked = [] };
@@ -136,7 +137,7 @@ module _ (ring : ℕ) (z : Play) (e : End)
           left = ap (λ (ns : List Timed). record (stage_of z) { nodes = ns })
               (map-append told_end z.ends (e ∷ [])
               ∙ ap (λ (t : Timed). map told_end z.ends ++ t ∷ [])
-              (ap told_end made ∙ ap (λ n. new_node n (with_ring ring)) (sym (ends-long z))));
+              (ap told_end made ∙ ap (λ n. new_node n first_life (with_ring ring)) (sym (ends-long z))));
         };
         plain = subst (λ (b : List ℕ). Plainly (plain (length z.ends) (Made ring) ∷ []) (totals_of z) b)
             (sym (map-append (λ (y : End). y.service) z.ends (e ∷ [])

@@ -14,8 +14,8 @@ use Rattle.ring_laws.specs.PairsOnce.{PairsOnce}
 use Rattle.ring_laws.proofs.PairLaw.{course-pairs, first-tidy}
 use Rattle.ring_laws.proofs.RingLaw.{course-fits, first-met}
 use Rattle.rpc_laws.specs.Service.{plain_serving}
-use Rattle.rpc_world.proofs.LawfulLemmas.{lawful-by}
-use Rattle.rpc_world.specs.Lawful.{Lawful}
+use Rattle.lawful_history.proofs.LawfulLemmas.{lawful-by}
+use Rattle.lawful_history.specs.Lawful.{Lawful}
 use Rattle.script_grammar.specs.Conditions.{IsScript}
 use Rattle.script_grammar.specs.declared.line.Line.{Line}
 use Rattle.sim_script.specs.FollowsScript.{Follows}

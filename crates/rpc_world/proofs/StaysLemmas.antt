@@ -19,6 +19,7 @@ use Rattle.rpc_laws.specs.Front.{is_control, is_message}
 use Rattle.rpc_laws.specs.Groups.{Asks, Connects, Disconnects, SetsRate, pair_refusal}
 use Rattle.rpc_laws.specs.InFlight.{flight_after_all}
 use Rattle.rpc_laws.specs.NodeLists.{new_node}
+use Rattle.rpc_laws.specs.Lives.{first_life}
 use Rattle.rpc_laws.specs.PollOrder.{PollBy, SendsAll}
 use Rattle.rpc_laws.specs.Steps.{Rel}
 use Rattle.rpc_laws.specs.UsualLimits.{with_ring}
@@ -162,7 +163,7 @@ leaves-of c s t none still p =
 leaves-made : (ring : ℕ) (s : Stage) (x : List Fact) (t : Stage) → Makes ring s x t → Leaves (Node ring) s t
 leaves-made ring s x t h = record {
   long = ap (λ (v : Stage). length v.nodes) h.left
-      ∙ length-append s.nodes (new_node (length s.nodes) (with_ring ring) ∷ []);
+      ∙ length-append s.nodes (new_node (length s.nodes) first_life (with_ring ring) ∷ []);
   clock = omega (arith, ap (λ (v : Stage). v.clock) h.left);
 }
 

@@ -1,6 +1,5 @@
 pub mod Answered
 pub mod Before
-pub mod Lawful
 pub mod Logged
 pub mod Performed
 pub mod Standing

@@ -2,7 +2,7 @@
 ghost use Rattle.std.specs.Prelude.{◌≡◌, ◌≢◌, List, [], IfOk};
 ghost use Rattle.rpc_base.specs.declared.fact.Fact.{Fact};
 ghost use Rattle.ring_laws.specs.PairsOnce.{PairsOnce};
-ghost use Rattle.rpc_world.specs.Lawful.{Lawful};
+ghost use Rattle.lawful_history.specs.Lawful.{Lawful};
 ghost use Rattle.rpc_world.specs.Standing.{AllStand, StandsAt};
 ghost use Rattle.script_grammar.specs.Conditions.{IsScript};
 ghost use Rattle.sim_script.specs.FollowsScript.{Follows};

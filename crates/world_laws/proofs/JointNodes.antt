@@ -11,6 +11,7 @@ use Rattle.rpc_outside.specs.declared.service.Mode.{Mode}
 use Rattle.rpc_laws.specs.declared.tables.Lists.{Lists}
 use Rattle.rpc_laws.specs.declared.tables.Timed.{Timed}
 use Rattle.rpc_laws.specs.Facts.{plain, of_net}
+use Rattle.rpc_laws.specs.Lives.{first_life}
 use Rattle.rpc_laws.specs.NodeLists.{after_all, new_node}
 use Rattle.rpc_laws.specs.Service.{Answers}
 use Rattle.rpc_laws.specs.Steps.{Chain, none as no_group, more as more_groups}
@@ -72,7 +73,7 @@ record IsChain (p : Party) (n : ℕ) (facts : List Fact) (t : Timed) : Type 0 wh
   ring : ℕ
   later : List Fact
   made : facts ≡ plain n (Made ring) ∷ later
-  steps : Chain (Group p.serving.mode) (new_node n (limits_of p ring)) later t
+  steps : Chain (Group p.serving.mode) (new_node n first_life (limits_of p ring)) later t
   me : t.lists.me ≡ n
 
 record Runs (parties : ℕ → Party) (h : List Fact) (nodes : List Timed) : Type 0 where
@@ -124,7 +125,7 @@ made-runs : (parties : ℕ → Party) (h : List Fact) (s : Joint) (x : List Fact
 made-runs parties h s x t r m =
     let n = length s.nodes in
     let one : List Fact = plain n (Made m.ring) ∷ [] in
-    let new : Timed = new_node n (limits_of (parties n) m.ring) in
+    let new : Timed = new_node n first_life (limits_of (parties n) m.ring) in
     let past : slice_get s.nodes n ≡ None = slice_get_past s.nodes n (omega arith) in
     let facts : facts_of n (h ++ one) ≡ one =
     facts-grow n h one (refl, tt) ∙ ap (λ (y : List Fact). y ++ one) (r.others n past) in

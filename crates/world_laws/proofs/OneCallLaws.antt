@@ -153,23 +153,23 @@ both-same : (a b : ℕ) → (a == a && b == b) ≡ true
 both-same a b = both-true (a == a) (b == b) (eq-eqb a a refl) (eq-eqb b b refl)
 
 module _ (h : List Fact) (u : EachNode UsedOnce h) (o : Once h) where
-  own-in : (n : ℕ) (f : Fact) → f.who ≡ Node n → Contains h f → Contains (facts_of n h) f
+  pub own-in : (n : ℕ) (f : Fact) → f.who ≡ Node n → Contains h f → Contains (facts_of n h) f
   own-in n f who is = kept-in (λ (g : Fact). is_at n g.who) h f is (ap (is_at n) who ∙ eqb-same n)
 
-  one-fact : (n : ℕ) (test : Event → Bool) → count_by (λ f. test f.event) (facts_of n h) ≤ 1
+  pub one-fact : (n : ℕ) (test : Event → Bool) → count_by (λ f. test f.event) (facts_of n h) ≤ 1
       → (f g : Fact) → f.who ≡ Node n → g.who ≡ Node n → Contains h f → Contains h g
       → test f.event ≡ true → test g.event ≡ true → f ≡ g
   one-fact n test few f g wf wg hf hg tf tg =
       one-of (λ (e : Fact). test e.event) (facts_of n h) few f g (own-in n f wf hf) (own-in n g wg hg) tf tg
 
   -- a server session is made once
-  one-server : (m t : ℕ) (e d : Event) → Contains h (plain m e) → Contains h (plain m d)
+  pub one-server : (m t : ℕ) (e d : Event) → Contains h (plain m e) → Contains h (plain m d)
       → makes_server t e ≡ true → makes_server t d ≡ true → e ≡ d
   one-server m t e d he hd te td =
       ap (λ (f : Fact). f.event)
       (one-fact m (makes_server t) ((u m).served t) (plain m e) (plain m d) refl refl he hd te td)
 
-  server-end : (n s k d m t : ℕ) → IsServerEnd h n s m t → IsServerEnd h k d m t → (n ≡ k) × (s ≡ d)
+  pub server-end : (n s k d m t : ℕ) → IsServerEnd h n s m t → IsServerEnd h k d m t → (n ≡ k) × (s ≡ d)
   server-end n s k d m t (IsServerEnd.paired c x) (IsServerEnd.paired e y) =
       let same = one-server m t (PairedServer t n s c) (PairedServer t k d e) x y (eq-eqb t t refl) (eq-eqb t t refl) in
       (cc, cc)
@@ -182,19 +182,19 @@ module _ (h : List Fact) (u : EachNode UsedOnce h) (o : Once h) where
       (cc, cc)
 
   -- a client session is made once, and gets its other end once
-  one-made : (n s : ℕ) (e d : Event) → Contains h (plain n e) → Contains h (plain n d)
+  pub one-made : (n s : ℕ) (e d : Event) → Contains h (plain n e) → Contains h (plain n d)
       → makes_client s e ≡ true → makes_client s d ≡ true → e ≡ d
   one-made n s e d he hd te td =
       ap (λ (f : Fact). f.event)
       (one-fact n (makes_client s) ((u n).made s) (plain n e) (plain n d) refl refl he hd te td)
 
-  one-joined : (n s : ℕ) (e d : Event) → Contains h (plain n e) → Contains h (plain n d)
+  pub one-joined : (n s : ℕ) (e d : Event) → Contains h (plain n e) → Contains h (plain n d)
       → joins_client s e ≡ true → joins_client s d ≡ true → e ≡ d
   one-joined n s e d he hd te td =
       ap (λ (f : Fact). f.event)
       (one-fact n (joins_client s) ((u n).joined s) (plain n e) (plain n d) refl refl he hd te td)
 
-  client-end : (n s m t l q : ℕ) → IsClientEnd h n s m t → IsClientEnd h n s l q → (m ≡ l) × (t ≡ q)
+  pub client-end : (n s m t l q : ℕ) → IsClientEnd h n s m t → IsClientEnd h n s l q → (m ≡ l) × (t ≡ q)
   client-end n s m t l q (IsClientEnd.paired c x) (IsClientEnd.paired e y) =
       let same = one-joined n s (PairedClient s m t c) (PairedClient s l q e) x y (eq-eqb s s refl) (eq-eqb s s refl) in
       (cc, cc)
@@ -216,7 +216,7 @@ module _ (h : List Fact) (u : EachNode UsedOnce h) (o : Once h) where
       one-fact n (asks_call c) ((u n).asked c) (with_bytes n (Asked c s y room) ask)
       (with_bytes n (Asked c e z space) other) refl refl x w (eq-eqb c c refl) (eq-eqb c c refl)
 
-  one-session : (n c s e y z room space : ℕ) (ask other : List ℕ)
+  pub one-session : (n c s e y z room space : ℕ) (ask other : List ℕ)
       → Contains h (with_bytes n (Asked c s y room) ask)
       → Contains h (with_bytes n (Asked c e z space) other) → s ≡ e
   one-session n c s e y z room space ask other x w =
@@ -224,7 +224,7 @@ module _ (h : List Fact) (u : EachNode UsedOnce h) (o : Once h) where
       ap (λ (f : Fact). f.event) (one-asked n c s e y z room space ask other x w) in
       cc
 
-  one-request : (n c r q : ℕ) → Contains h (plain n (Begun c r)) → Contains h (plain n (Begun c q)) → r ≡ q
+  pub one-request : (n c r q : ℕ) → Contains h (plain n (Begun c r)) → Contains h (plain n (Begun c q)) → r ≡ q
   one-request n c r q x y =
       let test : (is_at n (Node n) && begins_call c (Begun c r)) ≡ true = both-same n c in
       let same = one-of (λ (f : Fact). is_at n f.who && begins_call c f.event) h (o.begun n c)
@@ -232,7 +232,7 @@ module _ (h : List Fact) (u : EachNode UsedOnce h) (o : Once h) where
       let event : Begun c r ≡ Begun c q = ap (λ (f : Fact). f.event) same in
       cc
 
-  began : (n c s r y room : ℕ) (ask : List ℕ) → Contains h (with_bytes n (Asked c s y room) ask)
+  pub began : (n c s r y room : ℕ) (ask : List ℕ) → Contains h (with_bytes n (Asked c s y room) ask)
       → Contains h (plain n (Begun c r)) → BeganAs (facts_of n h) c s r
   began n c s r y room ask x w = record {
     asked = any-in (λ (f : Fact). asks_on c s f.event) (facts_of n h) (with_bytes n (Asked c s y room) ask)
@@ -241,7 +241,7 @@ module _ (h : List Fact) (u : EachNode UsedOnce h) (o : Once h) where
         (own-in n (plain n (Begun c r)) refl w) (both-same c r);
   }
 
-  calls-same : (n k c d s e r : ℕ) → BeganAs (facts_of n h) c s r → BeganAs (facts_of k h) d e r
+  pub calls-same : (n k c d s e r : ℕ) → BeganAs (facts_of n h) c s r → BeganAs (facts_of k h) d e r
       → n ≡ k → s ≡ e → c ≡ d
   calls-same n k c d s e r b g node session =
       let other : BeganAs (facts_of n h) d s r = rw (node, session) g in (u n).begun c d s r b other
@@ -288,7 +288,7 @@ module _ (past h : List Fact) (more : (f : Fact) → Contains past f → Contain
   server-more n s m t (IsServerEnd.paired c x) = IsServerEnd.paired c (more _ x)
   server-more n s m t (IsServerEnd.accepted c x) = IsServerEnd.accepted c (more _ x)
 
-  call-more : (n c m t r y room : ℕ) (ask : List ℕ) → IsCallOf past n c m t r y room ask
+  pub call-more : (n c m t r y room : ℕ) (ask : List ℕ) → IsCallOf past n c m t r y room ask
       → IsCallOf h n c m t r y room ask
   call-more n c m t r y room ask a = record {
     session = a.session;

@@ -18,6 +18,7 @@ use Rattle.rpc_base.specs.declared.fact.Fact.{Fact}
 use Rattle.rpc_laws.specs.declared.tables.Timed.{Timed}
 use Rattle.rpc_laws.specs.declared.tables.WorkedJob.{WorkedJob}
 use Rattle.rpc_laws.specs.Facts.{plain, of_net}
+use Rattle.rpc_laws.specs.Lives.{first_life}
 use Rattle.rpc_laws.specs.NodeLists.{new_node}
 use Rattle.rpc_laws.specs.Steps.{Rel, Chain, none, more}
 use Rattle.rpc_laws.specs.UsualLimits.{with_ring}
@@ -40,7 +41,7 @@ pub record IsGroups (n : ℕ) (facts : List Fact) (t : Timed) : Type 0 where
   pub ring : ℕ
   pub later : List Fact
   pub made : facts ≡ plain n (Made ring) ∷ later
-  pub steps : Groups (new_node n (with_ring ring)) later t
+  pub steps : Groups (new_node n first_life (with_ring ring)) later t
 
 -- a node is at the end of a run, and its lists have its number. No job of it was worked twice, nor may be
 pub record NodeRuns (h : List Fact) (worked : List WorkedJob) (n : ℕ) (t : Timed) : Type 0 where
@@ -214,7 +215,7 @@ pub made-runs : (ring : ℕ) → Running (Makes ring)
 made-runs ring s h x t r m =
     let n = length s.nodes in
     let one : List Fact = plain n (Made ring) ∷ [] in
-    let new : Timed = new_node n (with_ring ring) in
+    let new : Timed = new_node n first_life (with_ring ring) in
     let past : slice_get s.nodes n ≡ None = slice_get_past s.nodes n (omega arith) in
     let facts : facts_of n (h ++ one) ≡ one =
     facts-grow n h one (refl, tt) ∙ ap (λ (y : List Fact). y ++ one) (r.others n past) in

@@ -37,8 +37,8 @@ pub record Lawful (h : List Fact) : Type 0 where
   pub ring : EachNode KeepsRing h
   -- where a call ends none of its packets is queued, and none is posted later
   pub ends_clean : EachNode (EndsClean []) h
-  -- where a packet of a request is taken no reply to an older one of its slot is queued, and none is
-  -- posted later
+  -- where a packet of a request is taken no reply to an older one of its slot is queued, and none
+  -- is posted later
   pub begins_clean : EachNode (BeginsClean []) h
   -- where a server session ends no reply of it is queued, and none is posted later
   pub sessions_clean : EachNode (SessionsEndClean []) h

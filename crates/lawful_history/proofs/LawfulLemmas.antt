@@ -6,7 +6,7 @@ use Rattle.report_text.specs.Told.{AllTold}
 use Rattle.ring_laws.specs.CalmRing.{MessagesFit}
 use Rattle.rpc_laws.specs.OwnAnswer.{Own}
 use Rattle.rpc_laws.specs.Service.{plain_serving}
-use Rattle.rpc_world.specs.Lawful.{Lawful}
+use Rattle.lawful_history.specs.Lawful.{Lawful}
 use Rattle.world_laws.proofs.NodeLaws.{credit-each, ended-each, older-each, once-each, ring-each}
 use Rattle.world_laws.proofs.NodeLaws.{sends-each, sessions-each}
 use Rattle.world_laws.proofs.OneCallLaws.{numbers-each, one-call-each}

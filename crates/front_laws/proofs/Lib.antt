@@ -1,0 +1,12 @@
+pub mod CutLemmas
+pub mod FirstFacts
+pub mod GroupLemmas
+pub mod OneWayLemmas
+pub mod PhaseLemmas
+pub mod PollFacts
+pub mod PollOne
+pub mod RingOneLemmas
+pub mod RowOneLemmas
+pub mod RunFronts
+pub mod StopLemmas
+pub mod ToldLemmas

@@ -1,0 +1,5 @@
+pub mod Checked
+pub mod Lawful
+pub mod Laws
+pub mod OwnTold
+pub mod Told
