@@ -1,10 +1,11 @@
-mod EventLemmas
+pub mod EventLemmas
 mod FactLemmas
 mod HexLemmas
 mod LineLemmas
 mod NumberLemmas
 mod OctetLemmas
+pub mod OneLine
 mod ReadLemmas
-mod ReportLemmas
+pub mod ReportLemmas
 mod TellingLemmas
 mod WordLemmas

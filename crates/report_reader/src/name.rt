@@ -5,7 +5,7 @@ ghost use Rattle.report_reader.specs.Telling.{name_of, names_1, names_2, names_3
 use crate::words::is_word;
 
 /// What the line of an event begins with.
-#[derive(Clone, Copy, Debug, PartialEq, Eq)]
+#[derive(Clone, Copy)]
 pub enum Name {
     Made,
     Opened,

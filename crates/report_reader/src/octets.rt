@@ -10,7 +10,7 @@ use rpc_base::{NoMemory, Octets};
 use std::alloc::Global;
 
 /// Which words of a line have its bytes, by their places. Word 0 is where it happened.
-#[derive(Clone, Copy, Debug)]
+#[derive(Clone, Copy)]
 pub enum Shown {
     NoWord,
     OneWord(usize),

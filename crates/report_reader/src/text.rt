@@ -8,7 +8,7 @@ use rpc_outside::{Failed, Sink};
 use std::alloc::Global;
 
 /// What was written so far. A write fails where there is no memory for it.
-#[derive(Debug, Drop)]
+#[derive(Drop)]
 pub struct Text {
     bytes: Vec<u8>,
     faults: u64,
