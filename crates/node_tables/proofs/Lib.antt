@@ -1,0 +1,3 @@
+mod JobLemmas
+mod PaceLemmas
+mod PutLemmas

@@ -1,0 +1,149 @@
+//! The client sessions after an event of their node.
+ghost use Rattle.std.specs.Prelude.{◌≡◌, [], None, OnOk};
+ghost use Rattle.rpc_base.specs.Tables.{at_first};
+ghost use Rattle.rpc_laws.specs.Front.{front_body, front_header};
+ghost use Rattle.rpc_laws.specs.Sessions.{asks, clients_after, is_client};
+
+use crate::clients as sessions;
+use crate::reading::{front_body, read_control, read_front};
+use rpc_base::{CallNo, Event, Listed, NoMemory, Octets, Owner, Peer, SessionNo, SessionState};
+use rpc_laws::{Arrival, Asking, Client};
+use std::alloc::Global;
+
+// The client sessions after a packet of this owner and number was sent at this clock.
+fn change_at_sent(
+    clients: &mut Listed<Client>,
+    peer: Peer,
+    owner: Owner,
+    number: u16,
+    clock: u64,
+    bytes: &[u8],
+) -> Result<(), NoMemory>
+    ensures { OnOk result (clients.new
+        ≡ clients_after clock (Event.Sent peer owner number) bytes.now None [] clients.old) }
+{
+    match owner {
+        Owner::Control => match read_control(bytes) {
+            None => {}
+            Some(head) => sessions::tell(clients, clock, &head)?,
+        },
+        Owner::Ask { session, request } => sessions::send(clients, clock, session, request, number),
+        Owner::Reply { .. } => {}
+    }
+    Ok(())
+}
+
+// The client sessions after a packet of this owner and number was taken at this clock.
+fn change_at_took(
+    clients: &mut Listed<Client>,
+    owner: Owner,
+    number: u16,
+    clock: u64,
+    ring: &Listed<Arrival>,
+) -> Result<(), NoMemory>
+    ensures { OnOk result (clients.new
+        ≡ clients_after clock (Event.Took owner number) [] (front_header ring.now)
+        (front_body ring.now) clients.old) }
+{
+    match owner {
+        Owner::Ask { session, request } => {
+            sessions::take(
+                clients,
+                clock,
+                session,
+                request,
+                &read_front(ring),
+                front_body(ring),
+            )?;
+        }
+        Owner::Reply { .. } | Owner::Control => {}
+    }
+    Ok(())
+}
+
+// A call was accepted on a session, with these bytes.
+fn change_at_asked(
+    alloc: Global,
+    clients: &mut Listed<Client>,
+    session: SessionNo,
+    number: CallNo,
+    req_type: u8,
+    room: u32,
+    bytes: &[u8],
+) -> Result<(), NoMemory>
+    ensures { OnOk result (clients.new ≡ at_first (is_client session)
+        (asks (record { number = number; req_type = req_type; room = room; ask = bytes.now }))
+        clients.old) }
+{
+    let ask = Octets::copy(alloc, bytes)?;
+    let what = Asking {
+        number,
+        req_type,
+        room,
+        ask,
+    };
+    sessions::ask(clients, session, what)?;
+    Ok(())
+}
+
+/// The client sessions after an event at this clock of their node, whose ring is the one before it.
+pub fn change_clients(
+    alloc: Global,
+    clients: &mut Listed<Client>,
+    ring: &Listed<Arrival>,
+    event: &Event,
+    bytes: &[u8],
+    clock: u64,
+) -> Result<(), NoMemory>
+    ensures { OnOk result (clients.new
+        ≡ clients_after clock event.now bytes.now (front_header ring.now) (front_body ring.now)
+        clients.old) }
+{
+    match event {
+        Event::PairedClient {
+            session,
+            peer,
+            server,
+            credits,
+        } => sessions::pair(alloc, clients, *session, *peer, *server, *credits)?,
+        Event::Opened {
+            session,
+            peer,
+            credits,
+        } => sessions::open(alloc, clients, *session, *peer, *credits)?,
+        Event::Connected { session, server } => sessions::connect(clients, *session, *server),
+        Event::FailedNoRoom { session } => sessions::come(clients, *session, SessionState::Failed),
+        Event::FailedNoAnswer { session } => sessions::come(
+            clients,
+            *session,
+            SessionState::Failed,
+        ),
+        Event::Closing { session } => sessions::come(clients, *session, SessionState::Closing),
+        Event::ClosedHeard { session } => sessions::come(clients, *session, SessionState::Closed),
+        Event::ClosedUnheard { session } => sessions::come(clients, *session, SessionState::Closed),
+        Event::Sent {
+            peer,
+            owner,
+            number,
+        } => change_at_sent(clients, *peer, *owner, *number, clock, bytes)?,
+        Event::Asked {
+            call,
+            session,
+            req_type,
+            room,
+        } => change_at_asked(alloc, clients, *session, *call, *req_type, *room, bytes)?,
+        Event::Begun { call, request } => sessions::begin(alloc, clients, *call, *request)?,
+        Event::Posted { owner, number } => match owner {
+            Owner::Ask { session, request } => sessions::post(clients, *session, *request, *number),
+            Owner::Reply { .. } | Owner::Control => {}
+        },
+        Event::Took { owner, number } => change_at_took(clients, *owner, *number, clock, ring)?,
+        Event::Rolled { call, posted, got } => sessions::roll(clients, *call, *posted, *got)?,
+        Event::Broken { session } => sessions::lose(clients, *session),
+        Event::DoneOk { call } => sessions::end(clients, *call),
+        Event::DoneTooSmall { call, .. } => sessions::end(clients, *call),
+        Event::DonePeerLost { call } => sessions::end(clients, *call),
+        _ => {}
+    }
+    Ok(())
+}
