@@ -2,6 +2,7 @@
 //! sent. It drops, delays and repeats only what it is told to, and knows nothing of packets.
 #![tactic(auto)]
 
+mod datagram;
 mod net;
 mod node_link;
 mod stage;

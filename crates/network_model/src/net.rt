@@ -6,6 +6,7 @@ ghost use Rattle.rpc_laws.specs.declared.tables.InFlight.{InFlight};
 ghost use Rattle.rpc_base.specs.declared.event.Event.{Event};
 ghost use Rattle.rpc_laws.specs.InFlight.{flight_after_net};
 
+use crate::datagram::joined;
 use rpc_base::{NoMemory, NodeId, Octets};
 use rpc_laws::InFlight;
 use std::alloc::Global;
@@ -55,8 +56,7 @@ impl Net {
             ∷ []) }
         ensures unchanged { OnErr result (self.new ≡ self.old) }
     {
-        let mut bytes = Octets::copy(*self.copies.allocator(), head)?;
-        bytes.append(body)?;
+        let bytes = joined(*self.copies.allocator(), head, body)?;
         self.put(InFlight { from, to, bytes })?;
         Ok(())
     }

@@ -5,6 +5,7 @@ ghost use Rattle.rpc_outside.specs.Faults.{HasCause};
 ghost use Rattle.rpc_outside.specs.declared.link.Got.TheVariants.{Nothing};
 ghost use Rattle.rpc_outside.specs.declared.link.Taken.TheVariants.{Whole};
 
+use crate::datagram::joined;
 use crate::net::Net;
 use rpc_base::{NoMemory, NodeId, Octets, Peer};
 use rpc_laws::InFlight;
@@ -140,8 +141,7 @@ fn keep(sent: &mut Vec<(Peer, Octets)>, to: Peer, head: &[u8], body: &[u8]) -> R
         (sent.new.items ≡ sent.old.items ++ (to, head.now ++ body.now) ∷ []) }
     ensures unchanged { OnErr result (sent.new.items ≡ sent.old.items) }
 {
-    let mut bytes = Octets::copy(*sent.allocator(), head)?;
-    bytes.append(body)?;
+    let bytes = joined(*sent.allocator(), head, body)?;
     sent.push((to, bytes))?;
     Ok(())
 }

@@ -45,6 +45,8 @@ pub struct UdpLink<'a, N: Net> {
     /// Whose datagram came last, and the address that it came from.
     from: Peer,
     sender: Address,
+    /// Whether the system just said that no datagram is there, so that it needn't be asked again.
+    is_vain: bool,
     /// What failed in a call that tells of no fault shows at the next one that does.
     hidden: Option<Trouble>,
     /// What failed last.
@@ -90,6 +92,7 @@ impl<'a, N: Net> UdpLink<'a, N> {
             to: Peer(0),
             from: Peer(0),
             sender: Address::none(),
+            is_vain: false,
             hidden: None,
             trouble: None,
         }
@@ -305,6 +308,7 @@ impl<'a, N: Net> Link for UdpLink<'a, N> {
 
     fn send(&mut self, to: Peer, head: &[u8], body: &[u8]) -> Result<Taken, Failed> {
         self.show()?;
+        self.is_vain = false;
         let is_known = self.open.is_some() && self.peers.address(to).is_some();
         if !is_known || head.len() + body.len() > MOST_LINK_BYTES {
             return self.fail(Trouble::NoWay);
@@ -335,6 +339,10 @@ impl<'a, N: Net> Link for UdpLink<'a, N> {
         if let Fate::Fault(kind) = self.hand_over() {
             return self.fail(Trouble::NotSent(kind));
         }
+        if self.is_vain {
+            self.is_vain = false;
+            return Ok(Got::Nothing);
+        }
         let Some(open) = &mut self.open else {
             return self.fail(Trouble::NoWay);
         };
@@ -358,12 +366,13 @@ impl<'a, N: Net> Link for UdpLink<'a, N> {
     }
 
     /// Hands over what is in the frame, and waits for the socket. It ends at once where packets of
-    /// the datagram that came last aren't given out yet.
+    /// the datagram that came last aren't given out yet. Where it waited in vain the next `recv`
+    /// gives out nothing, without asking the system again.
     fn wait(&mut self, micros: u32) {
         self.hand_over_silently();
         if let Some(open) = &self.open {
             if open.came.is_done() {
-                wait(open.socket.as_raw_fd(), micros);
+                self.is_vain = !wait(open.socket.as_raw_fd(), micros);
             }
         }
     }

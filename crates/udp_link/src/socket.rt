@@ -62,20 +62,23 @@ fn nap(micros: u32) {
     let _status = nanosleep(&asked, &mut left);
 }
 
-/// Waits until a datagram may be there, or so many microseconds. The system waits for a datagram by
-/// whole milliseconds: the rest goes by in naps, after each of which it is looked.
-pub fn wait(fd: i32, micros: u32) {
+/// Waits until a datagram may be there, or so many microseconds, and tells whether one may. The
+/// system waits for a datagram by whole milliseconds: the rest goes by in naps, after each of which
+/// it is looked, but for one that is shorter.
+pub fn wait(fd: i32, micros: u32) -> bool {
     if is_ready(fd, micros / MILLISECOND) {
-        return;
+        return true;
     }
     let rest = micros % MILLISECOND;
     'naps: for _ in 0..rest / NAP {
         nap(NAP);
         if is_ready(fd, 0) {
-            return;
+            return true;
         }
     }
-    if rest % NAP > 0 {
-        nap(rest % NAP);
+    if rest % NAP == 0 {
+        return false;
     }
+    nap(rest % NAP);
+    true
 }
