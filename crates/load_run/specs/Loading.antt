@@ -273,7 +273,7 @@ pub record StartsAs {L R : Type 0} (log : R → Log) (net : Link.Ghosts L) (word
   pub opens : noted ≡ plain 0 (Opened s.session peer LOAD_CREDITS) ∷ []
   pub grew : Grew (log before) (log now) noted
   pub stands : Stands (limits_at words.timeout) noted s.endpoint
-  pub rest : s.rest ≡ resting (sleeps words.idle) words.timeout
+  pub rest : s.rest ≡ resting (sleeps words.idle)
   pub sends : sent_of noted ≡ []
   pub ends : filter is_end noted ≡ []
   pub none : asked_in noted ≡ 0

@@ -179,7 +179,7 @@ impl<H: Wait + Drop> LoadRun<H> {
         Ok(LoadRun {
             alloc,
             endpoint,
-            rest: Rest::new(sleeps(spec.idle), spec.timeout),
+            rest: Rest::new(sleeps(spec.idle)),
             session,
             ledger: Ledger {
                 plan,

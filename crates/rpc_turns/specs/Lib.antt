@@ -5,4 +5,5 @@ pub mod Plain
 pub mod Queue
 pub mod Rests
 pub mod Turns
+pub mod Waits
 pub mod Whole

@@ -1,17 +1,20 @@
 -- What a run does where nothing comes: after some turns in a row that did nothing it sleeps.
-use Rattle.std.specs.Prelude.{◌≡◌, ◌↔◌, ℕ, ◌+◌, Bool, true, false, ◌&&◌, nat_le, min, Option, Some}
+use Rattle.std.specs.Prelude.{◌≡◌, ◌↔◌, ℕ, ◌+◌, ◌^◌, ◌<◌, ◌≤◌, Bool, true, false, ◌&&◌, nat_le, min}
+use Rattle.std.specs.Prelude.{Option, Some}
 use Rattle.std.specs.Prelude.{IsTrue, if◌then◌else◌}
 use Rattle.endpoint_loop.specs.declared.endpoint.poll.Turn.{Turn}
+use Rattle.endpoint_node.specs.Due.{RestsAt}
 use Rattle.endpoint_node.specs.Status.{IsQuiet}
 use Rattle.rpc_turns.specs.declared.rest.Rest.{Rest}
 use Rattle.rpc_turns.specs.declared.rest.TheConstants.{EMPTY_TURNS}
 use Rattle.rpc_laws.specs.declared.tables.Lists.{Lists}
+use Rattle.rpc_laws.specs.declared.tables.Timed.{Timed}
 use Rattle.rpc_outside.specs.Linking.{KeepsAddresses, NoneComes}
 use Rattle.rpc_outside.specs.declared.link.Link as Link
 
--- a run with this timeout that made no turn so far, and that may sleep or doesn't
-abbrev pub resting : (sleeps : Bool) → (timeout : ℕ) → Rest
-resting sleeps timeout = record { sleeps = sleeps; timeout = timeout; empty = 0 }
+-- a run that made no turn so far, and that may sleep or doesn't
+abbrev pub resting : (sleeps : Bool) → Rest
+resting sleeps = record { sleeps = sleeps; empty = 0 }
 
 -- it sleeps before a turn where 256 turns in a row did nothing
 abbrev pub is_asleep : Rest → Bool
@@ -21,6 +24,13 @@ is_asleep rest = rest.sleeps && nat_le EMPTY_TURNS rest.empty
 abbrev pub counted : (nothing : Bool) → Rest → Rest
 counted nothing rest =
     record rest { empty = if nothing then min (rest.empty + 1) EMPTY_TURNS else 0 }
+
+-- for so many microseconds from its clock on nothing is due at a node, and then something is, where
+-- they are fewer than were asked for, and the clock goes further
+pub record RestsFor (s : Timed) (most micros : ℕ) : Type 0 where
+  pub within : micros ≤ most
+  pub rests : (t : ℕ) → s.clock ≤ t → t < s.clock + micros → RestsAt t s.lists
+  pub due : micros < most → s.clock + micros + 1 < 2 ^ 64 → RestsAt (s.clock + micros) s.lists → ⊥
 
 -- a link waited: all that it tells is as before
 pub record TellsNothingNew {L : Type 0} (net : Link.Ghosts L) (old new : L) : Type 0 where

@@ -1,10 +1,12 @@
 //! Sessions and calls of a run.
-ghost use Rattle.std.specs.Prelude.{◌≡◌, ◌≤◌, true, length, IfOk, OnErr, OnOk};
+ghost use Rattle.std.specs.Prelude.{◌≡◌, ◌≤◌, [], true, length, IfErr, IfOk, OnErr, OnOk};
 ghost use Rattle.endpoint_node.specs.Notes.{Makes};
 ghost use Rattle.message_buffer.specs.Buffer.{bytes_of, capacity_of};
 ghost use Rattle.rpc_base.specs.declared.state.SessionState.TheVariants.{Connected};
 ghost use Rattle.rpc_laws.specs.Groups.{Asks};
+ghost use Rattle.rpc_turns.specs.Waits.{GivesFirst};
 ghost use Rattle.rpc_turns.specs.Whole.{Goes, state_in};
+ghost use Rattle.rpc_turns.specs.declared.error.RpcError.TheVariants.{TurnsSpent};
 
 use crate::credits::Credits;
 use crate::error::RpcError;
@@ -137,8 +139,14 @@ impl<V: Service, W: Workers, L: Link, C: Clock, R: Recorder> Running<V, W, L, C,
     }
 
     /// Takes out the call that was over first, and makes turns until there is one, at most so many:
-    /// `TurnsSpent` comes where none was over then.
+    /// `TurnsSpent` comes where none was over then. It is the first of those that weren't taken out
+    /// yet and those that were over in these turns.
     pub fn wait_ended(&mut self, turns: u32) -> Result<Done, RpcError>
+        ensures gives { IfOk result (GivesFirst R.log V.Service W.Workers self.old.endpoint
+            self.new.endpoint self.old.edges.rec self.new.edges.rec self.old.ended
+            self.new.ended) }
+        ensures spent { IfErr result
+            (λ why. why ≡ TurnsSpent → self.new.ended.dones.items ≡ []) }
         ensures goes_on { Goes V.Service W.Workers R.log self.old self.new }
     {
         'turns: for _turn in 0..turns {

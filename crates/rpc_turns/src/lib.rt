@@ -20,6 +20,6 @@ pub use ended::Ended;
 pub use error::RpcError;
 pub use local::{NoDuty, NoWorkers, new_endpoint, no_workers};
 pub use plain::{PlainCrew, PlainEndpoint, let_go, plain_endpoint, stop};
-pub use rest::Rest;
+pub use rest::{Rest, rests_for};
 pub use running::{InlineRunning, PlainRunning, Running};
 pub use turn::take_turn;

@@ -3,6 +3,7 @@ ghost use Rattle.std.specs.Prelude.{◌≡◌, ◌≢◌, ◌≤◌, ℕ, [], If
 ghost use Rattle.endpoint_node.specs.Packets.{WorksFor};
 ghost use Rattle.rpc_base.specs.Limits.{Fits};
 ghost use Rattle.rpc_laws.specs.NodeLists.{new_node};
+ghost use Rattle.rpc_laws.specs.Lives.{first_life};
 ghost use Rattle.rpc_laws.specs.Service.{rules_of};
 ghost use Rattle.rpc_turns.specs.Turns.{Stands};
 
@@ -40,7 +41,7 @@ pub fn new_endpoint<V: Service + Drop, W: Workers + Drop>(
         × (W.out workers ≡ []) }
     requires works { WorksFor W.answer (rules_of V.Service) }
     requires service { V.stands service [] }
-    ensures timed { IfOk result (λ e. e.timed ≡ new_node 0 limits) }
+    ensures timed { IfOk result (λ e. e.timed ≡ new_node 0 first_life limits) }
     ensures service { IfOk result (λ e. e.service ≡ service) }
     ensures workers { IfOk result (λ e. e.workers ≡ workers) }
     ensures stands { IfOk result (Stands V.Service W.Workers limits []) }

@@ -1,5 +1,5 @@
 //! A run that owns all that it is made of.
-ghost use Rattle.std.specs.Prelude.{◌≡◌, ◌≢◌, ◌++◌, ℕ, [], option_to_list, IfOk};
+ghost use Rattle.std.specs.Prelude.{◌≡◌, ◌≢◌, ◌++◌, ℕ, [], drop, option_to_list, IfOk};
 ghost use Rattle.endpoint_node.specs.Handed.{GivesBackTo};
 ghost use Rattle.endpoint_loop.specs.Polls.{turn_of};
 ghost use Rattle.rpc_outside.specs.Faults.{HasCause};
@@ -7,6 +7,7 @@ ghost use Rattle.rpc_outside.specs.declared.service.Mode.TheVariants.{Background
 ghost use Rattle.rpc_turns.specs.Moments.{edges_of, outside};
 ghost use Rattle.rpc_turns.specs.Plain.{Stands, limits_at};
 ghost use Rattle.rpc_turns.specs.Queue.{KeepsAll};
+ghost use Rattle.rpc_turns.specs.Rests.{RestsFor};
 ghost use Rattle.rpc_turns.specs.Turns.{TakesTurn, TellsTurn};
 ghost use Rattle.rpc_turns.specs.Whole.{Goes, endpoint_in, rested_in, state_in};
 ghost use Rattle.worker_crew.specs.Crews.{AreStarted};
@@ -15,7 +16,7 @@ use crate::buffers::Buffers;
 use crate::ended::Ended;
 use crate::local::{NoWorkers, new_endpoint, no_workers};
 use crate::plain::{PlainCrew, plain_endpoint};
-use crate::rest::Rest;
+use crate::rest::{Rest, rests_for};
 use crate::turn::take_turn;
 use client_core::Done;
 use endpoint_loop::{Endpoint, LinkFault, Turn};
@@ -146,10 +147,21 @@ impl<V: Service, W: Workers, L: Link, C: Clock, R: Recorder> Running<V, W, L, C,
         )
     }
 
+    /// For how many microseconds from its last turn on, at most so many, nothing is due: no
+    /// session's own request is to be sent or given up, no call times out, and no queued packet may
+    /// be sent.
+    pub fn rests_for(&self, most: u32) -> u32
+        ensures { RestsFor self.now.endpoint.timed most result }
+    {
+        rests_for(&self.endpoint, most)
+    }
+
     /// Takes out the call that was over first, with its answer where it has one, and its buffers.
     pub fn ended(&mut self) -> Option<Done>
         ensures items { self.old.ended.dones.items
             ≡ option_to_list result ++ self.new.ended.dones.items }
+        ensures rest { self.new.ended.dones.items ≡ drop 1 self.old.ended.dones.items }
+        ensures whole { self.new.ended.whole ≡ self.old.ended.whole }
         ensures endpoint { self.new.endpoint ≡ self.old.endpoint }
         ensures rec { self.new.edges.rec ≡ self.old.edges.rec }
         ensures edges { self.new.edges ≡ self.old.edges }
@@ -219,8 +231,7 @@ impl<V: Service + Drop, L: Link + Drop, C: Clock + Drop> InlineRunning<V, L, C> 
         let limits = Limits::usual();
         let workers = no_workers(alloc, limits)?;
         let endpoint = new_endpoint(alloc, limits, service, workers)?;
-        let rest = Rest::new(true, limits.timeout as u32);
-        Ok(Running::over(alloc, endpoint, rest, link, clock, NoRecord))
+        Ok(Running::over(alloc, endpoint, Rest::new(true), link, clock, NoRecord))
     }
 }
 
@@ -236,11 +247,9 @@ impl<H: Wait + Drop, L: Link + Drop, C: Clock + Drop> PlainRunning<H, L, C> {
         ensures stands { IfOk result (λ r. Stands (limits_at USUAL_TIMEOUT) [] r.endpoint) }
         ensures ended { IfOk result (λ r. KeepsAll r.ended []) }
     {
-        let timeout = USUAL_TIMEOUT as u32;
         let mut spawner = SerialSpawner::new();
-        let endpoint = plain_endpoint(rt, alloc, timeout, 0, &mut spawner)?;
-        let rest = Rest::new(true, timeout);
-        Ok(Running::over(alloc, endpoint, rest, link, clock, NoRecord))
+        let endpoint = plain_endpoint(rt, alloc, USUAL_TIMEOUT as u32, 0, &mut spawner)?;
+        Ok(Running::over(alloc, endpoint, Rest::new(true), link, clock, NoRecord))
     }
 }
 

@@ -41,7 +41,7 @@ where
     ensures team { W.team endpoint.new.workers ≡ W.team endpoint.old.workers }
     ensures handed { GivesBackTo K.given endpoint.old.handed endpoint.new.handed k.old k.new }
 {
-    rest.sleep(endpoint.has_timers(), link);
+    rest.sleep(endpoint, link);
     let now = clock.now();
     let turned = endpoint.turn(now, link, k, rec);
     rest.count(turned, endpoint.quiet());

@@ -8,6 +8,7 @@ use Rattle.endpoint_loop.specs.declared.endpoint.poll.Turn.{Turn}
 use Rattle.endpoint_loop.specs.PlainMembers.{plain_members}
 use Rattle.command_line.specs.Words.{ServeWords}
 use Rattle.rpc_laws.specs.NodeLists.{new_node}
+use Rattle.rpc_laws.specs.Lives.{first_life}
 use Rattle.rpc_laws.specs.declared.tables.Counted.{Counted}
 use Rattle.rpc_outside.specs.Faults.{HasRisen}
 use Rattle.rpc_outside.specs.Linking.{NoneComes}
@@ -114,9 +115,9 @@ pub record StartsServing {L : Type 0} (net : Link.Ghosts L) (words : ServeWords)
   pub lists : NoneComes net.waiting net.received link then_link
   pub faults : net.faults then_link ≡ net.faults link
   pub busies : net.busies then_link ≡ net.busies link
-  pub timed : s.endpoint.timed ≡ new_node 0 (limits_at words.timeout)
+  pub timed : s.endpoint.timed ≡ new_node 0 first_life (limits_at words.timeout)
   pub stands : Stands (limits_at words.timeout) [] s.endpoint
-  pub rest : s.rest ≡ resting (sleeps words.idle) words.timeout
+  pub rest : s.rest ≡ resting (sleeps words.idle)
   pub turns : s.turns ≡ words.turns
   pub made : s.made ≡ 0
 

@@ -135,7 +135,7 @@ impl<H: Wait + Drop> ServeRun<H> {
         };
         Ok(ServeRun {
             endpoint,
-            rest: Rest::new(sleeps(spec.idle), spec.timeout),
+            rest: Rest::new(sleeps(spec.idle)),
             turns: spec.turns,
             made: 0,
         })

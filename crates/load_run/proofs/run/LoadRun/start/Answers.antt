@@ -31,9 +31,8 @@ returns-clause-starts g c =
           (sym c.in-Ok-connect.ensures.number);
       stands = subst (λ (w : LoadWords). Stands (limits_at w.timeout) passes.goes.noted
           c.connect.new.self) c.spec.view_is stands;
-      rest = c.new.ensures ∙ ap₂ (λ s t. resting s t) (c.sleeps.ensures
-          ∙ ap (λ (w : LoadWords). sleeps w.idle) c.spec.view_is)
-          (ap (λ (w : LoadWords). w.timeout) c.spec.view_is);
+      rest = c.new.ensures ∙ ap (λ s. resting s) (c.sleeps.ensures
+          ∙ ap (λ (w : LoadWords). sleeps w.idle) c.spec.view_is);
       sends = passes.sends;
       ends = passes.ends;
       none = let asks = passes.asks in omega (arith, asks);
