@@ -26,6 +26,8 @@
 //! `example_counter` are whole programs, and docs/TUTORIAL.md goes through both.
 #![tactic(auto)]
 
+mod udp;
+
 pub use client_core::{Done, Outcome};
 pub use endpoint_loop::{AskError, Continuation, Endpoint, LinkFault, Refused, Turn};
 pub use message_buffer::MsgBuf;
@@ -35,8 +37,10 @@ pub use rpc_outside::{
 };
 pub use rpc_turns::{
     Buffers, Credits, Ended, InlineRunning, NoDuty, NoWorkers, PlainCrew, PlainEndpoint,
-    PlainRunning, Rest, RpcError, Running, new_endpoint, no_workers, plain_endpoint, take_turn,
+    PlainRunning, Rest, RpcError, Running, new_endpoint, no_workers, plain_endpoint, rests_for,
+    take_turn,
 };
 pub use session_mgmt::{CloseError, ConnectError};
+pub use udp::{UdpRunning, udp_running};
 pub use udp_link::{Trouble, UdpLink};
 pub use worker_crew::{Crew, Hand, LocalWorkers, Spawner, Workers};

@@ -1,6 +1,7 @@
 -- A service that answers how many requests it served before.
 use Rattle.std.specs.Prelude.{◌≡◌, ℕ, ◌%◌, ◌^◌, List, length}
 use Rattle.byteorder.specs.Endian.{big_bytes}
+use Rattle.example_counter.specs.declared.counter.Counter.{Counter}
 use Rattle.rpc_outside.specs.declared.service.Mode.{Mode}
 use Rattle.rpc_outside.specs.declared.service.Mode.TheVariants.{Inline, Background}
 use Rattle.rpc_outside.specs.Served.{Served}
@@ -17,9 +18,9 @@ count_of served = length served % 2 ^ 64
 abbrev pub count_answer : Served → ℕ → List ℕ → List ℕ
 count_answer served req_type ask = big_bytes 8 (count_of served)
 
--- a service of this count stands for as many requests
-abbrev pub CountStands : ℕ → Served → Type 0
-CountStands count served = count ≡ count_of served
+-- a counter stands for as many requests as it counted
+abbrev pub CountStands : Counter → Served → Type 0
+CountStands counter served = counter.count ≡ count_of served
 
 pub not-background : (req_type : ℕ) → counting_mode req_type ≡ Background → ⊥
 not-background req_type e = cc

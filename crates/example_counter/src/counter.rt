@@ -1,29 +1,18 @@
 //! A service with a state of its own.
 ghost use Rattle.example_counter.specs.Counting.{CountStands, count_answer, counting_mode};
 ghost use Rattle.example_counter.specs.Counting.{steady-count};
-ghost use Rattle.std.specs.Prelude.{◌≡◌, []};
+ghost use Rattle.std.specs.Prelude.{[]};
 
 use byteorder::{BigEndian, ByteOrder};
 use erpc_lib::{Mode, Service};
-use std::marker::Model;
 
 /// The bytes of an answer.
-const BYTES: u32 = 8;
+pub const BYTES: u32 = 8;
 
-/// Answers each request with the number of those that it served before. Contracts see that number.
+/// Answers each request with the number of those that it served before.
 #[derive(Debug, Drop)]
 pub struct Counter {
     count: u64,
-}
-
-impl Model for Counter {
-    ghost use Rattle.std.specs.Prelude.{ℕ, ◌<◌, ◌^◌};
-
-    ghost Value = { ℕ };
-
-    ghost view = { λ c. c.count };
-
-    ghost invariant = { λ c. c.count < 2 ^ 64 };
 }
 
 impl Counter {

@@ -1,12 +1,10 @@
-//! An echo over UDP: a server with the plain service, and a client that asks it once. Both turn in
-//! this program, one after the other.
+//! An echo over UDP. `serve` answers calls, and `ask` asks once; without a word one node does both,
+//! and asks itself.
 #![tactic(auto)]
 
-use erpc_lib::{
-    Credits, Done, Outcome, PlainRunning, RpcError, Running, SessionState, SysClock, UdpLink,
-};
-use std::str;
+use erpc_lib::{Credits, Done, Outcome, PlainRunning, RpcError, Running, SysClock, UdpLink};
 use std::sync::Wait;
+use std::{env, io, str};
 
 const SERVER: &str = "127.0.0.1:47321";
 
@@ -34,35 +32,35 @@ where
     Ok(node)
 }
 
-// Asks for this text, once the session is connected.
-fn echo<H>(server: &mut Node<H>, client: &mut Node<H>, text: &str) -> Result<Done, RpcError>
-where
-    H: Wait + Drop,
-{
-    let session = client.connect(SERVER, Credits::one())?;
-    let mut asked = false;
-    for _turn in 0..TURNS {
-        server.turn()?;
-        client.turn()?;
-        if !asked && client.state(session) == SessionState::Connected {
-            client.ask(session, ECHO, text.as_bytes(), ROOM)?;
-            asked = true;
-        }
-        if let Some(done) = client.ended() {
-            return Ok(done);
-        }
+fn serve<H: Wait + Drop>(node: &mut Node<H>) -> Result<(), RpcError> {
+    for _turn in 0..u32::MAX {
+        node.turn()?;
     }
-    Err(RpcError::TurnsSpent)
+    Ok(())
+}
+
+fn ask<H: Wait + Drop>(node: &mut Node<H>, text: &str) -> Result<Done, RpcError> {
+    let session = node.connect_within(SERVER, Credits::one(), TURNS)?;
+    node.ask(session, ECHO, text.as_bytes(), ROOM)?;
+    node.wait_ended(TURNS)
+}
+
+fn tell(rt: &HostRuntime, done: &Done) -> io::Result<()> {
+    match done.outcome {
+        Outcome::Ok => println!(rt; "{}", str::from_utf8(done.resp.bytes()).unwrap_or("?")),
+        Outcome::TooSmall { size } => println!(rt; "the answer has {size} bytes"),
+        Outcome::PeerLost => println!(rt; "no answer; the handler may have run"),
+    }
 }
 
 fn main(rt: HostRuntime) -> anyhow::Result<()> {
-    let mut server = node_at(rt, &rt, SERVER)?;
-    let mut client = node_at(rt, &rt, CLIENT)?;
-    let done = echo(&mut server, &mut client, "hello")?;
-    match done.outcome {
-        Outcome::Ok => println!(rt; "{}", str::from_utf8(done.resp.bytes()).unwrap_or("?"))?,
-        Outcome::TooSmall { size } => println!(rt; "the answer has {size} bytes")?,
-        Outcome::PeerLost => println!(rt; "no answer; the handler may have run")?,
+    let word = env::args(&rt)?.nth(1);
+    let is_client = word.as_ref().is_some_and(|word| word.as_str() == "ask");
+    let mut node = node_at(rt, &rt, if is_client { CLIENT } else { SERVER })?;
+    if word.is_some() && !is_client {
+        serve(&mut node)?;
+    } else {
+        tell(&rt, &ask(&mut node, "hello")?)?;
     }
     Ok(())
 }

@@ -1,0 +1,34 @@
+//! Runs over UDP.
+ghost use Rattle.std.specs.Prelude.{◌≡◌, ◌≢◌, ℕ, [], IfOk};
+ghost use Rattle.rpc_outside.specs.declared.service.Mode.TheVariants.{Background};
+ghost use Rattle.rpc_turns.specs.Queue.{KeepsAll};
+
+use rpc_outside::{Service, SysClock};
+use rpc_turns::{InlineRunning, RpcError, Running};
+use std::alloc::Global;
+use std::net::Net;
+use std::time;
+use udp_link::UdpLink;
+
+/// A run over a UDP socket whose service has no background types, and that keeps no facts.
+pub type UdpRunning<'a, V, N> = InlineRunning<V, UdpLink<'a, N>, SysClock<'a, N>>;
+
+/// A run of a new endpoint with usual limits at this numeric address, with a port, whose service
+/// has no background types. It sleeps where nothing comes, and keeps no facts. `NoMemory` comes
+/// only where there is none for the endpoint, and `Link` where the link can't take the address.
+pub fn udp_running<'a, V: Service + Drop, N: Net + time::Clock>(
+    alloc: Global,
+    rt: &'a N,
+    addr: &str,
+    service: V,
+) -> Result<UdpRunning<'a, V, N>, RpcError>
+    requires inline { (req_type : ℕ) → V.mode_of req_type ≢ Background }
+    requires service { V.stands service [] }
+    ensures service { IfOk result (λ r. r.endpoint.service ≡ service) }
+    ensures ended { IfOk result (λ r. KeepsAll r.ended []) }
+{
+    let link = UdpLink::new(alloc, rt);
+    let mut node = Running::inline(alloc, service, link, SysClock::new(rt))?;
+    node.bind(addr)?;
+    Ok(node)
+}
