@@ -2,12 +2,15 @@
 use Rattle.std.specs.Prelude.{ℕ, ◌≤◌}
 use Rattle.call_load.specs.declared.aim.Aim.{Aim}
 use Rattle.call_load.specs.declared.aim.TheConstants.{MOST_CALLERS, MOST_PENDING}
-use Rattle.rpc_base.specs.declared.limits.TheConstants.{MOST_MESSAGE_BYTES, MOST_TIMEOUT}
+use Rattle.rpc_base.specs.declared.limits.TheConstants.{MOST_CREDITS, MOST_MESSAGE_BYTES}
+use Rattle.rpc_base.specs.declared.limits.TheConstants.{MOST_TIMEOUT}
 
 -- each number is in its range
 pub record IsInRange (a : Aim) : Type 0 where
   pub some_sessions : 1 ≤ a.sessions
   pub most_sessions : a.sessions ≤ MOST_CALLERS
+  pub some_credits : 1 ≤ a.credits
+  pub most_credits : a.credits ≤ MOST_CREDITS
   pub some_pending : 1 ≤ a.pending
   pub most_pending : a.pending ≤ MOST_PENDING
   pub size : a.size ≤ MOST_MESSAGE_BYTES

@@ -2,9 +2,10 @@
 ghost use Rattle.std.specs.Prelude.{◌≤◌, ◌↔◌, IsTrue};
 ghost use Rattle.call_load.specs.Aims.{IsInRange};
 
-use rpc_base::{MOST_MESSAGE_BYTES, MOST_TIMEOUT};
+use rpc_base::{MOST_CREDITS, MOST_MESSAGE_BYTES, MOST_TIMEOUT};
 
-/// No more sessions are opened: so many, of 32 credits each, fill a ring of usual size.
+/// No more sessions are opened: so many, of 32 credits each, fill a ring of the usual size, which
+/// bounds the credits of all of them.
 pub const MOST_CALLERS: u16 = 32;
 
 /// No more calls are pending at a time.
@@ -21,6 +22,8 @@ const FILL_BYTES: u32 = 4;
 pub struct Aim {
     /// How many sessions there are, 1 to 32.
     pub sessions: u16,
+    /// How many packets of a session may be unanswered, 1 to 256.
+    pub credits: u16,
     /// How many calls are pending at a time, over all sessions, 1 to 4,096. A session works eight
     /// of its calls at a time.
     pub pending: u32,
@@ -43,6 +46,7 @@ impl Aim {
         ensures { IsTrue result ↔ IsInRange self.now }
     {
         (1..=MOST_CALLERS).contains(&self.sessions)
+            && (1..=MOST_CREDITS).contains(&self.credits)
             && (1..=MOST_PENDING).contains(&self.pending)
             && self.size <= MOST_MESSAGE_BYTES
             && (1..=MOST_TIMEOUT).contains(&self.timeout)

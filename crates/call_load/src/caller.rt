@@ -9,14 +9,13 @@ use crate::tally::{Ending, Tally, Turns};
 use crate::watch::Watch;
 use client_core::Done;
 use endpoint_loop::{Endpoint, LinkFault, Turn};
-use rpc_base::{Limits, NoMemory, NodeId, Peer, SessionNo, SessionState, USUAL_JOBS, USUAL_RING};
+use rpc_base::{
+    Limits, MOST_CREDITS, NoMemory, NodeId, Peer, SessionNo, SessionState, USUAL_JOBS, USUAL_RING,
+};
 use rpc_outside::{Link, PlainDuty, PlainService};
 use std::alloc::Global;
 use time_histogram::Histogram;
 use worker_crew::LocalWorkers;
-
-/// The credits of each session.
-const CREDITS: u16 = 32;
 
 /// The nanoseconds of a microsecond, in which an endpoint counts, and of a second.
 const MICROSECOND: u64 = 1_000;
@@ -121,11 +120,15 @@ impl Caller {
         })
     }
 
-    /// Opens its sessions with the server at this peer. Whether each was opened.
-    pub fn connect(&mut self, peer: Peer) -> bool {
+    /// Opens its sessions with the server at this peer, each with these credits. Whether each was
+    /// opened.
+    pub fn connect(&mut self, peer: Peer, credits: u16) -> bool
+        requires some { 1 ≤ credits }
+        requires most { credits ≤ MOST_CREDITS }
+    {
         let mut is_whole = true;
         'sessions: for _session in 0..self.aim.sessions {
-            let opened = self.endpoint.connect(peer, CREDITS, 0, &mut self.watch);
+            let opened = self.endpoint.connect(peer, credits, 0, &mut self.watch);
             is_whole = is_whole && opened.is_ok();
         }
         is_whole

@@ -28,9 +28,9 @@ use std::rt::Env;
 use udp_link::UdpLink;
 
 /// What the words may be.
-const USAGE: &str = "usage: speed ADDR|memory [--sessions S] [--pending N] [--calls N] [--rate R] \
-    [--secs T] [--warm T] [--type Y] [--size BYTES] [--timeout MICROSECONDS] [--frame BYTES] \
-    [--bind ADDR] [--json]";
+const USAGE: &str = "usage: speed ADDR|memory [--sessions S] [--credits C] [--pending N] \
+    [--calls N] [--rate R] [--secs T] [--warm T] [--type Y] [--size BYTES] \
+    [--timeout MICROSECONDS] [--frame BYTES] [--bind ADDR] [--json]";
 
 // The words after the program's name.
 fn words_of(rt: &(impl Env + AllocGlobal)) -> io::Result<Vec<String>> {

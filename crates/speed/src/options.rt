@@ -25,13 +25,14 @@ pub struct Options<'a> {
     pub json: bool,
 }
 
-// Without words: one session with eight calls, of 64 bytes.
+// Without words: one session of 32 credits with eight calls, of 64 bytes.
 fn usual(addr: &str) -> Options<'_> {
     Options {
         addr,
         bind: "127.0.0.1:0",
         aim: Aim {
             sessions: 1,
+            credits: 32,
             pending: 8,
             calls: 0,
             req_type: 1,
@@ -73,6 +74,7 @@ impl<'a> Options<'a> {
     fn set(&mut self, name: &str, value: &'a str) -> Result<(), Fault> {
         match name {
             "--sessions" => self.aim.sessions = short(value)?,
+            "--credits" => self.aim.credits = short(value)?,
             "--pending" => self.aim.pending = number(value)?,
             "--calls" => self.aim.calls = number(value)?,
             "--type" => self.aim.req_type = octet(value)?,

@@ -107,7 +107,7 @@ impl<'a, L: Link + Drop, S: Other<L> + Drop, T: time::Clock> Run<'a, L, S, T> {
         if options.frame > 0 {
             self.link.pack(peer, options.frame);
         }
-        if !self.caller.connect(peer) {
+        if !self.caller.connect(peer, options.aim()?.credits) {
             return Err(Fault::NoMemory);
         }
         self.look();
