@@ -31,7 +31,7 @@ const BESIDE: u32 = 12;
 const BELOW: u32 = 16;
 
 /// A line between two points, the second not above the first.
-#[derive(Clone, Copy, Debug)]
+#[derive(Clone, Copy)]
 struct Line {
     from: u32,
     top: u32,
@@ -41,7 +41,7 @@ struct Line {
 
 /// Where the words along a line stand, and how much they fall from left to right, in thousandths
 /// with a sign.
-#[derive(Clone, Copy, Debug)]
+#[derive(Clone, Copy)]
 struct Slanted {
     x: u32,
     y: u64,

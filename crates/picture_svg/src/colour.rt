@@ -2,7 +2,7 @@
 use rpc_base::Event;
 
 /// The colours of marks.
-#[derive(Clone, Copy, Debug, PartialEq, Eq)]
+#[derive(Clone, Copy)]
 pub enum Colour {
     /// What an application asks and learns.
     Green,

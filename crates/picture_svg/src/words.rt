@@ -2,7 +2,7 @@
 use rpc_base::{DropReason, Event, SessionState};
 
 /// The words of a mark, with the numbers among them.
-#[derive(Clone, Copy, Debug)]
+#[derive(Clone, Copy)]
 pub enum Words {
     Nothing,
     Plain(&'static str),
