@@ -20,7 +20,7 @@ const SENT: &str = "\
 0 begun 0 as 0
 0 posted c 0 0 0
 0 polled 0
-0 sent 1 c 0 0 0 e1000100000500000000000000000000 68656c6c6f
+0 sent 1 c 0 0 0 e200010000050000000000000000000000000001 68656c6c6f
 0 polled 0
 ";
 
@@ -56,7 +56,9 @@ fn ask_four(bench: &mut Plain) -> Result<(), Differs> {
 // The requests were sent in the order of the calls, each once.
 fn expect_four_sent(bench: &Plain) -> Result<(), Differs> {
     for n in 0..4u8 {
-        let packet = [0xe1, 0, 1, 0, 0, 1, 0, 0, 0, 0, 0, 0, 0, 0, 0, n, n];
+        let packet = [
+            0xe2, 0, 1, 0, 0, 1, 0, 0, 0, 0, 0, 0, 0, 0, 0, n, 0, 0, 0, 1, n,
+        ];
         let wanted = Some((Peer(1), packet.as_slice()));
         expect(bench.link.sent(u32::from(n)) == wanted, Differs::Sent)?;
     }

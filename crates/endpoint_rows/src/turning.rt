@@ -6,16 +6,16 @@ use crate::bench::{Plain, plain_bench};
 use crate::differs::{Differs, expect};
 use crate::links::giving_link;
 use endpoint_loop::{LinkFault, Turn};
-use rpc_base::{NoMemory, Octets, Peer};
+use rpc_base::{HEAD_BYTES, NoMemory, Octets, Peer};
 use std::alloc::Global;
 
 /// One more datagram than a turn receives.
 const ARRIVALS: u8 = 65;
 
 // A request to connect, of this session with one credit.
-fn request(session: u8) -> [u8; 16] {
+fn request(session: u8) -> [u8; HEAD_BYTES] {
     [
-        0xe1, 4, 0, session, 0xff, 0xff, 0, 1, 0, 0, 0, 0, 0, 0, 0, 0,
+        0xe2, 4, 0, session, 0xff, 0xff, 0, 1, 0, 0, 0, 0, 1, 0, 0, 0, 0, 0, 0, 0,
     ]
 }
 

@@ -9,7 +9,7 @@ use std::alloc::{AllocError, Global};
 use std::sync::Wait;
 
 /// The request to connect a client's first session, with 32 credits.
-const REQUEST: &[u8] = b"\xe1\x04\0\0\xff\xff\0\x20\0\0\0\0\0\0\0\0";
+const REQUEST: &[u8] = b"\xe2\x04\0\0\xff\xff\0\x20\0\0\0\0\x01\0\0\0\0\0\0\0";
 
 fn words(alloc: Global, line: &str) -> Result<Vec<String>, AllocError> {
     let mut words = Vec::new(alloc);
