@@ -8,7 +8,7 @@ use std::marker::Model;
 #[derive(Clone, Copy, Debug, PartialEq, Eq)]
 pub struct Life(pub u32);
 
-/// The number of the life of each endpoint: it has but one.
+/// The life that an endpoint has where nothing else is said, and each node of a script at first.
 pub const FIRST_LIFE: u32 = 1;
 
 impl Model for Life {

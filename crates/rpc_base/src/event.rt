@@ -5,11 +5,15 @@ use crate::request::RequestNo;
 use crate::state::{DropReason, SessionState};
 
 /// What happened, in numbers alone; the bytes stand beside it in the fact.
-#[derive(Clone, Copy, Debug, PartialEq, Eq)]
+#[derive(Clone, Copy, Debug)]
 pub enum Event {
     /// The endpoint was made.
     Made {
         ring: u32,
+    },
+    /// The node was restarted: its endpoint is a new one, and this is its life.
+    Restarted {
+        life: u32,
     },
     /// A connect was accepted by the endpoint.
     Opened {
@@ -17,19 +21,21 @@ pub enum Event {
         peer: Peer,
         credits: u16,
     },
-    /// A client end was made by pairing.
+    /// A client end was made by pairing; the life is that of the other end.
     PairedClient {
         session: SessionNo,
         peer: Peer,
         server: SessionNo,
         credits: u16,
+        life: u32,
     },
-    /// A server end was made by pairing.
+    /// A server end was made by pairing; the life is that of the other end.
     PairedServer {
         session: SessionNo,
         peer: Peer,
         client: SessionNo,
         credits: u16,
+        life: u32,
     },
     /// A connect was refused: the credits do not fit into the ring.
     NconnectRing {
@@ -39,12 +45,13 @@ pub enum Event {
     },
     /// A connect was refused: all session numbers are used.
     NconnectNumbers,
-    /// A server session was made by a connect request.
+    /// A server session was made by a connect request, whose sender has this life.
     Accepted {
         session: SessionNo,
         peer: Peer,
         client: SessionNo,
         credits: u16,
+        life: u32,
     },
     /// A connect request found no room at the server.
     Declined {
@@ -58,10 +65,11 @@ pub enum Event {
         client: SessionNo,
         credits: u16,
     },
-    /// The client session is connected.
+    /// The client session is connected, with a server of this life.
     Connected {
         session: SessionNo,
         server: SessionNo,
+        life: u32,
     },
     /// The client session failed: the server has no room.
     FailedNoRoom {

@@ -21,6 +21,9 @@ pub const MOST_CREDITS: u16 = 256;
 /// The next number stands for none in a header.
 pub const SESSION_NUMBERS: u16 = 65_535;
 
+/// An endpoint knows its peers by so many numbers, from 0 on.
+pub const PEERS: usize = 256;
+
 /// No list of sessions is longer: their numbers have 16 bits.
 pub const MOST_SESSIONS: usize = 65_536;
 

@@ -19,6 +19,8 @@ pub enum SessionState {
 /// Why a data packet was dropped.
 #[derive(Clone, Copy, Debug, PartialEq, Eq)]
 pub enum DropReason {
+    /// It was sent to another life of the endpoint.
+    StaleLife,
     /// There is no such live session.
     NoSession,
     /// The session has another peer.
