@@ -1,6 +1,7 @@
 -- Worked rows of session control, computed by the definitions alone: a session is connected, its request is repeated,
 -- declined or starved, it is closed, and a late copy of its request makes a session that nobody uses.
 use Rattle.std.proofs.Common.{◌≡◌, ℕ, true, false, Some, None, [], ◌∷◌, refl}
+use Rattle.packet_header.specs.Reading.{control_at, control_fault, control_read, decoded, kind_of}
 use Rattle.packet_header.specs.declared.packet.ControlHeader.{ControlHeader}
 use Rattle.packet_header.specs.declared.packet.ControlKind.TheVariants.{ConnectRequest}
 use Rattle.packet_header.specs.declared.packet.ControlKind.TheVariants.{ConnectReply}
@@ -9,9 +10,10 @@ use Rattle.packet_header.specs.declared.packet.ControlKind.TheVariants.{Disconne
 use Rattle.rpc_base.specs.declared.event.Event.TheVariants.{Opened, Accepted, Declined, Starved}
 use Rattle.rpc_base.specs.declared.event.Event.TheVariants.{Connected as IsConnected}
 use Rattle.rpc_base.specs.declared.event.Event.TheVariants.{Closing as BeginsClosing, ClosedHeard}
-use Rattle.rpc_base.specs.declared.event.Event.TheVariants.{Ended, Flushed, NconnectRing}
+use Rattle.rpc_base.specs.declared.event.Event.TheVariants.{Ended, Flushed, NconnectRing, Sent}
 use Rattle.rpc_base.specs.declared.event.Event.TheVariants.{NcloseState, Rated, Nrate}
-use Rattle.rpc_base.specs.declared.owner.Owner.TheVariants.{Reply}
+use Rattle.rpc_base.specs.declared.fact.Fact.{Fact}
+use Rattle.rpc_base.specs.declared.owner.Owner.TheVariants.{Control, Reply}
 use Rattle.rpc_base.specs.declared.state.SessionState.TheVariants.{Closing, Closed, Unknown}
 use Rattle.rpc_laws.specs.declared.rows.ControlRow.TheVariants.{Ignores, Confirms, Declines}
 use Rattle.rpc_laws.specs.declared.rows.ControlRow.TheVariants.{Starves, Accepts, Ends, Misses}
@@ -21,10 +23,12 @@ use Rattle.rpc_laws.specs.declared.tables.Lists.{Lists}
 use Rattle.rpc_laws.specs.declared.tables.Queued.{Queued}
 use Rattle.rpc_laws.specs.declared.tables.Served.{Served}
 use Rattle.rpc_laws.specs.ControlSteps.{own_request, retry_row}
-use Rattle.rpc_laws.specs.ControlTable.{control_row, control_facts, control_reply}
-use Rattle.rpc_laws.specs.Facts.{plain}
+use Rattle.rpc_laws.specs.ControlTable.{control_row, control_facts, control_reply, outdated}
+use Rattle.rpc_laws.specs.Facts.{plain, with_two}
 use Rattle.rpc_laws.specs.Groups.{connect_by, client_refusal, disconnect_fact, rate_fact, shares}
 use Rattle.rpc_laws.specs.NodeLists.{after, after_all, new_lists}
+use Rattle.rpc_laws.specs.Lives.{known_life, no_lives, raised}
+use Rattle.rpc_laws.specs.Requests.{server_end}
 use Rattle.rpc_laws.specs.Sessions.{client_end, opened_end}
 use Rattle.rpc_laws.specs.UsualLimits.{with_ring}
 
@@ -94,12 +98,12 @@ abbrev fresh : Lists
 fresh = new_lists 1 1 (with_ring 32)
 
 abbrev serving : Lists
-serving = after 0 fresh (plain 1 (Accepted 0 0 0 4))
+serving = after 0 fresh (plain 1 (Accepted 0 0 0 4 1))
 
 row-accepts : control_row false 0 connect fresh ≡ Accepts 0
 row-accepts = refl
 
-row-accepted : control_facts fresh 0 connect (Accepts 0) ≡ plain 1 (Accepted 0 0 0 4) ∷ []
+row-accepted : control_facts fresh 0 connect (Accepts 0) ≡ plain 1 (Accepted 0 0 0 4 1) ∷ []
 row-accepted = refl
 
 row-answer : control_reply 1 connect (Accepts 0) ≡ Some (connected 0 4)
@@ -181,6 +185,36 @@ row-other-misses = refl
 row-gone : control_reply 1 (disconnect 0) Misses ≡ Some (disconnected 0 2)
 row-gone = refl
 
+-- once the peer connected in its second life, what it asks in its first has no effect; the session
+-- of its first life ends before the request of the second is answered
+abbrev again : ControlHeader
+again = record connect { from_life = 2 }
+
+abbrev connect_told : Fact
+connect_told =
+    with_two 1 (Sent 0 Control 0)
+    (226 ∷ 5 ∷ 0 ∷ 0 ∷ 0 ∷ 1 ∷ 0 ∷ 4 ∷ 0 ∷ 0 ∷ 0 ∷ 0 ∷ 1 ∷ 0 ∷ 0 ∷ 0 ∷ 0 ∷ 0 ∷ 0 ∷ 2 ∷ []) []
+
+row-outdates : outdated 0 again serving ≡ Some (server_end 0 0 0 4 1)
+row-outdates = refl
+
+row-same-life : outdated 0 connect serving ≡ None
+row-same-life = refl
+
+row-other-peers : outdated 2 again serving ≡ None
+row-other-peers = refl
+
+row-known : known_life 0 (after 0 serving connect_told).known ≡ 2
+unfolding decoded kind_of control_at control_read control_fault
+row-known = refl
+
+row-stale : control_row false 0 connect (record serving { known = raised 0 2 no_lives })
+    ≡ Ignores
+row-stale = refl
+
+row-other-life : control_row false 0 (record (disconnect 0) { to_life = Some 2 }) busy ≡ Ignores
+row-other-life = refl
+
 row-late : control_row false 0 connect ended ≡ Accepts 1
 row-late = refl
 
@@ -215,13 +249,13 @@ row-no-session = refl
 
 -- once it is connected it is as if it were paired; another server session is disowned
 abbrev joined : Lists
-joined = after 0 opened (plain 0 (IsConnected 0 0))
+joined = after 0 opened (plain 0 (IsConnected 0 0 1))
 
-row-joined : joined.clients ≡ client_end 0 1 0 4 ∷ []
+row-joined : joined.clients ≡ client_end 0 1 0 4 1 ∷ []
 row-joined = refl
 
-row-known : control_row false 1 (connected 0 4) joined ≡ Ignores
-row-known = refl
+row-same : control_row false 1 (connected 0 4) joined ≡ Ignores
+row-same = refl
 
 row-disowns : control_row false 1 (connected 1 4) joined ≡ Disowns
 row-disowns = refl
@@ -248,6 +282,10 @@ row-rates = refl
 
 row-unknown : rate_fact 7 5 closing ≡ plain 0 (Nrate 7 Unknown)
 row-unknown = refl
+
+-- nor is one of another life of the server
+row-later-life : control_row false 1 (record (connected 0 4) { from_life = 2 }) joined ≡ Disowns
+row-later-life = refl
 
 row-closes : control_row false 1 (disconnected 0 2) closing ≡ Closes
 row-closes = refl

@@ -43,7 +43,7 @@ row-reply = refl
 -- at a rate of 1 a call of 5 bytes is posted at 0: it is due at once, and the next packet at 25,000
 abbrev slow : Lists
 slow = after_all 0 (new_lists 0 1 (with_ring 32))
-    (plain 0 (PairedClient 0 1 0 1) ∷ plain 0 (Rated 0 1)
+    (plain 0 (PairedClient 0 1 0 1 1) ∷ plain 0 (Rated 0 1)
     ∷ with_bytes 0 (Asked 0 0 1 5) (104 ∷ 101 ∷ 108 ∷ 108 ∷ 111 ∷ []) ∷ plain 0 (Begun 0 0) ∷ [])
 
 abbrev posted : Lists
@@ -86,7 +86,7 @@ row-kept = refl
 -- at a rate of 1,000 three datagrams of 1,044 bytes that are posted at 0 are due at 0, 1,044 and 2,088
 abbrev long : Lists
 long = after_all 0 (new_lists 0 1 (with_ring 32))
-    (plain 0 (PairedClient 0 1 0 3) ∷ plain 0 (Rated 0 1000)
+    (plain 0 (PairedClient 0 1 0 3 1) ∷ plain 0 (Rated 0 1000)
     ∷ with_bytes 0 (Asked 0 0 1 3072) (replicate 3072 7) ∷ plain 0 (Begun 0 0)
     ∷ plain 0 (Posted (Ask 0 0) 0) ∷ plain 0 (Posted (Ask 0 0) 1) ∷ plain 0 (Posted (Ask 0 0) 2)
     ∷ [])

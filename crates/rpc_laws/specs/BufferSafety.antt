@@ -9,7 +9,7 @@ use Rattle.packet_header.specs.declared.packet.ControlKind.TheVariants.{Disconne
 use Rattle.packet_header.specs.declared.packet.Packet.TheVariants.{Control as ControlPacket}
 use Rattle.packet_header.specs.Header.{AreBytes, Spells}
 use Rattle.rpc_base.specs.declared.event.Event.{Event}
-use Rattle.rpc_base.specs.declared.event.Event.TheVariants.{Made, Sent, Ticked}
+use Rattle.rpc_base.specs.declared.event.Event.TheVariants.{Made, Restarted, Sent, Ticked}
 use Rattle.rpc_base.specs.declared.fact.Fact.{Fact}
 use Rattle.rpc_base.specs.declared.fact.Who.{Who}
 use Rattle.rpc_base.specs.declared.fact.Who.TheVariants.{Node, Net}
@@ -24,7 +24,7 @@ use Rattle.rpc_laws.specs.ControlSteps.{own_request}
 use Rattle.rpc_laws.specs.ControlTable.{connect_reply, disconnect_as, is_end_of, named_end, reply_row}
 use Rattle.rpc_laws.specs.Groups.{has_no_room, servers_spent}
 use Rattle.rpc_laws.specs.Lives.{first_life}
-use Rattle.rpc_laws.specs.NodeLists.{after, new_lists}
+use Rattle.rpc_laws.specs.NodeLists.{after, new_lists, restarted_lists}
 use Rattle.rpc_laws.specs.Packets.{owner_packet}
 use Rattle.rpc_laws.specs.Requests.{is_server}
 use Rattle.rpc_laws.specs.Sessions.{is_client}
@@ -34,9 +34,16 @@ abbrev pub changed : ℕ → Option Lists → ℕ → List Lists → Fact → Li
 changed clock (Some s) n nodes f = slice_set nodes n (after clock s f)
 changed clock None n nodes f = nodes
 
--- the nodes' lists after a fact of node n: Made makes the next node
+-- a node is restarted
+abbrev pub anew : Option Lists → ℕ → List Lists → List Lists
+anew (Some s) n nodes = slice_set nodes n (restarted_lists s)
+anew None n nodes = nodes
+
+-- the nodes' lists after a fact of node n: Made makes the next node, in its first life, and
+-- Restarted makes node n anew
 abbrev pub node_after : ℕ → ℕ → Event → List Lists → Fact → List Lists
 node_after clock n (Made ring) nodes f = nodes ++ new_lists n first_life (with_ring ring) ∷ []
+node_after clock n (Restarted life) nodes f = anew (slice_get nodes n) n nodes
 node_after clock n _ nodes f = changed clock (slice_get nodes n) n nodes f
 
 abbrev pub nodes_at : ℕ → Who → List Lists → Fact → List Lists
@@ -74,10 +81,10 @@ pub record IsOpened (s : Lists) (peer session : ℕ) (x : Client) : Type 0 where
   pub found : find (is_client session) s.clients ≡ Some x
   pub to_peer : x.way.peer ≡ peer
 
--- a node takes no session of so many credits for a peer's client session: no server session is its
--- other end, and there is no room for one, or no number
-pub record TakesNoSession (s : Lists) (peer client credits : ℕ) : Type 0 where
-  pub unknown : find (is_end_of peer client) s.servers ≡ None
+-- a node takes no session of so many credits for the client session that a peer has in this life: no
+-- server session is its other end, and there is no room for one, or no number
+pub record TakesNoSession (s : Lists) (peer client life credits : ℕ) : Type 0 where
+  pub unknown : find (is_end_of peer client life) s.servers ≡ None
   pub full : (has_no_room credits s || servers_spent s) ≡ true
 
 -- a control packet that a node may send to a peer, by the rows of the control rule: a session's own
@@ -88,19 +95,19 @@ pub record TakesNoSession (s : Lists) (peer client credits : ℕ) : Type 0 where
 pub data OwnControl (s : Lists) (peer : ℕ) (h : ControlHeader) : Type 0 where
   asks : (x : Client) → IsOpened s peer h.client x → own_request s.life x ≡ Some h
       → OwnControl s peer h
-  confirms : (t : ℕ) → (v : Server)
-      → h ≡ connect_reply s.life first_life h.client (Some t) v.credits 0
-      → find (is_server t) s.servers ≡ Some v → is_end_of peer h.client v ≡ true
+  confirms : (to t : ℕ) → (v : Server)
+      → h ≡ connect_reply s.life to h.client (Some t) v.credits 0
+      → find (is_server t) s.servers ≡ Some v → is_end_of peer h.client to v ≡ true
       → OwnControl s peer h
-  declines : h ≡ connect_reply s.life first_life h.client None h.credits 1
-      → TakesNoSession s peer h.client h.credits → OwnControl s peer h
-  disowns : (x : Client) → IsOpened s peer h.client x
-      → h ≡ disconnect_as DisconnectRequest s.life first_life h.client h.server 0
-      → reply_row h.server 0 x ≡ Disowns → OwnControl s peer h
-  ends : h ≡ disconnect_as DisconnectReply s.life first_life h.client h.server 0
-      → named_end peer h.client h.server s.servers ≡ None → OwnControl s peer h
-  misses : h ≡ disconnect_as DisconnectReply s.life first_life h.client h.server 2
-      → named_end peer h.client h.server s.servers ≡ None → OwnControl s peer h
+  declines : (to : ℕ) → h ≡ connect_reply s.life to h.client None h.credits 1
+      → TakesNoSession s peer h.client to h.credits → OwnControl s peer h
+  disowns : (to : ℕ) → (x : Client) → IsOpened s peer h.client x
+      → h ≡ disconnect_as DisconnectRequest s.life to h.client h.server 0
+      → reply_row h.server to 0 x ≡ Disowns → OwnControl s peer h
+  ends : (to : ℕ) → h ≡ disconnect_as DisconnectReply s.life to h.client h.server 0
+      → named_end peer h.client to h.server s.servers ≡ None → OwnControl s peer h
+  misses : (to : ℕ) → h ≡ disconnect_as DisconnectReply s.life to h.client h.server 2
+      → named_end peer h.client to h.server s.servers ≡ None → OwnControl s peer h
 
 -- the head spells such a packet, and there is no body
 pub record SpellsControl (nodes : List Lists) (n peer number : ℕ) (head body : List ℕ)

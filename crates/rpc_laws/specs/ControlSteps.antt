@@ -16,9 +16,11 @@ use Rattle.rpc_laws.specs.declared.rows.RetryRow.{RetryRow}
 use Rattle.rpc_laws.specs.declared.rows.RetryRow.TheVariants.{Rests, Asks, GivesUp}
 use Rattle.rpc_laws.specs.declared.tables.Arrival.{Arrival}
 use Rattle.rpc_laws.specs.declared.tables.Client.{Client}
+use Rattle.rpc_laws.specs.declared.tables.Server.{Server}
 use Rattle.rpc_laws.specs.declared.tables.Timed.{Timed}
 use Rattle.rpc_laws.specs.declared.tables.Way.{Way}
-use Rattle.rpc_laws.specs.ControlTable.{control_row, control_facts, control_reply}
+use Rattle.rpc_laws.specs.ControlTable.{control_row, control_facts, control_reply, outdated}
+use Rattle.rpc_laws.specs.ControlTable.{session_end}
 use Rattle.rpc_laws.specs.Facts.{plain, with_bytes, with_two}
 use Rattle.rpc_laws.specs.Front.{control_of}
 use Rattle.rpc_laws.specs.GoBackN.{WatchesSession}
@@ -42,21 +44,43 @@ abbrev pub SpeaksIf : (me peer : ℕ) → Option ControlHeader → List Fact →
 SpeaksIf me peer None x = x ≡ []
 SpeaksIf me peer (Some h) x = Speaks me peer h x
 
--- the front packet of the inbox is handled, and its answer is sent
+-- a packet is taken out of the inbox
+pub record TakesControl (s : Timed) (x : List Fact) (t : Timed) : Type 0 where
+  pub facts : x ≡ plain s.lists.me Heard ∷ []
+  pub goes : Goes s x t
+
+-- the first session that it outdates ends
+pub record EndsOutdated (peer : ℕ) (h : ControlHeader) (s : Timed) (x : List Fact) (t : Timed)
+    : Type 0 where
+  pub server : Server
+  pub is_outdated : outdated peer h s.lists ≡ Some server
+  pub facts : x ≡ session_end s.lists.me s.lists.queued (Some server)
+  pub goes : Goes s x t
+
+-- until none is left
+abbrev pub EndsAllOutdated : ℕ → ControlHeader → Rel
+EndsAllOutdated peer h = Until (EndsOutdated peer h) (λ t. outdated peer h t.lists ≡ None)
+
+-- its row is applied, and its answer is sent
+pub record AnswersControl (peer : ℕ) (h : ControlHeader) (s : Timed) (x : List Fact) (t : Timed)
+    : Type 0 where
+  -- whether memory for a server session is wanting
+  pub lacks : Bool
+  pub said : List Fact
+  pub speaks : SpeaksIf s.lists.me peer
+      (control_reply s.lists.life h (control_row lacks peer h s.lists)) said
+  pub facts : x ≡ control_facts s.lists peer h (control_row lacks peer h s.lists) ++ said
+  pub goes : Goes s x t
+
+-- the front packet of the inbox is handled: the sessions that it outdates end, and then it is
+-- answered
 pub record Hears (s : Timed) (x : List Fact) (t : Timed) : Type 0 where
   pub front : Arrival
   pub is_front : slice_get s.lists.inbox 0 ≡ Some front
   pub header : ControlHeader
   pub reads : control_of front.bytes ≡ Some header
-  -- whether memory for a server session is wanting
-  pub lacks : Bool
-  pub said : List Fact
-  pub speaks : SpeaksIf s.lists.me front.peer
-      (control_reply s.lists.life header
-      (control_row lacks front.peer header s.lists)) said
-  pub facts : x ≡ plain s.lists.me Heard ∷ control_facts s.lists front.peer header
-      (control_row lacks front.peer header s.lists) ++ said
-  pub goes : Goes s x t
+  pub steps : Then TakesControl (Then (EndsAllOutdated front.peer header)
+      (AnswersControl front.peer header)) s x t
 
 -- until the inbox is empty
 abbrev pub HearsAll : Rel
@@ -71,7 +95,7 @@ retry_row clock timeout sends sent_at =
     else GivesUp)
 
 -- that request, where the session has one: to connect while it is Connecting, to disconnect while
--- it is Closing. own is the life of its node
+-- it is Closing
 abbrev pub request_by : (own : ℕ) → SessionState → Way → (credits : ℕ) → Option ControlHeader
 request_by own Connecting way credits =
     Some (record {

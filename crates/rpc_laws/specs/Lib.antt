@@ -5,6 +5,7 @@ pub mod ClientTable
 pub mod ControlSteps
 pub mod ControlTable
 pub mod Deliveries
+pub mod Endpoints
 pub mod Facts
 pub mod Front
 pub mod GoBackN

@@ -9,6 +9,7 @@ use Rattle.rpc_laws.specs.declared.tables.Lists.{Lists}
 use Rattle.rpc_laws.specs.declared.tables.Timed.{Timed}
 use Rattle.rpc_laws.specs.Front.{front_header, front_body}
 use Rattle.rpc_laws.specs.Jobs.{jobs_after, no_jobs}
+use Rattle.rpc_laws.specs.Lives.{known_after, no_lives}
 use Rattle.rpc_laws.specs.Pacing.{due_of, paces_after}
 use Rattle.rpc_laws.specs.Queues.{ring_after, inbox_after, queued_after}
 use Rattle.rpc_laws.specs.Sessions.{clients_after}
@@ -40,6 +41,7 @@ after clock s f = record {
   timeout = s.timeout;
   asked = asked_after f.event s.asked;
   server_numbers = server_numbers_after f.event s.server_numbers;
+  known = known_after f.event f.first s.known;
   counts = counts_after f.event s.counts;
   ring = ring_after f.event f.first s.ring;
   inbox = inbox_after f.event f.first s.inbox;
@@ -66,6 +68,7 @@ new_lists me life limits = record {
   timeout = limits.timeout;
   asked = 0;
   server_numbers = 0;
+  known = no_lives;
   counts = no_counts;
   ring = [];
   inbox = [];
@@ -78,3 +81,14 @@ new_lists me life limits = record {
 
 abbrev pub new_node : (me life : ℕ) → Limits → Timed
 new_node me life limits = record { lists = new_lists me life limits; clock = 0 }
+
+-- the limits that a node was made with
+abbrev pub limits_of : Lists → Limits
+limits_of s = record { ring = s.room; jobs = s.jobs.limit; timeout = s.timeout }
+
+-- a node as it is restarted: it has the same limits and the next life, and its lists are empty
+abbrev pub restarted_lists : Lists → Lists
+restarted_lists s = new_lists s.me (s.life + 1) (limits_of s)
+
+abbrev pub restarted : Timed → Timed
+restarted s = record { lists = restarted_lists s.lists; clock = 0 }

@@ -55,7 +55,7 @@ due_of clock _ paces = None
 abbrev pub paces_after : (clock : ℕ) → Event → List Client → List Pace → List Pace
 paces_after clock (Opened s peer credits) clients paces =
     paces ++ record { session = s; rate = 0; next = 0 } ∷ []
-paces_after clock (PairedClient s peer t credits) clients paces =
+paces_after clock (PairedClient s peer t credits life) clients paces =
     paces ++ record { session = s; rate = 0; next = 0 } ∷ []
 paces_after clock (Rated s rate) clients paces =
     at_first (is_pace_of s) (λ p. record p { rate = rate }) paces

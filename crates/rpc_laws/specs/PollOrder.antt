@@ -1,6 +1,6 @@
 -- A poll: finished jobs, the inbox, the packets of the ring in order of arrival, the timers,
 -- posting, sending, and the Polled that ends it.
-use Rattle.std.specs.Prelude.{ℕ, ◌≡◌, ◌⊎◌, ◌-◌, ◌<◌, ◌≤◌, max, Bool, true, false, Option, Some}
+use Rattle.std.specs.Prelude.{ℕ, ◌≡◌, ◌⊎◌, ◌-◌, ◌==◌, ◌<◌, ◌≤◌, max, Bool, true, false, Option, Some}
 use Rattle.std.specs.Prelude.{None, List, [], ◌∷◌, length, slice_get, if◌then◌else◌}
 use Rattle.std.specs.List.{find}
 use Rattle.rpc_base.specs.declared.limits.TheConstants.{HEAD_BYTES}
@@ -10,9 +10,10 @@ use Rattle.packet_header.specs.Reading.{message_of, body_of}
 use Rattle.packet_header.specs.declared.packet.Kind.{Kind}
 use Rattle.packet_header.specs.declared.packet.Kind.TheVariants.{Request, Rfr, Cr, Response}
 use Rattle.packet_header.specs.declared.packet.MessageHeader.{MessageHeader}
-use Rattle.rpc_base.specs.declared.event.Event.TheVariants.{Posted, Ran, Sent, Polled}
+use Rattle.rpc_base.specs.declared.event.Event.TheVariants.{Dropped, Posted, Ran, Sent, Polled}
 use Rattle.rpc_base.specs.declared.fact.Fact.{Fact}
 use Rattle.rpc_base.specs.declared.owner.Owner.TheVariants.{Reply}
+use Rattle.rpc_base.specs.declared.state.DropReason.TheVariants.{StaleLife}
 use Rattle.rpc_laws.specs.declared.tables.Arrival.{Arrival}
 use Rattle.rpc_laws.specs.declared.tables.Job.{Job}
 use Rattle.rpc_laws.specs.declared.tables.Lists.{Lists}
@@ -100,6 +101,12 @@ handling_by mode lacks answer Rfr s peer h body = asks_facts mode lacks answer s
 handling_by mode lacks answer Cr s peer h body = replies_facts s peer h body
 handling_by mode lacks answer Response s peer h body = replies_facts s peer h body
 
+-- first of all, a packet for another life of the node is dropped
+abbrev pub handled : (ℕ → Mode) → Bool → List ℕ → Lists → ℕ → MessageHeader → List ℕ → List Fact
+handled mode lacks answer s peer h body =
+    if h.to_life == s.life then handling_by mode lacks answer h.kind s peer h body
+    else plain s.me (Dropped StaleLife) ∷ []
+
 -- the front packet of the ring is handled, while fewer replies are queued than the ring is long
 pub record Handles (mode : ℕ → Mode) (s : Timed) (x : List Fact) (t : Timed) : Type 0 where
   pub room : replies s.lists.queued < s.lists.room
@@ -109,8 +116,7 @@ pub record Handles (mode : ℕ → Mode) (s : Timed) (x : List Fact) (t : Timed)
   pub reads : message_of front.bytes ≡ Some header
   pub lacks : Bool
   pub answer : List ℕ
-  pub facts : x ≡ handling_by mode lacks answer header.kind s.lists front.peer header
-      (body_of front.bytes)
+  pub facts : x ≡ handled mode lacks answer s.lists front.peer header (body_of front.bytes)
   pub goes : Goes s x t
 
 -- the ring is empty, or as many replies are queued as it is long

@@ -9,7 +9,6 @@ use Rattle.rpc_base.specs.declared.owner.Owner.TheVariants.{Reply}
 use Rattle.rpc_laws.specs.declared.tables.Served.{Served}
 use Rattle.rpc_laws.specs.declared.tables.Server.{Server}
 use Rattle.rpc_base.specs.Tables.{at_first, without_first}
-use Rattle.rpc_laws.specs.Lives.{first_life}
 
 abbrev pub is_server : ℕ → Server → Bool
 is_server number v = v.way.number == number
@@ -26,10 +25,10 @@ abbrev pub request_of : (t r : ℕ) → List Server → Option Served
 request_of t r servers =
     option_and_then (λ v. find (is_request r) v.slots) (find (is_server t) servers)
 
-abbrev pub server_end : ℕ → ℕ → ℕ → ℕ → Server
-server_end number peer other credits =
+abbrev pub server_end : (number peer other credits life : ℕ) → Server
+server_end number peer other credits life =
     record {
-      way = record { number = number; peer = peer; other = other; life = first_life };
+      way = record { number = number; peer = peer; other = other; life = life };
       credits = credits;
       slots = [];
     }
@@ -70,10 +69,10 @@ answered bytes q = record q { ask = []; working = false; answer = Some bytes }
 -- are those of the packet at the front of the ring
 abbrev pub servers_after : Event → List ℕ → Option MessageHeader → List ℕ → List Server
     → List Server
-servers_after (PairedServer t peer s credits) answer head body xs =
-    xs ++ server_end t peer s credits ∷ []
-servers_after (Accepted t peer s credits) answer head body xs =
-    xs ++ server_end t peer s credits ∷ []
+servers_after (PairedServer t peer s credits life) answer head body xs =
+    xs ++ server_end t peer s credits life ∷ []
+servers_after (Accepted t peer s credits life) answer head body xs =
+    xs ++ server_end t peer s credits life ∷ []
 servers_after (Ended t) answer head body xs = without_first (is_server t) xs
 servers_after (Took (Reply t r) k) answer head body xs =
     at_first (is_server t) (λ v. record v { slots = took_packet r head body v.slots }) xs
@@ -87,6 +86,6 @@ servers_after _ answer head body xs = xs
 
 -- how many numbers of server sessions were used
 abbrev pub server_numbers_after : Event → ℕ → ℕ
-server_numbers_after (PairedServer t peer s credits) n = n + 1
-server_numbers_after (Accepted t peer s credits) n = n + 1
+server_numbers_after (PairedServer t peer s credits life) n = n + 1
+server_numbers_after (Accepted t peer s credits life) n = n + 1
 server_numbers_after _ n = n

@@ -1,7 +1,7 @@
 -- The service of a node: how it handles a type, and what it answers. The plain service is one.
 use Rattle.std.specs.Prelude.{ℕ, ◌≡◌, ◌==◌, Bool, true, false, ◌||◌, if◌then◌else◌, List, [], ◌∷◌, ◌++◌}
 use Rattle.rpc_base.specs.declared.event.Event.{Event}
-use Rattle.rpc_base.specs.declared.event.Event.TheVariants.{Ran}
+use Rattle.rpc_base.specs.declared.event.Event.TheVariants.{Ran, Restarted}
 use Rattle.rpc_base.specs.declared.fact.Fact.{Fact}
 use Rattle.rpc_outside.specs.declared.service.Mode.{Mode}
 use Rattle.rpc_outside.specs.declared.service.Mode.TheVariants.{Inline, Background}
@@ -55,10 +55,12 @@ plain_serving = record { mode = plain_mode; answer = plain_answer }
 abbrev pub rules_of : {V : Type 0} → Service.Ghosts V → Serving
 rules_of v = record { mode = v.mode_of; answer = v.answer }
 
--- what was served in the event loop, once a fact happened: a Ran of an Inline type serves its bytes
+-- what was served in the event loop in the present life, once a fact happened: a Ran of an Inline
+-- type serves its bytes
 abbrev pub served_after : (ℕ → Mode) → Event → List ℕ → Served → Served
 served_after mode (Ran session request req_type) ask served =
     if runs_inline mode req_type then served ++ (req_type, ask) ∷ [] else served
+served_after mode (Restarted life) ask served = []
 served_after mode _ ask served = served
 
 -- and after some facts

@@ -1,6 +1,6 @@
 -- Client sessions with their calls, as the facts of a node leave them. The calls of a session stand
 -- in the order of their numbers: those that are active, and then those that wait.
-use Rattle.std.specs.Prelude.{ℕ, ◌+◌, ◌-◌, ◌%◌, ◌==◌, Bool, true, false, Option, Some, None, List}
+use Rattle.std.specs.Prelude.{ℕ, ◌+◌, ◌-◌, ◌%◌, ◌==◌, ◌&&◌, Bool, true, false, Option, Some, None, List}
 use Rattle.std.specs.Prelude.{[], ◌∷◌, ◌++◌, slice_index, slice_set, if◌then◌else◌}
 use Rattle.std.specs.List.{list_any}
 use Rattle.rpc_base.specs.declared.event.Event.{Event}
@@ -22,12 +22,13 @@ use Rattle.packet_header.specs.declared.packet.ControlKind.TheVariants.{ConnectR
 use Rattle.packet_header.specs.declared.packet.MessageHeader.{MessageHeader}
 use Rattle.rpc_laws.specs.declared.tables.Asking.{Asking}
 use Rattle.rpc_laws.specs.declared.tables.Client.{Client}
+use Rattle.rpc_laws.specs.declared.tables.Way.{Way}
 use Rattle.rpc_base.specs.Tables.{at_first, without_first}
 use Rattle.rpc_base.specs.declared.limits.TheConstants.{SESSION_NUMBERS}
 use Rattle.rpc_laws.specs.Front.{control_of}
 use Rattle.rpc_laws.specs.Calls.{is_call, is_active, asking, begun, moved, posted_up_to}
 use Rattle.rpc_laws.specs.Calls.{rolled_back, sent_packet, took_reply}
-use Rattle.rpc_laws.specs.Lives.{first_life}
+use Rattle.rpc_laws.specs.Lives.{no_life}
 
 abbrev pub is_client : ℕ → Client → Bool
 is_client number x = x.way.number == number
@@ -54,9 +55,9 @@ is_live _ = false
 abbrev pub no_turns : List ℕ
 no_turns = 0 ∷ 0 ∷ 0 ∷ 0 ∷ 0 ∷ 0 ∷ 0 ∷ 0 ∷ []
 
-abbrev pub client_end : ℕ → ℕ → ℕ → ℕ → Client
-client_end number peer other credits = record {
-  way = record { number = number; peer = peer; other = other; life = first_life };
+abbrev pub client_end : (number peer other credits life : ℕ) → Client
+client_end number peer other credits life = record {
+  way = record { number = number; peer = peer; other = other; life = life };
   state = Connected;
   limit = credits;
   free = credits;
@@ -71,30 +72,35 @@ client_end number peer other credits = record {
 abbrev pub no_session : ℕ
 no_session = SESSION_NUMBERS
 
--- Opened: the server's number isn't known yet
+-- Opened: the server's number and its life aren't known yet
 abbrev pub opened_end : ℕ → ℕ → ℕ → Client
 opened_end number peer credits =
-    record (client_end number peer no_session credits) { state = Connecting }
+    record (client_end number peer no_session credits no_life) { state = Connecting }
 
 -- another state, in which none of the session's own requests was sent
 abbrev pub comes_to : SessionState → Client → Client
 comes_to state x = record x { state = state; sends = 0; sent_at = 0 }
 
--- Connected with server session t
-abbrev pub connects : ℕ → Client → Client
-connects t x = record (comes_to Connected x) { way = record x.way { other = t } }
+-- Connected with server session t, in this life of its node
+abbrev pub connects : (t life : ℕ) → Client → Client
+connects t life x =
+    record (comes_to Connected x) { way = record x.way { other = t; life = life } }
+
+-- whether the other end of a way is session t in this life
+abbrev pub is_with : (t life : ℕ) → Way → Bool
+is_with t life way = way.other == t && way.life == life
 
 -- whether a control packet is a session's own request: while it is Connecting that to connect, and
 -- while it is Closing that to disconnect its server session
-abbrev pub is_request_of : ControlKind → Option ℕ → SessionState → ℕ → Bool
-is_request_of ConnectRequest server Connecting other = true
-is_request_of DisconnectRequest (Some t) Closing other = t == other
-is_request_of _ server state other = false
+abbrev pub is_request_of : ControlKind → (server to_life : Option ℕ) → SessionState → Way → Bool
+is_request_of ConnectRequest server to_life Connecting way = true
+is_request_of DisconnectRequest (Some t) (Some life) Closing way = is_with t life way
+is_request_of _ server to_life state way = false
 
 -- one more of its own requests was sent, at this clock
 abbrev pub requests : (clock : ℕ) → ControlHeader → Client → Client
 requests clock h x =
-    if is_request_of h.kind h.server x.state x.way.other then record
+    if is_request_of h.kind h.server h.to_life x.state x.way then record
     x { sends = x.sends + 1; sent_at = clock } else x
 
 -- a control packet with this header was sent, if it is one
@@ -148,11 +154,12 @@ ends number x = record x { calls = without_first (is_call number) x.calls }
 -- front of the ring
 abbrev pub clients_after : ℕ → Event → List ℕ → Option MessageHeader → List ℕ → List Client
     → List Client
-clients_after clock (PairedClient s peer t credits) bytes head body xs =
-    xs ++ client_end s peer t credits ∷ []
+clients_after clock (PairedClient s peer t credits life) bytes head body xs =
+    xs ++ client_end s peer t credits life ∷ []
 clients_after clock (Opened s peer credits) bytes head body xs =
     xs ++ opened_end s peer credits ∷ []
-clients_after clock (IsConnected s t) bytes head body xs = at_first (is_client s) (connects t) xs
+clients_after clock (IsConnected s t life) bytes head body xs =
+    at_first (is_client s) (connects t life) xs
 clients_after clock (FailedNoRoom s) bytes head body xs =
     at_first (is_client s) (comes_to Failed) xs
 clients_after clock (FailedNoAnswer s) bytes head body xs =

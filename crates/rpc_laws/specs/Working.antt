@@ -5,7 +5,7 @@ use Rattle.std.specs.Prelude.{◌∷◌, ◌++◌, map, slice_get}
 use Rattle.std.specs.List.{filter, list_any}
 use Rattle.rpc_base.specs.Tables.{without_first}
 use Rattle.rpc_base.specs.declared.event.Event.{Event}
-use Rattle.rpc_base.specs.declared.event.Event.TheVariants.{Worked, Ran, Missed}
+use Rattle.rpc_base.specs.declared.event.Event.TheVariants.{Worked, Ran, Restarted, Missed}
 use Rattle.rpc_base.specs.declared.fact.Fact.{Fact}
 use Rattle.rpc_base.specs.declared.fact.Who.{Who}
 use Rattle.rpc_base.specs.declared.fact.Who.TheVariants.{Node, Net}
@@ -27,6 +27,7 @@ abbrev pub worked_after_node : ℕ → Event → List WorkedJob → List WorkedJ
 worked_after_node n (Worked t r) worked =
     worked ++ record { node = n; session = t; request = r } ∷ []
 worked_after_node n (Ran t r y) worked = without_first (is_worked n t r) worked
+worked_after_node n (Restarted life) worked = filter (λ w. not (w.node == n)) worked
 worked_after_node n _ worked = worked
 
 abbrev pub worked_at : Who → Event → List WorkedJob → List WorkedJob

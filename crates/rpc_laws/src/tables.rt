@@ -21,7 +21,7 @@ pub struct Queued {
 
 /// What never changes of one end of a session once it is connected: its number here, the peer, its
 /// number there, and the life of the endpoint there. A client end that isn't connected yet has
-/// 65,535 there, which is no session's number.
+/// 65,535 there, which is no session's number, and 0, which is nobody's life.
 #[derive(Clone, Copy, Debug, PartialEq, Eq)]
 pub struct Way {
     pub number: SessionNo,
@@ -148,7 +148,7 @@ pub struct Pace {
     pub next: u64,
 }
 
-/// The lists and tables of a node.
+/// The lists and tables of a node in its present life.
 #[derive(Debug, Drop)]
 pub struct Lists {
     pub me: NodeId,
@@ -162,6 +162,9 @@ pub struct Lists {
     pub asked: u64,
     /// How many numbers of server sessions were used.
     pub server_numbers: u64,
+    /// The greatest life that is known of each of the 256 peers, by their numbers, 0 where none is:
+    /// a peer's life is known once it connected or was paired.
+    pub known: Listed<Life>,
     pub counts: Counted,
     pub ring: Listed<Arrival>,
     /// The control packets that arrived and weren't handled.
