@@ -180,9 +180,9 @@ connect-parted mode s y t f w k x peer credits rate None false v few ref z e fac
 
 pub parted : (mode : ℕ → Mode) (s : Timed) (y : List Fact) (t : Timed) (f w : Fact) (k x : List Fact)
     → Valid s.lists → y ≡ (f ∷ k) ++ w ∷ x → Group mode s y t → Parted mode s (f ∷ k) (w ∷ x) t
-parted mode s y t f w k x v e (pairs_client peer server credits may h) =
+parted mode s y t f w k x v e (pairs_client peer server credits life may h) =
     absurd (one-alone _ f w k x (sym h.facts ∙ e))
-parted mode s y t f w k x v e (pairs_server peer client credits may h) =
+parted mode s y t f w k x v e (pairs_server peer client credits life may h) =
     absurd (one-alone _ f w k x (sym h.facts ∙ e))
 parted mode s y t f w k x v e (refuses credits few event r h) = absurd (one-alone _ f w k x (sym h.facts ∙ e))
 parted mode s y t f w k x v e (connects peer credits rate few h) =

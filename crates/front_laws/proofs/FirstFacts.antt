@@ -9,7 +9,7 @@ use Rattle.packet_header.specs.declared.packet.Kind.TheVariants.{Request, Rfr, C
 use Rattle.packet_header.specs.declared.packet.MessageHeader.{MessageHeader}
 use Rattle.packet_header.specs.Reading.{body_of}
 use Rattle.rpc_base.specs.declared.event.Event.{Event}
-use Rattle.rpc_base.specs.declared.event.Event.TheVariants.{Begun, Flushed, Posted, Ran}
+use Rattle.rpc_base.specs.declared.event.Event.TheVariants.{Begun, Ended, Flushed, Posted, Ran}
 use Rattle.rpc_base.specs.declared.fact.Fact.{Fact}
 use Rattle.rpc_base.specs.declared.owner.Owner.{Owner}
 use Rattle.rpc_base.specs.declared.owner.Owner.TheVariants.{Ask, Reply}
@@ -18,6 +18,8 @@ use Rattle.rpc_base.specs.declared.state.SessionState.TheVariants.{Unknown, Conn
 use Rattle.rpc_base.specs.declared.state.SessionState.TheVariants.{Closing, Closed, Failed, Broken, Spent}
 use Rattle.rpc_laws.specs.declared.rows.ClientRow.{ClientRow}
 use Rattle.rpc_laws.specs.declared.rows.ClientRow.TheVariants.{Drops as ClientDrops, Takes as ClientTakes}
+use Rattle.rpc_laws.specs.declared.rows.ControlRow.{ControlRow}
+use Rattle.rpc_laws.specs.declared.rows.ControlRow.TheVariants.{Ends}
 use Rattle.rpc_laws.specs.declared.rows.RetryRow.{RetryRow}
 use Rattle.rpc_laws.specs.declared.rows.RetryRow.TheVariants.{Rests, Asks, GivesUp}
 use Rattle.rpc_laws.specs.declared.rows.ServerRow.{ServerRow}
@@ -34,9 +36,11 @@ use Rattle.rpc_laws.specs.declared.tables.Server.{Server}
 use Rattle.rpc_laws.specs.declared.tables.Timed.{Timed}
 use Rattle.rpc_laws.specs.Calls.{is_call, is_waiting}
 use Rattle.rpc_laws.specs.ClientTable.{client_row, reply_facts}
-use Rattle.rpc_laws.specs.ControlSteps.{control_fact, given_up, Hears, HearsAll, own_request, Retries}
-use Rattle.rpc_laws.specs.ControlSteps.{RetriesAs, RetriesBy, RetriesOf, retry_row, Speaks, TimesAll}
-use Rattle.rpc_laws.specs.ControlSteps.{TimesSession}
+use Rattle.rpc_laws.specs.ControlSteps.{AnswersControl, control_fact, EndsAllOutdated, EndsOutdated, given_up}
+use Rattle.rpc_laws.specs.ControlSteps.{Hears, HearsAll, own_request, Retries, RetriesAs, RetriesBy, RetriesOf}
+use Rattle.rpc_laws.specs.ControlSteps.{retry_row, Speaks, SpeaksIf, TakesControl, TimesAll, TimesSession}
+use Rattle.rpc_laws.specs.ControlTable.{control_facts, control_row, named_end, outdated, session_end}
+use Rattle.rpc_laws.specs.ControlTable.{session_flushes}
 use Rattle.rpc_laws.specs.Facts.{plain}
 use Rattle.rpc_laws.specs.GoBackN.{call_facts, client_facts, Each, flushes_of, numbers_in, progress_facts}
 use Rattle.rpc_laws.specs.GoBackN.{row_facts, Watches, WatchesSession}
@@ -120,6 +124,11 @@ handling-first mode lacks answer Cr s peer h body =
 handling-first mode lacks answer Response s peer h body =
     let x = find (is_client h.session) s.clients in
     reply-first s.me x h body (client_row s.queued x peer h (length body))
+
+-- a packet for another life is dropped
+handled-first : (b : Bool) (x y : List Fact) → NoRun x → NoRun y → NoRun (cond b x y)
+handled-first true x y a c = a
+handled-first false x y a c = c
 
 -- a session's own request
 said-first : (taken : Bool) (me peer : ℕ) (head : List ℕ) → is_ran (control_fact taken me peer head).event ≡ false
@@ -208,14 +217,53 @@ each-later : (P : ℕ → Rel) → ((i : ℕ) → RunsLater (P i)) → (is : Lis
 each-later P p [] s x t h = rw h.0 refl
 each-later P p (i ∷ is) s x t h = then-later (P i) (Each P is) (p i) (each-later P p is) s x t h
 
+takes-later : RunsLater TakesControl
+takes-later s x t h = rw h.facts refl
+
+over-later : (me : ℕ) (queued : List Queued) (v : Server) → NoRun (session_end me queued (Some v))
+over-later me queued v =
+    no-join (session_flushes me queued v) (plain me (Ended v.way.number) ∷ [])
+    (no-flat (λ slot. flushes me queued v.way.number (find (in_slot_of slot) v.slots))
+    (λ slot. older-first me queued v.way.number (find (in_slot_of slot) v.slots))
+    (0 ∷ 1 ∷ 2 ∷ 3 ∷ 4 ∷ 5 ∷ 6 ∷ 7 ∷ [])) refl
+
+ends-later : (peer : ℕ) (h : ControlHeader) → RunsLater (EndsOutdated peer h)
+ends-later peer h s x t a = rw a.facts (over-later s.lists.me s.lists.queued a.server)
+
+control-first : (s : Lists) (peer : ℕ) (h : ControlHeader) (row : ControlRow) → NoRun (control_facts s peer h row)
+control-first s peer h Ends = named-first (named_end peer h.client h.from_life h.server s.servers)
+  where
+    named-first : (v : Option Server) → NoRun (session_end s.me s.queued v)
+    named-first None = refl
+    named-first (Some v) = over-later s.me s.queued v
+control-first s peer h _ = refl
+
+answer-first : (me peer : ℕ) (h : Option ControlHeader) (x : List Fact) → SpeaksIf me peer h x → NoRun x
+answer-first me peer None x a = rw a refl
+answer-first me peer (Some h) x a = speaks-first me peer h x a
+
+answers-later : (peer : ℕ) (h : ControlHeader) → RunsLater (AnswersControl peer h)
+answers-later peer h s x t a =
+    rw a.facts (no-join (control_facts s.lists peer h (control_row a.lacks peer h s.lists)) a.said
+    (control-first s.lists peer h (control_row a.lacks peer h s.lists))
+    (answer-first s.lists.me peer _ a.said a.speaks))
+
+hears-one : RunsLater Hears
+hears-one s x t h =
+    let peer = h.front.peer in
+    then-later TakesControl (Then (EndsAllOutdated peer h.header) (AnswersControl peer h.header)) takes-later
+    (then-later (EndsAllOutdated peer h.header) (AnswersControl peer h.header)
+    (until-later (EndsOutdated peer h.header) (λ t. outdated peer h.header t.lists ≡ None)
+    (ends-later peer h.header)) (answers-later peer h.header)) s x t h.steps
+
 pub hears-later : RunsLater HearsAll
-hears-later = until-later Hears (λ t. t.lists.inbox ≡ []) (λ s x t h. rw h.facts refl)
+hears-later = until-later Hears (λ t. t.lists.inbox ≡ []) hears-one
 
 pub handles-later : (mode : ℕ → Mode) → RunsLater (HandlesAll mode)
 handles-later mode =
     until-later (Handles mode) NoMoreToHandle
-    (λ s x t h. rw h.facts (handling-first mode h.lacks h.answer h.header.kind s.lists h.front.peer h.header
-    (body_of h.front.bytes)))
+    (λ s x t h. rw h.facts (handled-first (h.header.to_life == s.lists.life) _ _
+    (handling-first mode h.lacks h.answer h.header.kind s.lists h.front.peer h.header (body_of h.front.bytes)) refl))
 
 retries-later : (timeout i : ℕ) → RunsLater (Retries timeout i)
 retries-later timeout i s x t h =

@@ -1,26 +1,29 @@
 -- The next group of a run, by its facts.
-use Rattle.std.proofs.Common.{◌≡◌, ◌⊎◌, inl, inr, ℕ, Bool, true, false, List, [], ◌∷◌, ◌++◌}
+use Rattle.std.proofs.Common.{◌≡◌, ◌⊎◌, ◌+◌, inl, inr, ℕ, Bool, true, false, List, [], ◌∷◌, ◌++◌}
 use Rattle.std.proofs.Common.{refl, sym, ap, ◌∙◌, subst, append-nil, true≢false}
 use Rattle.std.specs.List.{AllByRecursion}
 use Rattle.rpc_base.specs.declared.event.Event.{Event}
-use Rattle.rpc_base.specs.declared.event.Event.TheVariants.{Polled}
+use Rattle.rpc_base.specs.declared.event.Event.TheVariants.{Polled, Restarted}
 use Rattle.rpc_base.specs.declared.fact.Fact.{Fact}
+use Rattle.rpc_base.specs.declared.limits.Limits.{Limits}
 use Rattle.rpc_laws.specs.declared.tables.Timed.{Timed}
 use Rattle.rpc_laws.specs.Facts.{plain}
-use Rattle.rpc_laws.specs.Lives.{first_life}
 use Rattle.rpc_laws.specs.NodeLists.{new_node}
+use Rattle.rpc_laws.specs.Endpoints.{begins_life}
+use Rattle.rpc_laws.specs.Service.{Serving}
 use Rattle.rpc_laws.specs.Steps.{Chain, more, none}
 use Rattle.rpc_outside.specs.declared.service.Mode.{Mode}
-use Rattle.node_laws.specs.NodeRun.{Group}
+use Rattle.node_laws.specs.NodeRun.{Group, LifeRun, lives_on, NodeRun, restarts}
 use Rattle.node_laws.specs.Valid.{Valid}
 use Rattle.node_laws.proofs.ValidLemmas.{valid_new}
-use Rattle.front_laws.specs.Laws.{IsOneGroup, OneFrontIsAPoll, OneGroupIsNext}
+use Rattle.front_laws.specs.Laws.{IsOneGroup, NoneBegins, OneFrontIsAPoll, OneGroupIsNext}
 use Rattle.front_laws.specs.Told.{left_by}
-use Rattle.front_laws.specs.Whole.{ends_open, is_polled, is_polls, open_after}
-use Rattle.front_laws.proofs.CutLemmas.{chain-valid, cut, open-append, two-ways, TwoWays, early, late}
+use Rattle.front_laws.specs.Whole.{ends_open, ends_poll, is_polls, open_after}
+use Rattle.front_laws.proofs.CutLemmas.{chain-valid, open-append, two-ways, TwoWays, early, late}
 use Rattle.front_laws.proofs.PollFacts.{AllPolls, poll-ending}
-use Rattle.front_laws.proofs.RunFronts.{run-front}
-use Rattle.front_laws.proofs.ToldLemmas.{chain-shut, chain-told, group-kind, IsQuiet, kind-some, poll-told, run-told}
+use Rattle.front_laws.proofs.RunFronts.{life-front, run-front}
+use Rattle.front_laws.proofs.ToldLemmas.{chain-shut, chain-told, group-kind, IsQuiet, kind-some, life-told, poll-told}
+use Rattle.front_laws.proofs.ToldLemmas.{run-told, told-next}
 
 -- the facts of one group, in a chain of groups, are one
 one-by : (mode : ℕ → Mode) (s : Timed) (z : List Fact) {w : List Fact} {t : Timed} → Valid s.lists
@@ -40,19 +43,81 @@ pub one-group : (mode : ℕ → Mode) (s : Timed) (z : List Fact) (t : Timed) �
     → Chain (Group mode) s z t → Group mode s z t
 one-group mode s z t v one c = one-by mode s z v one refl c
 
+-- the last facts of a run, which are those of one group of a life, are a group
+module _ (v : Serving) (me : ℕ) (limits : Limits) where
+  -- of a life that leaves the node as s before them
+  life-last : (life : ℕ) (z g y : List Fact) (s t : Timed) → LifeRun v me life limits z t → z ≡ g ++ y
+      → left_by (new_node me life limits) g ≡ s → ends_open false g ≡ false → IsOneGroup y
+      → Group v.mode s y t
+  life-last life z g y s t r e told whole one =
+      let parts = life-front v me life limits g y t
+      (subst (λ (w : List Fact). LifeRun v me life limits w t) e r) whole in
+      let valid = chain-valid v.mode (new_node me life limits) (valid_new me life limits) parts.run.steps in
+      let group = one-group v.mode parts.between y t valid one parts.rest in
+      let same : parts.between ≡ s = sym (life-told v me life limits g parts.between parts.run) ∙ told in
+      subst (λ (w : Timed). Group v.mode w y t) same group
+
+  -- a restart is none of them
+  quiet-next : (n : ℕ) (k y rest : List Fact) → NoneBegins y → y ≡ k ++ plain me (Restarted n) ∷ rest → ⊥
+  quiet-next n [] [] rest a e = cc
+  quiet-next n [] (f ∷ y) rest a e =
+      let same : f ≡ plain me (Restarted n) = cc in
+      true≢false (sym (ap (λ (w : Fact). begins_life w.event) same) ∙ a.0)
+  quiet-next n (h ∷ k) [] rest a e = cc
+  quiet-next n (h ∷ k) (f ∷ y) rest a e =
+      let tail : y ≡ k ++ plain me (Restarted n) ∷ rest = cc in quiet-next n k y rest a.1 tail
+
+  shut-next : (n : ℕ) (b : Bool) (k : List Fact) → ends_open b (plain me (Restarted n) ∷ k) ≡ ends_open false k
+  shut-next n true k = refl
+  shut-next n false k = refl
+
+  parts-last : (life : ℕ) (part rest g y : List Fact) (a s t : Timed) → LifeRun v me life limits part a
+      → ((k : List Fact) → rest ≡ k ++ y → left_by (new_node me (life + 1) limits) k ≡ s
+      → ends_open false k ≡ false → Group v.mode s y t)
+      → TwoWays part (plain me (Restarted (life + 1)) ∷ rest) g y
+      → left_by (new_node me life limits) g ≡ s → ends_open false g ≡ false → NoneBegins y
+      → Group v.mode s y t
+  parts-last life part rest g y a s t r later (late k e f) told whole quiet =
+      absurd (quiet-next (life + 1) k y rest quiet f)
+  parts-last life part rest g y a s t r later (early [] e f) told whole quiet =
+      absurd (quiet-next (life + 1) [] y rest quiet (sym f))
+  parts-last life part rest g y a s t r later (early (f ∷ k) e h) told whole quiet =
+      let same : plain me (Restarted (life + 1)) ≡ f = cc in
+      let tail : rest ≡ k ++ y = cc in
+      let next = plain me (Restarted (life + 1)) in
+      let is : g ≡ part ++ next ∷ k = e ∙ ap (λ (w : Fact). part ++ w ∷ k) (sym same) in
+      later k tail (sym (ap (left_by (new_node me life limits)) is ∙ told-next v me life limits part k a r) ∙ told)
+      (sym (ap (ends_open false) is ∙ (open-append false part (next ∷ k)
+      ∙ shut-next (life + 1) (ends_open false part) k)) ∙ whole)
+
+  run-last : (life : ℕ) (z g y : List Fact) (s t : Timed) → NodeRun v me limits life z t → z ≡ g ++ y
+      → left_by (new_node me life limits) g ≡ s → ends_open false g ≡ false → IsOneGroup y → NoneBegins y
+      → Group v.mode s y t
+  run-last life z g y s t (lives_on w x u r) e told whole one quiet = life-last life z g y s t r e told whole one
+  run-last life z g y s t (restarts w part rest a u r next) e told whole one quiet =
+      parts-last life part rest g y a s t r
+      (λ k f was outside. run-last (life + 1) rest k y s t next f was outside one quiet)
+      (two-ways part (plain me (Restarted (life + 1)) ∷ rest) g y e) told whole quiet
+
+-- a run ends outside of a poll
+pub run-shut : (v : Serving) (me : ℕ) (limits : Limits) {life : ℕ} {g : List Fact} {t : Timed}
+    → NodeRun v me limits life g t → ends_open false g ≡ false
+run-shut v me limits (lives_on life g t r) = chain-shut v.mode (new_node me life limits) r.steps
+run-shut v me limits (restarts life part rest s t r next) =
+    open-append false part (plain me (Restarted (life + 1)) ∷ rest)
+    ∙ (shut-next v me limits (life + 1) (ends_open false part) rest ∙ run-shut v me limits next)
+
 pub group-next : OneGroupIsNext
-group-next v me limits g y x s t r h one =
-    let valid = chain-valid v.mode (new_node me first_life limits) (valid_new me limits) r.steps in
-    let front = run-front v me limits g (y ++ x) t h (chain-shut v.mode (new_node me first_life limits) r.steps) in
-    let same : front.between ≡ s =
-    sym (run-told v me limits g front.between front.run) ∙ run-told v me limits g s r in
-    let rest : Chain (Group v.mode) s (y ++ x) t =
-    subst (λ (w : Timed). Chain (Group v.mode) w (y ++ x) t) same front.rest in
-    let split = cut v.mode s y x valid rest refl one.shut in
+group-next v me life limits g y x s t r h one quiet =
+    let outside = run-shut v me limits r in
+    let both : ends_open false (g ++ y) ≡ false =
+    open-append false g y ∙ (ap (λ (b : Bool). ends_open b y) outside ∙ one.shut) in
+    let front = run-front v me life limits (g ++ y) x t h both in
     record {
-      after = split.between;
-      group = one-group v.mode s y split.between valid one split.first;
-      rest = split.second;
+      after = front.left;
+      group = run-last v me limits life (g ++ y) g y s front.left front.run refl
+          (run-told v me life limits g s r) outside one quiet;
+      run = front.run;
     }
 
 -- one event that no poll makes is a group
@@ -110,12 +175,12 @@ last-parts f x a b e = by (two-ways x (f ∷ []) a b e)
             longer : f ∷ [] ≡ w ∷ c ∷ k ++ b → ⊥
             longer e = cc
 
-polled-shut : (b : Bool) (f : Fact) → is_polls f.event ≡ false → is_polled f.event ≡ true
+polled-shut : (b : Bool) (f : Fact) → is_polls f.event ≡ false → ends_poll f.event ≡ true
     → ends_open b (f ∷ []) ≡ false
 polled-shut true f p q = rw (p, q) refl
 polled-shut false f p q = rw p refl
 
-pub one-poll : (x : List Fact) (f : Fact) → AreOpen x → is_polls f.event ≡ false → is_polled f.event ≡ true
+pub one-poll : (x : List Fact) (f : Fact) → AreOpen x → is_polls f.event ≡ false → ends_poll f.event ≡ true
     → IsOneGroup (x ++ f ∷ [])
 one-poll x f a p q = record {
   some = λ e. longer x e;

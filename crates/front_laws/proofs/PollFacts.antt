@@ -45,10 +45,11 @@ use Rattle.rpc_laws.specs.declared.tables.Timed.{Timed}
 use Rattle.rpc_laws.proofs.RunLemmas.{me-after_all}
 use Rattle.rpc_laws.specs.Calls.{is_active, is_call}
 use Rattle.rpc_laws.specs.ClientTable.{call_ending, client_ending, end_facts, progress_ending, reply_facts}
-use Rattle.rpc_laws.specs.ControlSteps.{control_fact, given_up, Hears, HearsAll, own_request, Retries}
-use Rattle.rpc_laws.specs.ControlSteps.{RetriesAs, RetriesBy, RetriesOf, retry_row, Speaks, SpeaksIf}
-use Rattle.rpc_laws.specs.ControlSteps.{TimesAll, TimesSession}
-use Rattle.rpc_laws.specs.ControlTable.{control_facts, control_row, named_end, session_end, session_flushes}
+use Rattle.rpc_laws.specs.ControlSteps.{AnswersControl, control_fact, EndsAllOutdated, EndsOutdated, given_up}
+use Rattle.rpc_laws.specs.ControlSteps.{Hears, HearsAll, own_request, Retries, RetriesAs, RetriesBy, RetriesOf}
+use Rattle.rpc_laws.specs.ControlSteps.{retry_row, Speaks, SpeaksIf, TakesControl, TimesAll, TimesSession}
+use Rattle.rpc_laws.specs.ControlTable.{control_facts, control_row, named_end, outdated, session_end}
+use Rattle.rpc_laws.specs.ControlTable.{session_flushes}
 use Rattle.rpc_laws.specs.Facts.{plain}
 use Rattle.rpc_laws.specs.GoBackN.{call_facts, client_facts, Each, flushes_of, numbers_in, progress_facts}
 use Rattle.rpc_laws.specs.GoBackN.{row_facts, Watches, WatchesSession}
@@ -246,7 +247,7 @@ control-polls s peer h (Confirms t credits) = tt
 control-polls s peer h Declines = ((refl, refl), tt)
 control-polls s peer h Starves = ((refl, refl), tt)
 control-polls s peer h (Accepts t) = ((refl, refl), tt)
-control-polls s peer h Ends = session-polls s.me s.queued (named_end peer h.client h.server s.servers)
+control-polls s peer h Ends = session-polls s.me s.queued (named_end peer h.client h.from_life h.server s.servers)
 control-polls s peer h Misses = tt
 control-polls s peer h (Connects t) = ((refl, refl), tt)
 control-polls s peer h Disowns = tt
@@ -379,19 +380,32 @@ finishes-polls n s x t m h =
     goes-polls n s x t m f.goes
     (rw f.facts ((refl, refl), posted-polls s.lists.me f.job (awaited f.job s.lists.servers)))
 
+takes-polls : OnlyPolls TakesControl
+takes-polls n s x t m h = goes-polls n s x t m h.goes (rw h.facts ((refl, refl), tt))
+
+ends-polls : (peer : ℕ) (h : ControlHeader) → OnlyPolls (EndsOutdated peer h)
+ends-polls peer h n s x t m a =
+    goes-polls n s x t m a.goes (rw a.facts (session-polls s.lists.me s.lists.queued (Some a.server)))
+
+answers-polls : (peer : ℕ) (h : ControlHeader) → OnlyPolls (AnswersControl peer h)
+answers-polls peer h n s x t m a =
+    goes-polls n s x t m a.goes (rw a.facts (all-joined s.lists.me _ _
+    (control-polls s.lists peer h (control_row a.lacks peer h s.lists))
+    (said-polls s.lists.me peer _ a.said a.speaks)))
+
 hears-polls : OnlyPolls Hears
 hears-polls n s x t m h =
-    goes-polls n s x t m h.goes (rw h.facts (
-      (refl, refl),
-      all-joined s.lists.me _ _
-          (control-polls s.lists h.front.peer h.header (control_row h.lacks h.front.peer h.header s.lists))
-          (said-polls s.lists.me h.front.peer _ h.said h.speaks),
-    ))
+    let peer = h.front.peer in
+    then-polls TakesControl (Then (EndsAllOutdated peer h.header) (AnswersControl peer h.header)) takes-polls
+    (then-polls (EndsAllOutdated peer h.header) (AnswersControl peer h.header)
+    (until-polls (EndsOutdated peer h.header) (λ t. outdated peer h.header t.lists ≡ None)
+    (ends-polls peer h.header)) (answers-polls peer h.header)) n s x t m h.steps
 
 handles-polls : (mode : ℕ → Mode) → OnlyPolls (Handles mode)
 handles-polls mode n s x t m h =
-    goes-polls n s x t m h.goes (rw h.facts (handling-polls mode h.lacks h.answer h.header.kind s.lists
-    h.front.peer h.header (body_of h.front.bytes)))
+    goes-polls n s x t m h.goes (rw h.facts (all-if s.lists.me (h.header.to_life == s.lists.life) _ _
+    (handling-polls mode h.lacks h.answer h.header.kind s.lists h.front.peer h.header (body_of h.front.bytes))
+    ((refl, refl), tt)))
 
 retries-polls : (timeout i : ℕ) → OnlyPolls (Retries timeout i)
 retries-polls timeout i n s x t m h =

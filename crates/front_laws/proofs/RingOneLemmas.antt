@@ -25,7 +25,7 @@ use Rattle.rpc_laws.specs.declared.tables.Server.{Server}
 use Rattle.rpc_laws.specs.declared.tables.Served.{Served}
 use Rattle.rpc_laws.specs.Facts.{plain, with_two}
 use Rattle.rpc_laws.specs.Jobs.{are_full}
-use Rattle.rpc_laws.specs.PollOrder.{Handles, HandlesAll, handling_by, NoMoreToHandle}
+use Rattle.rpc_laws.specs.PollOrder.{handled, Handles, HandlesAll, handling_by, NoMoreToHandle}
 use Rattle.rpc_laws.specs.Queues.{numbers_of}
 use Rattle.rpc_laws.specs.Requests.{in_slot_of, is_server}
 use Rattle.rpc_laws.specs.ServerTable.{brings, flushes, flushes_older, is_last, is_mismatch, is_past_end, is_rfr}
@@ -224,17 +224,24 @@ handling-one mode Rfr j l a b s peer h body r q e =
 handling-one mode Cr j l a b s peer h body r q e = refl
 handling-one mode Response j l a b s peer h body r q e = refl
 
+-- a packet for another life is dropped
+handled-by : (b : Bool) (w x y r q : List Fact) → (x ++ r ≡ y ++ q → x ≡ y)
+    → cond b x w ++ r ≡ cond b y w ++ q → cond b x w ≡ cond b y w
+handled-by true w x y r q p e = p e
+handled-by false w x y r q p e = refl
+
 record HandlesAs (mode : ℕ → Mode) (s : Lists) (front : Arrival) (header : MessageHeader) (x : List Fact) : Type 0 where
   lacks : Bool
   answer : List ℕ
-  facts : x ≡ handling_by mode lacks answer header.kind s front.peer header (body_of front.bytes)
+  facts : x ≡ handled mode lacks answer s front.peer header (body_of front.bytes)
 
 as-one : (mode : ℕ → Mode) (s : Lists) (front : Arrival) (header : MessageHeader) (x y r q : List Fact)
     → HandlesAs mode s front header x → HandlesAs mode s front header y → x ++ r ≡ y ++ q → x ≡ y
 as-one mode s front header x y r q a b e =
     let both = ap (λ (z : List Fact). z ++ r) (sym a.facts) ∙ (e ∙ ap (λ (z : List Fact). z ++ q) b.facts) in
-    a.facts ∙ (handling-one mode header.kind a.lacks b.lacks a.answer b.answer s front.peer header
-    (body_of front.bytes) r q both ∙ sym b.facts)
+    a.facts ∙ (handled-by (header.to_life == s.life) _ _ _ r q
+    (handling-one mode header.kind a.lacks b.lacks a.answer b.answer s front.peer header
+    (body_of front.bytes) r q) both ∙ sym b.facts)
 
 handles-one : (mode : ℕ → Mode) → OneWay (Handles mode)
 handles-one mode s x y r q t u h k e =

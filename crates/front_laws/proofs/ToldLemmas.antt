@@ -1,8 +1,8 @@
 -- A run leaves its node as its facts tell: so two runs of one node with the same facts leave it in one state.
-use Rattle.std.proofs.Common.{◌≡◌, inl, inr, ℕ, Bool, true, false, cond, ◌&&◌, ◌||◌, not, List, [], ◌∷◌, ◌++◌}
+use Rattle.std.proofs.Common.{◌≡◌, ◌+◌, inl, inr, ℕ, Bool, true, false, cond, ◌&&◌, ◌||◌, not, List, [], ◌∷◌, ◌++◌}
 use Rattle.std.proofs.Common.{Option, Some, None, refl, sym, ap, ◌∙◌, subst, true≢false}
 use Rattle.rpc_base.specs.declared.event.Event.{Event}
-use Rattle.rpc_base.specs.declared.event.Event.TheVariants.{Polled}
+use Rattle.rpc_base.specs.declared.event.Event.TheVariants.{Given, Polled, Ran, Restarted}
 use Rattle.rpc_base.specs.declared.fact.Fact.{Fact}
 use Rattle.rpc_base.specs.declared.limits.Limits.{Limits}
 use Rattle.std.proofs.Common.{length}
@@ -25,27 +25,31 @@ use Rattle.rpc_laws.specs.Sessions.{is_client, is_connected, is_live}
 use Rattle.node_laws.specs.NodeRun.{asks, connects, delivers, disconnects, misses, Notes, pairs_client}
 use Rattle.node_laws.specs.NodeRun.{pairs_server, polls, Refuses, refuses, sets_rate, works}
 use Rattle.front_laws.proofs.CutLemmas.{open-append}
+use Rattle.rpc_laws.specs.declared.tables.Jobs.{Jobs}
 use Rattle.rpc_laws.specs.declared.tables.Lists.{Lists}
+use Rattle.rpc_laws.specs.declared.tables.Server.{Server}
 use Rattle.rpc_laws.specs.declared.tables.Timed.{Timed}
 use Rattle.rpc_laws.specs.Facts.{plain, with_bytes}
-use Rattle.rpc_laws.specs.Lives.{first_life}
-use Rattle.rpc_laws.specs.NodeLists.{after, after_all, new_node}
+use Rattle.rpc_laws.specs.Endpoints.{begins_life}
+use Rattle.rpc_laws.specs.Jobs.{jobs_after}
+use Rattle.rpc_laws.specs.NodeLists.{after, after_all, limits_of, new_node, restarted}
 use Rattle.rpc_laws.specs.Steps.{Chain, Goes, more, none}
 use Rattle.rpc_laws.specs.Service.{Serving}
 use Rattle.rpc_outside.specs.declared.service.Mode.{Mode}
-use Rattle.node_laws.specs.NodeRun.{Group, NodeRun}
+use Rattle.node_laws.specs.NodeRun.{Group, LifeRun, lives_on, NodeRun, restarts}
 use Rattle.node_laws.specs.Valid.{Valid}
-use Rattle.node_laws.proofs.RunLaws.{poll-lawful}
+use Rattle.node_laws.proofs.RunLaws.{group-lawful, poll-lawful}
 use Rattle.node_laws.proofs.ValidLemmas.{valid_new}
-use Rattle.front_laws.specs.Told.{left_by, polled_clock, told_clock}
-use Rattle.front_laws.specs.Whole.{ends_open, is_polled, is_polls, open_after}
+use Rattle.front_laws.specs.Laws.{FactsTellTheState}
+use Rattle.front_laws.specs.Told.{left_at, left_by, polled_clock, told_clock}
+use Rattle.front_laws.specs.Whole.{ends_open, ends_poll, is_polls, open_after}
 use Rattle.front_laws.proofs.CutLemmas.{chain-valid}
 use Rattle.front_laws.proofs.PollFacts.{AllPolls, poll-ending}
 
 -- an event that no poll makes
 pub record IsQuiet (e : Event) : Type 0 where
   pub polls : is_polls e ≡ false
-  pub polled : is_polled e ≡ false
+  pub polled : ends_poll e ≡ false
 
 -- what is noted at once: one or two events that no poll makes, or a poll
 pub data Kind (mode : ℕ → Mode) (s : Timed) (x : List Fact) (t : Timed) : Type 0 where
@@ -132,9 +136,9 @@ refuses-quiet credits e s (inr r) =
     refused-quiet (servers_spent s.lists) (has_no_room credits s.lists) (shares s.lists) credits s.lists.room e r
 
 pub group-kind : (mode : ℕ → Mode) (s : Timed) (x : List Fact) (t : Timed) → Group mode s x t → Kind mode s x t
-group-kind mode s x t (pairs_client peer server credits may h) =
+group-kind mode s x t (pairs_client peer server credits life may h) =
     notes-kind mode _ s x t (record { polls = refl; polled = refl }) h
-group-kind mode s x t (pairs_server peer client credits may h) =
+group-kind mode s x t (pairs_server peer client credits life may h) =
     notes-kind mode _ s x t (record { polls = refl; polled = refl }) h
 group-kind mode s x t (refuses credits few e r h) = notes-kind mode e s x t (refuses-quiet credits e s r) h
 group-kind mode s x t (connects peer credits rate few h) =
@@ -162,7 +166,7 @@ group-kind mode s x t (misses i h) = notes-kind mode _ s x t (record { polls = r
 -- where a poll is open the clock of the first fact is told by what comes, if that doesn't leave it open
 clock-by : (clock : ℕ) (f : Fact) (x y : List Fact) (b : Bool)
     → (ends_open true x ≡ false → told_clock clock (x ++ y) ≡ told_clock clock x)
-    → ends_open (b || (true && not (is_polled f.event))) x ≡ false
+    → ends_open (b || (true && not (ends_poll f.event))) x ≡ false
     → cond b (told_clock clock (x ++ y)) (polled_clock clock f.event)
     ≡ cond b (told_clock clock x) (polled_clock clock f.event)
 clock-by clock f x y true ih e = ih e
@@ -184,16 +188,28 @@ head-by clock f x y false busy e = refl
 abbrev next : Timed → Fact → ℕ → Timed
 next s f now = record { lists = after now s.lists f; clock = now }
 
+-- at such a fact the life goes on
+left-on : (s : Timed) (f : Fact) (now : ℕ) → begins_life f.event ≡ false → left_at now s f ≡ next s f now
+left-on s f now h = rw h refl
+
+polls-on : (e : Event) → is_polls e ≡ true → begins_life e ≡ false
+polls-on (Restarted life) h = absurd (true≢false (sym h))
+polls-on _ h = refl
+
+pub quiet-on : (e : Event) → ends_poll e ≡ false → begins_life e ≡ false
+quiet-on (Restarted life) h = absurd (true≢false h)
+quiet-on _ h = refl
+
 pub left-append : (s : Timed) (busy : Bool) (x y : List Fact) → ends_open busy x ≡ false
     → left_by s (x ++ y) ≡ left_by (left_by s x) y
 left-append s busy [] y e = refl
 left-append s busy (f ∷ x) y e =
-    ap (λ (now : ℕ). left_by (next s f now) (x ++ y))
-    (head-by s.clock f x y (is_polls f.event) (busy && not (is_polled f.event)) e)
-    ∙ left-append (next s f (told_clock s.clock (f ∷ x))) (open_after f.event busy) x y e
+    ap (λ (now : ℕ). left_by (left_at now s f) (x ++ y))
+    (head-by s.clock f x y (is_polls f.event) (busy && not (ends_poll f.event)) e)
+    ∙ left-append (left_at (told_clock s.clock (f ∷ x)) s f) (open_after f.event busy) x y e
 
 -- an event that no poll makes happens at the clock of its node
-quiet-clock : (clock : ℕ) (e : Event) → is_polled e ≡ false → polled_clock clock e ≡ clock
+quiet-clock : (clock : ℕ) (e : Event) → ends_poll e ≡ false → polled_clock clock e ≡ clock
 quiet-clock clock (Polled now) h = absurd (true≢false h)
 quiet-clock clock _ h = refl
 
@@ -211,7 +227,8 @@ poll-left : (n now : ℕ) (s : Timed) (x : List Fact) → AllPolls n x
     ≡ record { lists = after_all now s.lists (x ++ plain n (Polled now) ∷ []); clock = now }
 poll-left n now s [] a = refl
 poll-left n now s (f ∷ x) a =
-    ap (λ (c : ℕ). left_by (next s f c) (x ++ plain n (Polled now) ∷ [])) (ends-clock n s.clock now (f ∷ x) a)
+    ap (λ (c : ℕ). left_by (left_at c s f) (x ++ plain n (Polled now) ∷ [])) (ends-clock n s.clock now (f ∷ x) a)
+    ∙ ap (λ (w : Timed). left_by w (x ++ plain n (Polled now) ∷ [])) (left-on s f now (polls-on f.event a.0.1))
     ∙ poll-left n now (next s f now) x a.1
 
 pub poll-told : (mode : ℕ → Mode) (now : ℕ) (s : Timed) (x : List Fact) (t : Timed) → Valid s.lists
@@ -231,16 +248,19 @@ pub kind-told : (mode : ℕ → Mode) (s : Timed) (x : List Fact) (t : Timed) �
     → left_by s x ≡ t
 kind-told mode s x t v (alone f q e g) =
     let one : left_by s (f ∷ []) ≡ record { lists = after s.clock s.lists f; clock = s.clock } =
-    ap (λ (c : ℕ). next s f c) (told-quiet s.clock f [] q) in
+    ap (λ (c : ℕ). left_at c s f) (told-quiet s.clock f [] q)
+    ∙ left-on s f s.clock (quiet-on f.event q.polled) in
     ap (left_by s) e ∙ (one ∙ (sym (ap (λ (z : List Fact). record {
       lists = after_all s.clock s.lists z;
       clock = s.clock;
     }) e) ∙ sym g))
 kind-told mode s x t v (two f h q r e g) =
     let one : left_by s (f ∷ h ∷ []) ≡ left_by (next s f s.clock) (h ∷ []) =
-    ap (λ (c : ℕ). left_by (next s f c) (h ∷ [])) (told-quiet s.clock f (h ∷ []) q) in
+    ap (λ (c : ℕ). left_by (left_at c s f) (h ∷ [])) (told-quiet s.clock f (h ∷ []) q)
+    ∙ ap (λ (w : Timed). left_by w (h ∷ [])) (left-on s f s.clock (quiet-on f.event q.polled)) in
     let last : left_by (next s f s.clock) (h ∷ []) ≡ next (next s f s.clock) h s.clock =
-    ap (λ (c : ℕ). next (next s f s.clock) h c) (told-quiet s.clock h [] r) in
+    ap (λ (c : ℕ). left_at c (next s f s.clock) h) (told-quiet s.clock h [] r)
+    ∙ left-on (next s f s.clock) h s.clock (quiet-on h.event r.polled) in
     ap (left_by s) e ∙ (one ∙ (last ∙ (sym (ap (λ (z : List Fact). record {
       lists = after_all s.clock s.lists z;
       clock = s.clock;
@@ -289,7 +309,75 @@ chain-told mode s v (more {x} {t} c y u p) =
     ∙ (ap (λ (w : Timed). left_by w y) (chain-told mode s v c)
     ∙ kind-told mode t y u (chain-valid mode s v c) (group-kind mode t y u p))
 
--- a run leaves its node as its facts tell
-pub run-told : (v : Serving) (me : ℕ) (limits : Limits) (g : List Fact) (t : Timed) → NodeRun v me limits g t
-    → left_by (new_node me first_life limits) g ≡ t
-run-told v me limits g t r = chain-told v.mode (new_node me first_life limits) (valid_new me limits) r.steps
+-- a life leaves its node as its facts tell
+pub life-told : (v : Serving) (me life : ℕ) (limits : Limits) (g : List Fact) (t : Timed)
+    → LifeRun v me life limits g t → left_by (new_node me life limits) g ≡ t
+life-told v me life limits g t r =
+    chain-told v.mode (new_node me life limits) (valid_new me life limits) r.steps
+
+-- and with the number, the life and the limits that it was made with
+limit-stays : (e : Event) (servers : List Server) (jobs : Jobs) → (jobs_after e servers jobs).limit ≡ jobs.limit
+limit-stays (Given t r) servers jobs = refl
+limit-stays (Ran t r y) servers jobs = refl
+limit-stays _ servers jobs = refl
+
+record Stays (l k : Lists) : Type 0 where
+  me : l.me ≡ k.me
+  life : l.life ≡ k.life
+  limits : limits_of l ≡ limits_of k
+
+all-stays : (clock : ℕ) (l : Lists) (x : List Fact) → Stays (after_all clock l x) l
+all-stays clock l [] = record { me = refl; life = refl; limits = refl }
+all-stays clock l (f ∷ x) =
+    let rest = all-stays clock (after clock l f) x in
+    record {
+      me = rest.me;
+      life = rest.life;
+      limits = rest.limits ∙ ap (λ (k : ℕ). record { ring = l.room; jobs = k; timeout = l.timeout })
+          (limit-stays f.event l.servers l.jobs);
+    }
+
+group-stays : (mode : ℕ → Mode) (s : Timed) (x : List Fact) (t : Timed) → Valid s.lists → Group mode s x t
+    → Stays t.lists s.lists
+group-stays mode s x t v p =
+    let l = group-lawful mode s x t v p in
+    rw (l.leads.lists) (all-stays l.clock s.lists x)
+
+chain-stays : (mode : ℕ → Mode) (s : Timed) {x : List Fact} {t : Timed} → Valid s.lists
+    → Chain (Group mode) s x t → Stays t.lists s.lists
+chain-stays mode s v none = record { me = refl; life = refl; limits = refl }
+chain-stays mode s v (more {x} {t} c y u p) =
+    let before = chain-stays mode s v c in
+    let last = group-stays mode t y u (chain-valid mode s v c) p in
+    record { me = last.me ∙ before.me; life = last.life ∙ before.life; limits = last.limits ∙ before.limits }
+
+-- so a node that is restarted is a new one, in the next life
+pub life-next : (v : Serving) (me life : ℕ) (limits : Limits) (g : List Fact) (t : Timed)
+    → LifeRun v me life limits g t → restarted t ≡ new_node me (life + 1) limits
+life-next v me life limits g t r =
+    let k = chain-stays v.mode (new_node me life limits) (valid_new me life limits) r.steps in
+    ap (λ (m : ℕ). new_node m (t.lists.life + 1) (limits_of t.lists)) k.me
+    ∙ (ap (λ (w : ℕ). new_node me (w + 1) (limits_of t.lists)) k.life
+    ∙ ap (λ (w : Limits). new_node me (life + 1) w) k.limits)
+
+-- what comes after a life and a restart
+pub told-next : (v : Serving) (me life : ℕ) (limits : Limits) (part rest : List Fact) (s : Timed)
+    → LifeRun v me life limits part s
+    → left_by (new_node me life limits) (part ++ plain me (Restarted (life + 1)) ∷ rest)
+    ≡ left_by (new_node me (life + 1) limits) rest
+told-next v me life limits part rest s r =
+    left-append (new_node me life limits) false part (plain me (Restarted (life + 1)) ∷ rest)
+    (chain-shut v.mode (new_node me life limits) r.steps)
+    ∙ (ap (λ (w : Timed). left_by w (plain me (Restarted (life + 1)) ∷ rest))
+    (life-told v me life limits part s r)
+    ∙ ap (λ (w : Timed). left_by w rest) (life-next v me life limits part s r))
+
+-- so a run leaves its node as its facts tell
+told-by : (v : Serving) (me : ℕ) (limits : Limits) (life : ℕ) (g : List Fact) (t : Timed)
+    → NodeRun v me limits life g t → left_by (new_node me life limits) g ≡ t
+told-by v me limits life g t (lives_on w x u r) = life-told v me life limits g t r
+told-by v me limits life g t (restarts w part rest s u r later) =
+    told-next v me life limits part rest s r ∙ told-by v me limits (life + 1) rest t later
+
+pub run-told : FactsTellTheState
+run-told v me life limits g t r = told-by v me limits life g t r

@@ -1,37 +1,51 @@
 -- The laws of fronts, of every run of a node.
 use Rattle.std.specs.Prelude.{ℕ, ◌≡◌, ◌⊎◌, false, List, [], ◌++◌}
+use Rattle.std.specs.List.{AllByRecursion}
 use Rattle.rpc_base.specs.declared.fact.Fact.{Fact}
 use Rattle.rpc_base.specs.declared.limits.Limits.{Limits}
 use Rattle.rpc_outside.specs.declared.service.Mode.{Mode}
 use Rattle.rpc_laws.specs.declared.tables.Timed.{Timed}
-use Rattle.rpc_laws.specs.Lives.{first_life}
+use Rattle.rpc_laws.specs.Endpoints.{begins_life}
 use Rattle.rpc_laws.specs.NodeLists.{new_node}
 use Rattle.rpc_laws.specs.PollOrder.{Poll}
 use Rattle.rpc_laws.specs.Service.{Serving}
 use Rattle.rpc_laws.specs.Steps.{Chain}
-use Rattle.node_laws.specs.NodeRun.{Group, NodeRun}
+use Rattle.node_laws.specs.NodeRun.{Group, LifeRun, NodeRun}
 use Rattle.node_laws.specs.Valid.{Valid}
 use Rattle.front_laws.specs.Told.{left_by}
 use Rattle.front_laws.specs.Whole.{ends_open}
 
--- a front of a run is a run, and what comes after it are groups
-pub record Parts (v : Serving) (me : ℕ) (limits : Limits) (g x : List Fact) (t : Timed)
+-- a front of a life is such a life, and what comes after it are groups
+pub record Parts (v : Serving) (me life : ℕ) (limits : Limits) (g x : List Fact) (t : Timed)
     : Type 0 where
   pub between : Timed
-  pub run : NodeRun v me limits g between
+  pub run : LifeRun v me life limits g between
   pub rest : Chain (Group v.mode) between x t
 
--- a run is cut wherever its node isn't in the midst of a poll
+-- a life is cut wherever its node isn't in the midst of a poll
+abbrev pub LivesAreCut : Type 0
+LivesAreCut =
+    (v : Serving) (me life : ℕ) (limits : Limits) (g x : List Fact) (t : Timed)
+    → LifeRun v me life limits (g ++ x) t → ends_open false g ≡ false
+    → Parts v me life limits g x t
+
+-- these facts are a run, which leaves its node somehow
+pub record IsFront (v : Serving) (me life : ℕ) (limits : Limits) (g : List Fact) : Type 0 where
+  pub left : Timed
+  pub run : NodeRun v me limits life g left
+
+-- and so is a run: each such front of it is one
 abbrev pub RunsAreCut : Type 0
 RunsAreCut =
-    (v : Serving) (me : ℕ) (limits : Limits) (g x : List Fact) (t : Timed)
-    → NodeRun v me limits (g ++ x) t → ends_open false g ≡ false → Parts v me limits g x t
+    (v : Serving) (me life : ℕ) (limits : Limits) (g x : List Fact) (t : Timed)
+    → NodeRun v me limits life (g ++ x) t → ends_open false g ≡ false
+    → IsFront v me life limits g
 
 -- a run leaves its node as its facts tell
 abbrev pub FactsTellTheState : Type 0
 FactsTellTheState =
-    (v : Serving) (me : ℕ) (limits : Limits) (g : List Fact) (t : Timed)
-    → NodeRun v me limits g t → left_by (new_node me first_life limits) g ≡ t
+    (v : Serving) (me life : ℕ) (limits : Limits) (g : List Fact) (t : Timed)
+    → NodeRun v me limits life g t → left_by (new_node me life limits) g ≡ t
 
 -- the same facts, which leave the same state
 pub record Same (x y : List Fact) (t u : Timed) : Type 0 where
@@ -51,15 +65,20 @@ pub record IsOneGroup (x : List Fact) : Type 0 where
   pub shut : ends_open false x ≡ false
   pub alone : (a b : List Fact) → x ≡ a ++ b → ends_open false a ≡ false → (a ≡ []) ⊎ (b ≡ [])
 
--- the next group of a run
-pub record Next (v : Serving) (s : Timed) (y x : List Fact) (t : Timed) : Type 0 where
+-- no life begins at any of these facts
+abbrev pub NoneBegins : List Fact → Type 0
+NoneBegins y = AllByRecursion (λ f. begins_life f.event ≡ false) y
+
+-- the next group of a run: with it the facts are a run too
+pub record Next (v : Serving) (me life : ℕ) (limits : Limits) (g : List Fact) (s : Timed)
+    (y : List Fact) : Type 0 where
   pub after : Timed
   pub group : Group v.mode s y after
-  pub rest : Chain (Group v.mode) after x t
+  pub run : NodeRun v me limits life (g ++ y) after
 
--- where a run goes on with such facts they are its next group
+-- where a run goes on with such facts, of one life, they are its next group
 abbrev pub OneGroupIsNext : Type 0
 OneGroupIsNext =
-    (v : Serving) (me : ℕ) (limits : Limits) (g y x : List Fact) (s t : Timed)
-    → NodeRun v me limits g s → NodeRun v me limits (g ++ (y ++ x)) t → IsOneGroup y
-    → Next v s y x t
+    (v : Serving) (me life : ℕ) (limits : Limits) (g y x : List Fact) (s t : Timed)
+    → NodeRun v me limits life g s → NodeRun v me limits life ((g ++ y) ++ x) t → IsOneGroup y
+    → NoneBegins y → Next v me life limits g s y

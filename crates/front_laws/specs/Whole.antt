@@ -9,6 +9,7 @@ use Rattle.rpc_base.specs.declared.event.Event.TheVariants.{DonePeerLost, Accept
 use Rattle.rpc_base.specs.declared.event.Event.TheVariants.{Starved, Connected, FailedNoRoom}
 use Rattle.rpc_base.specs.declared.event.Event.TheVariants.{FailedNoAnswer, ClosedHeard}
 use Rattle.rpc_base.specs.declared.event.Event.TheVariants.{ClosedUnheard, Ended, Broken, Polled}
+use Rattle.rpc_base.specs.declared.event.Event.TheVariants.{Restarted}
 use Rattle.rpc_base.specs.declared.fact.Fact.{Fact}
 use Rattle.rpc_laws.specs.AtMostOnce.{is_at}
 
@@ -29,10 +30,10 @@ is_polls (Rolled call posted got) = true
 is_polls (DoneOk call) = true
 is_polls (DoneTooSmall call size) = true
 is_polls (DonePeerLost call) = true
-is_polls (Accepted session peer client credits) = true
+is_polls (Accepted session peer client credits life) = true
 is_polls (Declined peer client credits) = true
 is_polls (Starved peer client credits) = true
-is_polls (Connected session server) = true
+is_polls (Connected session server life) = true
 is_polls (FailedNoRoom session) = true
 is_polls (FailedNoAnswer session) = true
 is_polls (ClosedHeard session) = true
@@ -41,14 +42,15 @@ is_polls (Ended session) = true
 is_polls (Broken session) = true
 is_polls _ = false
 
--- the event that ends a poll
-abbrev pub is_polled : Event → Bool
-is_polled (Polled now) = true
-is_polled _ = false
+-- an event after which no poll is open: the one that ends it, and the one that begins a life
+abbrev pub ends_poll : Event → Bool
+ends_poll (Polled now) = true
+ends_poll (Restarted life) = true
+ends_poll _ = false
 
 -- whether a node is in the midst of a poll, after an event of it
 abbrev pub open_after : Event → Bool → Bool
-open_after event busy = is_polls event || (busy && not (is_polled event))
+open_after event busy = is_polls event || (busy && not (ends_poll event))
 
 -- and after some facts
 abbrev pub is_open : ℕ → Bool → List Fact → Bool

@@ -256,18 +256,18 @@ later-same : (n : ℕ) (x : Client) (o p : Option Client) (b : Bool)
 later-same n x o p true e = refl
 later-same n x o p false e = e
 
-new-none : (n : ℕ) (s peer t credits : ℕ) (b : Bool)
-    → accounts_of n (cond b (Some (client_end s peer t credits)) None) ≡ []
-new-none n s peer t credits true = refl
-new-none n s peer t credits false = refl
+new-none : (n : ℕ) (s peer t credits life : ℕ) (b : Bool)
+    → accounts_of n (cond b (Some (client_end s peer t credits life)) None) ≡ []
+new-none n s peer t credits life true = refl
+new-none n s peer t credits life false = refl
 
-made-calls : (n s peer t credits : ℕ) (xs : List Client)
-    → accounts_of n (find (is_client n) (xs ++ client_end s peer t credits ∷ []))
+made-calls : (n s peer t credits life : ℕ) (xs : List Client)
+    → accounts_of n (find (is_client n) (xs ++ client_end s peer t credits life ∷ []))
     ≡ accounts_of n (find (is_client n) xs)
-made-calls n s peer t credits [] = new-none n s peer t credits (s == n)
-made-calls n s peer t credits (x ∷ xs) =
-    later-same n x (find (is_client n) (xs ++ client_end s peer t credits ∷ []))
-    (find (is_client n) xs) (is_client n x) (made-calls n s peer t credits xs)
+made-calls n s peer t credits life [] = new-none n s peer t credits life (s == n)
+made-calls n s peer t credits life (x ∷ xs) =
+    later-same n x (find (is_client n) (xs ++ client_end s peer t credits life ∷ []))
+    (find (is_client n) xs) (is_client n x) (made-calls n s peer t credits life xs)
 
 opened-none : (n : ℕ) (s peer credits : ℕ) (b : Bool)
     → accounts_of n (cond b (Some (opened_end s peer credits)) None) ≡ []
@@ -287,8 +287,8 @@ pub calls-agree : (clock : ℕ) (e : Event) (bytes : List ℕ) (a : Accounts) (s
     → filter (of_session n) (calls_after e a.calls)
     ≡ accounts_of n (find (is_client n) (clients_after clock e bytes (front_header s.ring)
     (front_body s.ring) s.clients))
-calls-agree clock (PairedClient i peer t credits) bytes a s v k may n =
-    k.calls n ∙ sym (made-calls n i peer t credits s.clients)
+calls-agree clock (PairedClient i peer t credits life) bytes a s v k may n =
+    k.calls n ∙ sym (made-calls n i peer t credits life s.clients)
 calls-agree clock (Opened i peer credits) bytes a s v k may n =
     k.calls n ∙ sym (opened-calls n i peer credits s.clients)
 calls-agree clock (FailedNoRoom m) bytes a s v k may n =
@@ -301,7 +301,8 @@ calls-agree clock (ClosedHeard m) bytes a s v k may n =
     left-calls a s v k (comes_to Closed) (λ x. refl) (λ x. refl) m n
 calls-agree clock (ClosedUnheard m) bytes a s v k may n =
     left-calls a s v k (comes_to Closed) (λ x. refl) (λ x. refl) m n
-calls-agree clock (IsConnected m t) bytes a s v k may n = left-calls a s v k (connects t) (λ x. refl) (λ x. refl) m n
+calls-agree clock (IsConnected m t life) bytes a s v k may n =
+    left-calls a s v k (connects t life) (λ x. refl) (λ x. refl) m n
 calls-agree clock (Sent peer Control i) bytes a s v k may n = told-calls a s v k clock n (control_of bytes)
 calls-agree clock (Asked c m y room) bytes a s v k may n = asked-by a s v k c m y room bytes may n (cases_eq n m)
 calls-agree clock (Begun c r) bytes a s v k may n = begun-calls a s v k c r may n
@@ -353,8 +354,8 @@ pub sessions-agree : (clock : ℕ) (e : Event) (bytes : List ℕ) (a : Accounts)
     → sessions_after e a.calls (map session_account s.clients)
     ≡ map session_account (clients_after clock e bytes (front_header s.ring)
     (front_body s.ring) s.clients)
-sessions-agree clock (PairedClient i peer t credits) bytes a s v k may =
-    sym (map-append session_account s.clients (client_end i peer t credits ∷ []))
+sessions-agree clock (PairedClient i peer t credits life) bytes a s v k may =
+    sym (map-append session_account s.clients (client_end i peer t credits life ∷ []))
 sessions-agree clock (Opened i peer credits) bytes a s v k may =
     sym (map-append session_account s.clients (opened_end i peer credits ∷ []))
 sessions-agree clock (FailedNoRoom m) bytes a s v k may =
@@ -372,8 +373,9 @@ sessions-agree clock (ClosedHeard m) bytes a s v k may =
 sessions-agree clock (ClosedUnheard m) bytes a s v k may =
     map-each session_account (is_client m) (is_session m) (λ x. refl) (comes_to Closed)
     (lives false) s.clients (λ x. refl)
-sessions-agree clock (IsConnected m t) bytes a s v k may =
-    map-each session_account (is_client m) (is_session m) (λ x. refl) (connects t) (lives true) s.clients (λ x. refl)
+sessions-agree clock (IsConnected m t life) bytes a s v k may =
+    map-each session_account (is_client m) (is_session m) (λ x. refl) (connects t life) (lives true) s.clients
+    (λ x. refl)
 sessions-agree clock (Sent peer Control i) bytes a s v k may = told-sessions clock (control_of bytes) s.clients
 sessions-agree clock (Asked c m y room) bytes a s v k may =
     hidden-sessions (is_client m) (asks (record

@@ -214,11 +214,11 @@ pub record MayBreak (s : Lists) (session : ℕ) : Type 0 where
 
 -- what an event needs of the lists before it; the others need nothing
 abbrev pub Allowed : Lists → Event → Type 0
-Allowed s (PairedClient session peer server credits) = MayMake s session (length s.clients) credits
-Allowed s (PairedServer session peer client credits) = MayMake s session s.server_numbers credits
+Allowed s (PairedClient session peer server credits life) = MayMake s session (length s.clients) credits
+Allowed s (PairedServer session peer client credits life) = MayMake s session s.server_numbers credits
 Allowed s (Opened session peer credits) = MayMake s session (length s.clients) credits
-Allowed s (Accepted session peer client credits) = MayMake s session s.server_numbers credits
-Allowed s (IsConnected session server) = IsIn s Connecting session
+Allowed s (Accepted session peer client credits life) = MayMake s session s.server_numbers credits
+Allowed s (IsConnected session server life) = IsIn s Connecting session
 Allowed s (FailedNoRoom session) = IsIn s Connecting session
 Allowed s (FailedNoAnswer session) = IsIn s Connecting session
 Allowed s (BeginsClosing session) = MayClose s session

@@ -51,8 +51,8 @@ module _ (clock : ℕ) (s : Lists) (bytes : List ℕ) (head : Option MessageHead
       omega (arith, sum-changed (is_client n) (asks a) asked_on s.clients may.client may.found, all)
 
   pub asked-after : (e : Event) → Allowed s e → all_asked s.clients ≡ s.asked → Goes e
-  asked-after (PairedClient n peer t credits) may h =
-      omega (arith, sum_by_push asked_on s.clients (client_end n peer t credits), h)
+  asked-after (PairedClient n peer t credits life) may h =
+      omega (arith, sum_by_push asked_on s.clients (client_end n peer t credits life), h)
   asked-after (Opened n peer credits) may h =
       omega (arith, sum_by_push asked_on s.clients (opened_end n peer credits), h)
   asked-after (FailedNoRoom n) may h =
@@ -65,8 +65,8 @@ module _ (clock : ℕ) (s : Lists) (bytes : List ℕ) (head : Option MessageHead
       sum-same (is_client n) (comes_to Closed) asked_on (λ x. refl) s.clients ∙ h
   asked-after (ClosedUnheard n) may h =
       sum-same (is_client n) (comes_to Closed) asked_on (λ x. refl) s.clients ∙ h
-  asked-after (IsConnected n t) may h =
-      sum-same (is_client n) (connects t) asked_on (λ x. refl) s.clients ∙ h
+  asked-after (IsConnected n t life) may h =
+      sum-same (is_client n) (connects t life) asked_on (λ x. refl) s.clients ∙ h
   asked-after (Sent peer Control k) may h = told-asked clock (control_of bytes) s.clients ∙ h
   asked-after (Asked c n y room) may h = asks-one c n y room may h
   asked-after (Begun c r) may h =
@@ -106,8 +106,8 @@ module _ (clock : ℕ) (s : Lists) (bytes : List ℕ) (head : Option MessageHead
 
   pub few-after : (e : Event) → Allowed s e → AllByRecursion AsksFew s.clients
       → AllByRecursion AsksFew (clients_after clock e bytes head body s.clients)
-  few-after (PairedClient n peer t credits) may h =
-      all-push AsksFew s.clients (client_end n peer t credits) h (omega arith)
+  few-after (PairedClient n peer t credits life) may h =
+      all-push AsksFew s.clients (client_end n peer t credits life) h (omega arith)
   few-after (Opened n peer credits) may h =
       all-push AsksFew s.clients (opened_end n peer credits) h (omega arith)
   few-after (FailedNoRoom n) may h =
@@ -120,8 +120,8 @@ module _ (clock : ℕ) (s : Lists) (bytes : List ℕ) (head : Option MessageHead
       all-kept (is_client n) (comes_to Closed) AsksFew s.clients (λ x few _. few) h
   few-after (ClosedUnheard n) may h =
       all-kept (is_client n) (comes_to Closed) AsksFew s.clients (λ x few _. few) h
-  few-after (IsConnected n t) may h =
-      all-kept (is_client n) (connects t) AsksFew s.clients (λ x few _. few) h
+  few-after (IsConnected n t life) may h =
+      all-kept (is_client n) (connects t life) AsksFew s.clients (λ x few _. few) h
   few-after (Sent peer Control k) may h = few-told clock (control_of bytes) s.clients h
   few-after (Asked c n y room) may h = asks-few c n y room may h
   few-after (Begun c r) may h =

@@ -48,8 +48,8 @@ pub begin-spends : (number clock : ℕ) (e : Event) (bytes : List ℕ) (head : O
     → cond (begins_call number e) 1 0 + (remaining number (λ o. is_none o)
     (clients_after clock e bytes head body s.clients) + to_come (asked_after e s.asked) number)
     ≤ to_begin number s
-begin-spends number clock (PairedClient n peer t credits) bytes head body s v h a =
-    remaining-made number (λ o. is_none o) n peer t credits (to_come s.asked number) s.clients
+begin-spends number clock (PairedClient n peer t credits life) bytes head body s v h a =
+    remaining-made number (λ o. is_none o) n peer t credits life (to_come s.asked number) s.clients
 begin-spends number clock (Opened n peer credits) bytes head body s v h a =
     remaining-opened number (λ o. is_none o) n peer credits (to_come s.asked number) s.clients
 begin-spends number clock (FailedNoRoom n) bytes head body s v h a =
@@ -67,9 +67,9 @@ begin-spends number clock (ClosedHeard n) bytes head body s v h a =
 begin-spends number clock (ClosedUnheard n) bytes head body s v h a =
     remaining-kept number (λ o. is_none o) (is_client n)
     (comes_to Closed) s.clients (to_come s.asked number) (λ x. omega arith)
-begin-spends number clock (IsConnected n t) bytes head body s v h a =
+begin-spends number clock (IsConnected n t life) bytes head body s v h a =
     remaining-kept number (λ o. is_none o) (is_client n)
-    (connects t) s.clients (to_come s.asked number) (λ x. omega arith)
+    (connects t life) s.clients (to_come s.asked number) (λ x. omega arith)
 begin-spends number clock (Sent peer Control k) bytes head body s v h a =
     remaining-told number (λ o. is_none o) clock (to_come s.asked number) (control_of bytes) s.clients
 begin-spends number clock (Asked c n y room) bytes head body s v h a =

@@ -29,8 +29,8 @@ use Rattle.rpc_base.proofs.FirstLemmas.{sum-changed, sum-left, sum-fewer}
 use Rattle.node_laws.specs.Valid.{unanswered_of, CallInOrder, in_slot, Sound}
 use Rattle.rpc_base.proofs.TakingLemmas.{find-passes}
 
-pub sound-made : (s peer t credits : ℕ) → Sound (client_end s peer t credits)
-sound-made s peer t credits = record { balance = λ _. omega arith; order = tt; apart = λ slot. omega arith }
+pub sound-made : (s peer t credits life : ℕ) → Sound (client_end s peer t credits life)
+sound-made s peer t credits life = record { balance = λ _. omega arith; order = tt; apart = λ slot. omega arith }
 
 pub sound-asks : (a : Asking) (x : Client) → Sound x → Sound (asks a x)
 sound-asks a x h = record {
@@ -162,11 +162,11 @@ sound-lives state x l h = record { balance = λ _. h.balance l; order = h.order;
 pub sound-over : (state : SessionState) (x : Client) → is_live state ≡ false → Sound x → Sound (comes_to state x)
 sound-over state x l h = record { balance = λ t. cc; order = h.order; apart = h.apart }
 
-pub sound-connects : (t : ℕ) (x : Client) → is_live x.state ≡ true → Sound x → Sound (connects t x)
-sound-connects t x l h = record { balance = λ _. h.balance l; order = h.order; apart = h.apart }
+pub sound-connects : (t life : ℕ) (x : Client) → is_live x.state ≡ true → Sound x → Sound (connects t life x)
+sound-connects t life x l h = record { balance = λ _. h.balance l; order = h.order; apart = h.apart }
 
 pub sound-requests : (clock : ℕ) (h : ControlHeader) (x : Client) → Sound x → Sound (requests clock h x)
-sound-requests clock h x k = by (is_request_of h.kind h.server x.state x.way.other)
+sound-requests clock h x k = by (is_request_of h.kind h.server h.to_life x.state x.way)
   where
     by : (b : Bool) → Sound (cond b (record x { sends = x.sends + 1; sent_at = clock }) x)
     by true = record { balance = k.balance; order = k.order; apart = k.apart }

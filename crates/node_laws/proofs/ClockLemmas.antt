@@ -37,7 +37,6 @@ use Rattle.rpc_laws.specs.Calls.{begun, is_active, is_call, is_response, has_req
 use Rattle.rpc_laws.specs.Calls.{posted_up_to, rolled_back, sent_packet, took_reply}
 use Rattle.rpc_laws.specs.Front.{control_of, front_header, front_body}
 use Rattle.rpc_laws.specs.Groups.{has_no_room, live_credits, servers_spent, shares}
-use Rattle.rpc_laws.specs.Lives.{first_life}
 use Rattle.rpc_laws.specs.NodeLists.{after}
 use Rattle.rpc_laws.specs.Packets.{ask_packet, call_packet, owner_packet}
 use Rattle.rpc_laws.specs.Requests.{server_numbers_after}
@@ -138,7 +137,7 @@ has-same n x = any-map bare_call (is_call n) (is_call n) (λ c. refl) x.calls
 
 requests-same : (clock : ℕ) (h : ControlHeader) (x : Client)
     → bare (requests clock h x) ≡ requests 0 h (bare x)
-requests-same clock h x = by (is_request_of h.kind h.server x.state x.way.other)
+requests-same clock h x = by (is_request_of h.kind h.server h.to_life x.state x.way)
   where
     by : (b : Bool) → bare (cond b (record x { sends = x.sends + 1; sent_at = clock }) x)
         ≡ cond b (record (bare x) { sends = x.sends + 1; sent_at = 0 }) (bare x)
@@ -174,12 +173,12 @@ bare-after : (clock : ℕ) (e : Event) (bytes : List ℕ) (head : Option Message
     (xs : List Client)
     → map bare (clients_after clock e bytes head body xs)
     ≡ clients_after 0 e bytes head body (map bare xs)
-bare-after clock (PairedClient s peer t credits) bytes head body xs =
-    map-push bare xs (client_end s peer t credits)
+bare-after clock (PairedClient s peer t credits life) bytes head body xs =
+    map-push bare xs (client_end s peer t credits life)
 bare-after clock (Opened s peer credits) bytes head body xs =
     map-push bare xs (opened_end s peer credits)
-bare-after clock (IsConnected s t) bytes head body xs =
-    session-same s (connects t) (connects t) (λ x. refl) xs
+bare-after clock (IsConnected s t life) bytes head body xs =
+    session-same s (connects t life) (connects t life) (λ x. refl) xs
 bare-after clock (FailedNoRoom s) bytes head body xs =
     session-same s (comes_to Failed) (comes_to Failed) (λ x. refl) xs
 bare-after clock (FailedNoAnswer s) bytes head body xs =
@@ -309,9 +308,10 @@ opened-same s t peer n x o k = record {
   to_peer = ap (λ (z : Client). z.way.peer) o.same ∙ k.to_peer;
 }
 
-reply-bare : (o : Option ℕ) (x : Client) → reply_row o 0 (bare x) ≡ reply_row o 0 x
-reply-bare None x = refl
-reply-bare (Some n) x = refl
+reply-bare : (o : Option ℕ) (life : ℕ) (x : Client)
+    → reply_row o life 0 (bare x) ≡ reply_row o life 0 x
+reply-bare None life x = refl
+reply-bare (Some n) life x = refl
 
 -- there is as much room at other clocks
 credits-bare : (xs : List Client) → sum_by live_credits (map bare xs) ≡ sum_by live_credits xs
@@ -331,9 +331,9 @@ pub no-room-same : (s t : Lists) (credits : ℕ) → AtOtherClocks s t
 no-room-same s t credits e =
     ap₂ (λ room n. nat_lt room (n + credits)) e.room (shares-same s t e)
 
-takes-none-same : (s t : Lists) (peer client credits : ℕ) → AtOtherClocks s t
-    → TakesNoSession s peer client credits → TakesNoSession t peer client credits
-takes-none-same s t peer client credits e k = record {
+takes-none-same : (s t : Lists) (peer client life credits : ℕ) → AtOtherClocks s t
+    → TakesNoSession s peer client life credits → TakesNoSession t peer client life credits
+takes-none-same s t peer client life credits e k = record {
   unknown = rw (← e.servers) k.unknown;
   full =
       sym (ap₂ (λ a b. a || b) (no-room-same s t credits e)
@@ -346,27 +346,27 @@ control-same s t peer h e (OwnControl.asks x opened own) =
     let o = other-client h.client s.clients t.clients x e.clients opened.found in
     OwnControl.asks o.client (opened-same s t peer h.client x o opened)
     (ap (own_request t.life) o.same ∙ (ap (λ n. own_request n x) (sym e.life) ∙ own))
-control-same s t peer h e (OwnControl.confirms n v named found is_end) =
-    OwnControl.confirms n v
-    (named ∙ ap (λ l. connect_reply l first_life h.client (Some n) v.credits 0) e.life)
+control-same s t peer h e (OwnControl.confirms to n v named found is_end) =
+    OwnControl.confirms to n v
+    (named ∙ ap (λ l. connect_reply l to h.client (Some n) v.credits 0) e.life)
     (rw (← e.servers) found) is_end
-control-same s t peer h e (OwnControl.declines named none) =
-    OwnControl.declines
-    (named ∙ ap (λ l. connect_reply l first_life h.client None h.credits 1) e.life)
-    (takes-none-same s t peer h.client h.credits e none)
-control-same s t peer h e (OwnControl.disowns x opened named row) =
+control-same s t peer h e (OwnControl.declines to named none) =
+    OwnControl.declines to
+    (named ∙ ap (λ l. connect_reply l to h.client None h.credits 1) e.life)
+    (takes-none-same s t peer h.client to h.credits e none)
+control-same s t peer h e (OwnControl.disowns to x opened named row) =
     let o = other-client h.client s.clients t.clients x e.clients opened.found in
-    OwnControl.disowns o.client (opened-same s t peer h.client x o opened)
-    (named ∙ ap (λ l. disconnect_as DisconnectRequest l first_life h.client h.server 0) e.life)
-    (sym (reply-bare h.server o.client)
-    ∙ (ap (reply_row h.server 0) o.same ∙ (reply-bare h.server x ∙ row)))
-control-same s t peer h e (OwnControl.ends named gone) =
-    OwnControl.ends
-    (named ∙ ap (λ l. disconnect_as DisconnectReply l first_life h.client h.server 0) e.life)
+    OwnControl.disowns to o.client (opened-same s t peer h.client x o opened)
+    (named ∙ ap (λ l. disconnect_as DisconnectRequest l to h.client h.server 0) e.life)
+    (sym (reply-bare h.server to o.client)
+    ∙ (ap (reply_row h.server to 0) o.same ∙ (reply-bare h.server to x ∙ row)))
+control-same s t peer h e (OwnControl.ends to named gone) =
+    OwnControl.ends to
+    (named ∙ ap (λ l. disconnect_as DisconnectReply l to h.client h.server 0) e.life)
     (rw (← e.servers) gone)
-control-same s t peer h e (OwnControl.misses named gone) =
-    OwnControl.misses
-    (named ∙ ap (λ l. disconnect_as DisconnectReply l first_life h.client h.server 2) e.life)
+control-same s t peer h e (OwnControl.misses to named gone) =
+    OwnControl.misses to
+    (named ∙ ap (λ l. disconnect_as DisconnectReply l to h.client h.server 2) e.life)
     (rw (← e.servers) gone)
 
 first-is : (s l : Lists) → Some s ≡ Some l → s ≡ l

@@ -1,6 +1,6 @@
 -- The control rule notes only what is allowed.
 use Rattle.std.proofs.Common.{◌≡◌, ℕ, zero, suc, ◌+◌, ◌%◌, ◌≤◌, ◌<◌, Bool, true, false, not, ◌||◌}
-use Rattle.std.proofs.Common.{◌&&◌, cond, Option, Some, None, List, [], ◌∷◌, refl, arith}
+use Rattle.std.proofs.Common.{◌&&◌, cond, Option, Some, None, List, [], ◌∷◌, refl, ap, ◌∙◌, arith}
 use Rattle.std.specs.Prelude.{◌==◌, count_by}
 use Rattle.std.specs.List.{AllByRecursion, find}
 use Rattle.std.proofs.lemmas.Bool.{eq-eqb, ltb-false}
@@ -10,7 +10,7 @@ use Rattle.packet_header.specs.declared.packet.ControlKind.TheVariants.{ConnectR
 use Rattle.packet_header.specs.declared.packet.ControlKind.TheVariants.{ConnectReply}
 use Rattle.packet_header.specs.declared.packet.ControlKind.TheVariants.{DisconnectRequest}
 use Rattle.packet_header.specs.declared.packet.ControlKind.TheVariants.{DisconnectReply}
-use Rattle.rpc_base.specs.declared.event.Event.TheVariants.{Ended, Heard}
+use Rattle.rpc_base.specs.declared.event.Event.TheVariants.{Ended}
 use Rattle.rpc_base.specs.declared.state.SessionState.{SessionState}
 use Rattle.rpc_base.specs.declared.state.SessionState.TheVariants.{Unknown, Connecting, Connected}
 use Rattle.rpc_base.specs.declared.state.SessionState.TheVariants.{Closing, Closed, Failed, Broken}
@@ -23,20 +23,24 @@ use Rattle.rpc_laws.specs.declared.tables.Client.{Client}
 use Rattle.rpc_laws.specs.declared.tables.Lists.{Lists}
 use Rattle.rpc_laws.specs.declared.tables.Queued.{Queued}
 use Rattle.rpc_laws.specs.declared.tables.Server.{Server}
-use Rattle.rpc_laws.specs.ControlSteps.{Hears, HearsAll}
+use Rattle.rpc_laws.specs.ControlSteps.{Hears, HearsAll, TakesControl, EndsOutdated}
+use Rattle.rpc_laws.specs.ControlSteps.{EndsAllOutdated, AnswersControl}
 use Rattle.rpc_laws.specs.ControlTable.{confirm_row, end_row, named_end, joined_row, refused_row}
 use Rattle.rpc_laws.specs.ControlTable.{reply_row, over_row, closed_row, opened_row, is_end_of}
 use Rattle.rpc_laws.specs.ControlTable.{control_row_of, control_row, session_flushes, session_end}
-use Rattle.rpc_laws.specs.ControlTable.{control_facts}
+use Rattle.rpc_laws.specs.ControlTable.{control_facts, is_for, is_named, is_older, is_stale, outdated}
+use Rattle.rpc_laws.specs.ControlTable.{outdated_by}
 use Rattle.rpc_laws.specs.Facts.{plain}
 use Rattle.rpc_laws.specs.Groups.{shares, has_no_room, servers_spent}
-use Rattle.rpc_laws.specs.NodeLists.{after, after_all}
+use Rattle.rpc_laws.specs.NodeLists.{after_all}
 use Rattle.rpc_laws.specs.Requests.{is_server, in_slot_of}
-use Rattle.rpc_laws.specs.Sessions.{is_client}
+use Rattle.rpc_laws.specs.Sessions.{is_client, is_with}
+use Rattle.rpc_laws.specs.Steps.{Then, Until}
 use Rattle.node_laws.proofs.Allowed.{NoneOlder, MayLeave, MayMake, AllAllowed, IsIn}
 use Rattle.node_laws.proofs.FlushLemmas.{no-more-same, slots-flushed}
 use Rattle.node_laws.proofs.LeftLemmas.{same-slot}
-use Rattle.node_laws.proofs.LeadsLemmas.{allowed-join, Lawful, lawful-goes, lawful-until}
+use Rattle.node_laws.proofs.LeadsLemmas.{allowed-join, Lawful, lawful-goes, lawful-then}
+use Rattle.node_laws.proofs.LeadsLemmas.{lawful-until}
 use Rattle.rpc_base.proofs.FirstLemmas.{found-own}
 use Rattle.node_laws.proofs.SaidLemmas.{row-said, row-tied}
 use Rattle.node_laws.specs.Valid.{Valid}
@@ -116,16 +120,15 @@ closing-joins : (b : Bool) → Joins Closing (cond b Closes Ignores)
 closing-joins true = record { accepts = λ t e. cc; connects = λ t e. cc; fails = λ e. cc; closes = λ e. refl }
 closing-joins false = plain-joins Closing Ignores ignores-plain
 
-over-joins : (state : SessionState) (other : ℕ) (o : Option ℕ) → Joins state (over_row state other o)
-over-joins Closing other (Some t) = closing-joins (other == t)
-over-joins Closing other None = plain-joins Closing Ignores ignores-plain
-over-joins Unknown other o = plain-joins Unknown Ignores ignores-plain
-over-joins Connecting other o = plain-joins Connecting Ignores ignores-plain
-over-joins Connected other o = plain-joins Connected Ignores ignores-plain
-over-joins Closed other o = plain-joins Closed Ignores ignores-plain
-over-joins Failed other o = plain-joins Failed Ignores ignores-plain
-over-joins Broken other o = plain-joins Broken Ignores ignores-plain
-over-joins Spent other o = plain-joins Spent Ignores ignores-plain
+over-joins : (state : SessionState) (its : Bool) → Joins state (over_row state its)
+over-joins Closing its = closing-joins its
+over-joins Unknown its = plain-joins Unknown Ignores ignores-plain
+over-joins Connecting its = plain-joins Connecting Ignores ignores-plain
+over-joins Connected its = plain-joins Connected Ignores ignores-plain
+over-joins Closed its = plain-joins Closed Ignores ignores-plain
+over-joins Failed its = plain-joins Failed Ignores ignores-plain
+over-joins Broken its = plain-joins Broken Ignores ignores-plain
+over-joins Spent its = plain-joins Spent Ignores ignores-plain
 
 refused-joins : (state : SessionState) → Joins state (refused_row state)
 refused-joins Connecting = record { accepts = λ t e. cc; connects = λ t e. cc; fails = λ e. refl; closes = λ e. cc }
@@ -141,23 +144,24 @@ connecting-joins : (b : Bool) (u : ℕ) → Joins Connecting (cond b (Connects u
 connecting-joins true u = record { accepts = λ t e. cc; connects = λ t e. refl; fails = λ e. refl; closes = λ e. cc }
 connecting-joins false u = record { accepts = λ t e. cc; connects = λ t e. refl; fails = λ e. refl; closes = λ e. cc }
 
-joined-joins : (state : SessionState) (limit other u credits : ℕ)
-    → Joins state (joined_row state limit other u credits)
-joined-joins Connecting limit other u credits = connecting-joins (credits == limit) u
-joined-joins Connected limit other u credits =
-    plain-joins Connected (cond (other == u) Ignores Disowns) (kept-plain (other == u))
-joined-joins Spent limit other u credits =
-    plain-joins Spent (cond (other == u) Ignores Disowns) (kept-plain (other == u))
-joined-joins Closing limit other u credits =
-    plain-joins Closing (cond (other == u) Ignores Disowns) (kept-plain (other == u))
-joined-joins Unknown limit other u credits = plain-joins Unknown Disowns disowns-plain
-joined-joins Closed limit other u credits = plain-joins Closed Disowns disowns-plain
-joined-joins Failed limit other u credits = plain-joins Failed Disowns disowns-plain
-joined-joins Broken limit other u credits = plain-joins Broken Disowns disowns-plain
+joined-joins : (state : SessionState) (its : Bool) (limit u credits : ℕ)
+    → Joins state (joined_row state its limit u credits)
+joined-joins Connecting its limit u credits = connecting-joins (credits == limit) u
+joined-joins Connected its limit u credits =
+    plain-joins Connected (cond its Ignores Disowns) (kept-plain its)
+joined-joins Spent its limit u credits = plain-joins Spent (cond its Ignores Disowns) (kept-plain its)
+joined-joins Closing its limit u credits =
+    plain-joins Closing (cond its Ignores Disowns) (kept-plain its)
+joined-joins Unknown its limit u credits = plain-joins Unknown Disowns disowns-plain
+joined-joins Closed its limit u credits = plain-joins Closed Disowns disowns-plain
+joined-joins Failed its limit u credits = plain-joins Failed Disowns disowns-plain
+joined-joins Broken its limit u credits = plain-joins Broken Disowns disowns-plain
 
-reply-joins : (o : Option ℕ) (credits : ℕ) (x : Client) → Joins x.state (reply_row o credits x)
-reply-joins None credits x = refused-joins x.state
-reply-joins (Some t) credits x = joined-joins x.state x.limit x.way.other t credits
+reply-joins : (o : Option ℕ) (life credits : ℕ) (x : Client)
+    → Joins x.state (reply_row o life credits x)
+reply-joins None life credits x = refused-joins x.state
+reply-joins (Some t) life credits x =
+    joined-joins x.state (is_with t life x.way) x.limit t credits
 
 -- what a row that makes a session or changes the state of one tells of the lists
 record Tells (s : Lists) (client credits : ℕ) (row : ControlRow) : Type 0 where
@@ -193,10 +197,17 @@ opened-tells s client credits peer row joins (Some x) found = by (not (x.way.pee
     by true = plain-tells s client credits Ignores ignores-plain
     by false = joins-tells s client credits x (row x) found (joins x)
 
-row-tells : (kind : ControlKind) (lacks : Bool) (peer : ℕ) (h : ControlHeader) (s : Lists)
-    → Tells s h.client h.credits (control_row_of kind lacks peer h s)
-row-tells ConnectRequest lacks peer h s =
-    let o = find (is_end_of peer h.client) s.servers in
+-- a packet for another life has no effect
+own-tells : (s : Lists) (client credits : ℕ) (row : ControlRow) (b : Bool)
+    → Tells s client credits row → Tells s client credits (cond b row Ignores)
+own-tells s client credits row true k = k
+own-tells s client credits row false k = plain-tells s client credits Ignores ignores-plain
+
+-- nor has a connect request of an older life
+connect-tells : (lacks : Bool) (h : ControlHeader) (s : Lists) (o : Option Server) (b : Bool)
+    → Tells s h.client h.credits (cond b Ignores (confirm_row lacks h s o))
+connect-tells lacks h s o true = plain-tells s h.client h.credits Ignores ignores-plain
+connect-tells lacks h s o false =
     let keeps = confirm-keeps lacks h s o in
     record {
       accepts = λ t e. confirm-accepts lacks h s t o e;
@@ -204,14 +215,24 @@ row-tells ConnectRequest lacks peer h s =
       fails = λ e. absurd (keeps.fails e);
       closes = λ e. absurd (keeps.closes e);
     }
+
+row-tells : (kind : ControlKind) (lacks : Bool) (peer : ℕ) (h : ControlHeader) (s : Lists)
+    → Tells s h.client h.credits (control_row_of kind lacks peer h s)
+row-tells ConnectRequest lacks peer h s =
+    connect-tells lacks h s (find (is_end_of peer h.client h.from_life) s.servers) (is_stale peer h s)
 row-tells DisconnectRequest lacks peer h s =
-    let o = named_end peer h.client h.server s.servers in plain-tells s h.client h.credits (end_row o) (end-plain o)
+    let o = named_end peer h.client h.from_life h.server s.servers in
+    own-tells s h.client h.credits (end_row o) (is_for s.life h.to_life)
+    (plain-tells s h.client h.credits (end_row o) (end-plain o))
 row-tells ConnectReply lacks peer h s =
-    opened-tells s h.client h.credits peer (reply_row h.server h.credits)
-    (reply-joins h.server h.credits) (find (is_client h.client) s.clients) refl
+    own-tells s h.client h.credits _ (is_for s.life h.to_life)
+    (opened-tells s h.client h.credits peer (reply_row h.server h.from_life h.credits)
+    (reply-joins h.server h.from_life h.credits) (find (is_client h.client) s.clients) refl)
 row-tells DisconnectReply lacks peer h s =
-    opened-tells s h.client h.credits peer (closed_row h.server)
-    (λ x. over-joins x.state x.way.other h.server) (find (is_client h.client) s.clients) refl
+    own-tells s h.client h.credits _ (is_for s.life h.to_life)
+    (opened-tells s h.client h.credits peer (closed_row h.server h.from_life)
+    (λ x. over-joins x.state (is_named h.server h.from_life x.way))
+    (find (is_client h.client) s.clients) refl)
 
 -- what isn't ignored is disowned
 pub unless-disowns : (b : Bool) → cond b Ignores Disowns ≡ Disowns → b ≡ false
@@ -232,12 +253,12 @@ slot-within P all (suc (suc (suc (suc (suc (suc (suc zero))))))) h = all.1.1.1.1
 slot-within P all (suc (suc (suc (suc (suc (suc (suc (suc slot)))))))) h = absurd (omega arith)
 
 -- the session that is named is found by its number
-named-is : (peer client : ℕ) (o : Option ℕ) (servers : List Server) (v : Server)
-    → ((t : ℕ) → count_by (is_server t) servers ≤ 1) → named_end peer client o servers ≡ Some v
+named-is : (peer client life : ℕ) (o : Option ℕ) (servers : List Server) (v : Server)
+    → ((t : ℕ) → count_by (is_server t) servers ≤ 1) → named_end peer client life o servers ≡ Some v
     → find (is_server v.way.number) servers ≡ Some v
-named-is peer client None servers v alone e = cc
-named-is peer client (Some t) servers v alone e =
-    found-own (λ w. is_server t w && is_end_of peer client w)
+named-is peer client life None servers v alone e = cc
+named-is peer client life (Some t) servers v alone e =
+    found-own (λ w. is_server t w && is_end_of peer client life w)
     (is_server v.way.number) servers v (alone v.way.number) e
     (eq-eqb v.way.number v.way.number refl)
 
@@ -270,10 +291,34 @@ end-allowed clock s me (Some v) found =
         clean (request % 8) below in
         rw (same-slot request (request % 8) slot v.slots) one
 
--- the facts of a row, after Heard
+-- the session that a connect request outdates is found by its number
+outdated-by : (kind : ControlKind) (peer : ℕ) (h : ControlHeader) (s : Lists) (v : Server) → Valid s
+    → outdated_by kind peer h s ≡ Some v → find (is_server v.way.number) s.servers ≡ Some v
+outdated-by ConnectRequest peer h s v valid e = by (is_stale peer h s) e
+  where
+    by : (b : Bool) → cond b None (find (is_older peer h.from_life) s.servers) ≡ Some v
+        → find (is_server v.way.number) s.servers ≡ Some v
+    by true e = cc
+    by false e =
+        let few = valid.alone v.way.number in
+        found-own (is_older peer h.from_life) (is_server v.way.number) s.servers v (omega arith) e
+        (eq-eqb v.way.number v.way.number refl)
+outdated-by ConnectReply peer h s v valid e = cc
+outdated-by DisconnectRequest peer h s v valid e = cc
+outdated-by DisconnectReply peer h s v valid e = cc
+
+takes-lawful : Lawful TakesControl
+takes-lawful s x t v h = lawful-goes s x t h.goes (rw h.facts (tt, tt))
+
+outdated-lawful : (peer : ℕ) (h : ControlHeader) → Lawful (EndsOutdated peer h)
+outdated-lawful peer h s x t v k =
+    lawful-goes s x t k.goes (rw k.facts (end-allowed s.clock s.lists s.lists.me (Some k.server)
+    (λ w e. let same : k.server ≡ w = cc in
+    outdated-by h.kind peer h s.lists w v (k.is_outdated ∙ ap (λ z. Some z) same))))
+
+-- the facts of a row
 row-allowed : (clock : ℕ) (s : Lists) → Valid s → (peer : ℕ) (h : ControlHeader) (row : ControlRow)
-    → Tells s h.client h.credits row
-    → AllAllowed clock (after clock s (plain s.me Heard)) (control_facts s peer h row)
+    → Tells s h.client h.credits row → AllAllowed clock s (control_facts s peer h row)
 row-allowed clock s v peer h Ignores k = tt
 row-allowed clock s v peer h (Confirms t credits) k = tt
 row-allowed clock s v peer h Declines k = (tt, tt)
@@ -281,7 +326,9 @@ row-allowed clock s v peer h Starves k = (tt, tt)
 row-allowed clock s v peer h (Accepts t) k =
     let on = k.accepts t refl in (record { numbered = on.numbered; room = on.room }, tt)
 row-allowed clock s v peer h Ends k =
-    end-allowed clock (after clock s (plain s.me Heard)) s.me (named_end peer h.client h.server s.servers) (λ w e. named-is peer h.client h.server s.servers w (λ t. let few = v.alone t in omega arith) e)
+    end-allowed clock s s.me (named_end peer h.client h.from_life h.server s.servers)
+    (λ w e. named-is peer h.client h.from_life h.server s.servers w
+    (λ t. let few = v.alone t in omega arith) e)
 row-allowed clock s v peer h Misses k = tt
 row-allowed clock s v peer h (Connects t) k =
     let on = k.connects t refl in (record { client = on.client; found = on.found; stands = on.stands }, tt)
@@ -291,16 +338,24 @@ row-allowed clock s v peer h Fails k =
 row-allowed clock s v peer h Closes k =
     let on = k.closes refl in (record { client = on.client; found = on.found; stands = on.stands }, tt)
 
+answers-lawful : (peer : ℕ) (h : ControlHeader) → Lawful (AnswersControl peer h)
+answers-lawful peer h s x t v k =
+    let row = control_row k.lacks peer h s.lists in
+    let facts = control_facts s.lists peer h row in
+    let first = row-allowed s.clock s.lists v peer h row (row-tells h.kind k.lacks peer h s.lists) in
+    let tied = row-tied h.kind k.lacks peer h s.lists v in
+    let said = row-said s.clock s.lists v peer h k.said row tied k.speaks in
+    lawful-goes s x t k.goes (rw k.facts (allowed-join s.clock s.lists facts k.said first said))
+
 hears-lawful : Lawful Hears
 hears-lawful s x t v h =
-    let row = control_row h.lacks h.front.peer h.header s.lists in
-    let heard = after s.clock s.lists (plain s.lists.me Heard) in
-    let facts = control_facts s.lists h.front.peer h.header row in
-    let first = row-allowed s.clock s.lists v h.front.peer h.header row
-    (row-tells h.header.kind h.lacks h.front.peer h.header s.lists) in
-    let tied = row-tied h.header.kind h.lacks h.front.peer h.header s.lists v in
-    let said = row-said s.clock s.lists v h.front.peer h.header h.said row tied h.speaks in
-    lawful-goes s x t h.goes (rw h.facts (tt, allowed-join s.clock heard facts h.said first said))
+    let peer = h.front.peer in
+    let ends : Lawful (EndsAllOutdated peer h.header) =
+    lawful-until (EndsOutdated peer h.header) (λ t. outdated peer h.header t.lists ≡ None)
+    (outdated-lawful peer h.header) in
+    lawful-then TakesControl (Then (EndsAllOutdated peer h.header) (AnswersControl peer h.header))
+    takes-lawful (lawful-then (EndsAllOutdated peer h.header) (AnswersControl peer h.header) ends
+    (answers-lawful peer h.header)) s x t v h.steps
 
 pub hears-all-lawful : Lawful HearsAll
 hears-all-lawful = lawful-until Hears (λ t. t.lists.inbox ≡ []) hears-lawful

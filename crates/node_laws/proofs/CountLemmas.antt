@@ -103,8 +103,8 @@ module _ (c : ℕ) where
       (body : List ℕ) (s : Lists) → Valid s → Allowed s e
       → holders c (clients_after clock e bytes head body s.clients) + cond (ends_call c e) 1 0
       ≡ holders c s.clients + cond (asks_call c e) 1 0
-  holders-after clock (PairedClient i peer t credits) bytes head body s v a =
-      let push = sum_by_push has s.clients (client_end i peer t credits) in omega arith
+  holders-after clock (PairedClient i peer t credits life) bytes head body s v a =
+      let push = sum_by_push has s.clients (client_end i peer t credits life) in omega arith
   holders-after clock (Opened i peer credits) bytes head body s v a =
       let push = sum_by_push has s.clients (opened_end i peer credits) in omega arith
   holders-after clock (FailedNoRoom n) bytes head body s v a =
@@ -117,7 +117,8 @@ module _ (c : ℕ) where
       kept (is_client n) (comes_to Closed) (λ x. refl) s.clients
   holders-after clock (ClosedUnheard n) bytes head body s v a =
       kept (is_client n) (comes_to Closed) (λ x. refl) s.clients
-  holders-after clock (IsConnected n t) bytes head body s v a = kept (is_client n) (connects t) (λ x. refl) s.clients
+  holders-after clock (IsConnected n t life) bytes head body s v a =
+      kept (is_client n) (connects t life) (λ x. refl) s.clients
   holders-after clock (Sent peer Control k) bytes head body s v a = told-held clock (control_of bytes) s.clients
   holders-after clock (Asked i m y room) bytes head body s v a = asked-one i m y room bytes s a
   holders-after clock (Begun i r) bytes head body s v a =

@@ -18,7 +18,6 @@ use Rattle.rpc_base.proofs.BasicLemmas.{at-most-one}
 use Rattle.rpc_laws.specs.declared.tables.Call.{Call}
 use Rattle.rpc_laws.specs.declared.tables.Client.{Client}
 use Rattle.rpc_laws.specs.declared.tables.Lists.{Lists}
-use Rattle.rpc_laws.specs.Lives.{first_life}
 use Rattle.rpc_laws.specs.NodeLists.{after, new_lists}
 use Rattle.rpc_laws.specs.Sessions.{is_client, is_connected, is_live}
 use Rattle.node_laws.specs.CreditBalance.{CallAccount, Accounts, accounts_after, sessions_after}
@@ -43,8 +42,8 @@ agrees-after clock f a s v k may = record {
   once = λ number. once-agrees number f.event a.calls s (k.once number) may;
 }
 
-pub agrees-new : (me : ℕ) (limits : Limits) → Agrees no_accounts (new_lists me first_life limits)
-agrees-new me limits = record {
+pub agrees-new : (me life : ℕ) (limits : Limits) → Agrees no_accounts (new_lists me life limits)
+agrees-new me life limits = record {
   sessions = refl;
   calls = λ n. refl;
   once = λ number. at-most-one (leb 0 number);
@@ -154,6 +153,6 @@ credit-from a s (f ∷ g) t k v l = (
 )
 
 pub credit : CreditBalances
-credit p me limits g t r =
-    credit-from no_accounts (new_lists me first_life limits) g t.lists (agrees-new me limits)
-    (valid_new me limits) (run_leads r)
+credit p me life limits g t r =
+    credit-from no_accounts (new_lists me life limits) g t.lists (agrees-new me life limits)
+    (valid_new me life limits) (run_leads r)

@@ -98,8 +98,8 @@ module _ (c n : ℕ) where
       (body : List ℕ) (s : Lists) → Valid s → Allowed s e
       → sum_by off (clients_after clock e bytes head body s.clients)
       + to_come (asked_after e s.asked) c ≤ elsewhere s
-  elsewhere-after clock (PairedClient i peer t credits) bytes head body s v a =
-      let push = sum_by_push off s.clients (client_end i peer t credits) in
+  elsewhere-after clock (PairedClient i peer t credits life) bytes head body s v a =
+      let push = sum_by_push off s.clients (client_end i peer t credits life) in
       let none = off-fewer (i == n) 0 in
       omega arith
   elsewhere-after clock (Opened i peer credits) bytes head body s v a =
@@ -116,8 +116,8 @@ module _ (c n : ℕ) where
       kept (is_client m) (comes_to Closed) (λ x. refl) (λ x. omega arith) s.clients (to_come s.asked c)
   elsewhere-after clock (ClosedUnheard m) bytes head body s v a =
       kept (is_client m) (comes_to Closed) (λ x. refl) (λ x. omega arith) s.clients (to_come s.asked c)
-  elsewhere-after clock (IsConnected m t) bytes head body s v a =
-      kept (is_client m) (connects t) (λ x. refl) (λ x. omega arith) s.clients (to_come s.asked c)
+  elsewhere-after clock (IsConnected m t life) bytes head body s v a =
+      kept (is_client m) (connects t life) (λ x. refl) (λ x. omega arith) s.clients (to_come s.asked c)
   elsewhere-after clock (Sent peer Control k) bytes head body s v a =
       told clock (control_of bytes) s.clients (to_come s.asked c)
   elsewhere-after clock (Asked i m y room) bytes head body s v a =

@@ -49,8 +49,8 @@ pub end-spends : (number clock : ℕ) (e : Event) (bytes : List ℕ) (head : Opt
     → cond (ends_call number e) 1 0 + (remaining number always
     (clients_after clock e bytes head body s.clients) + to_come (asked_after e s.asked) number)
     ≤ to_end number s
-end-spends number clock (PairedClient n peer t credits) bytes head body s v h a =
-    remaining-made number always n peer t credits (to_come s.asked number) s.clients
+end-spends number clock (PairedClient n peer t credits life) bytes head body s v h a =
+    remaining-made number always n peer t credits life (to_come s.asked number) s.clients
 end-spends number clock (Opened n peer credits) bytes head body s v h a =
     remaining-opened number always n peer credits (to_come s.asked number) s.clients
 end-spends number clock (FailedNoRoom n) bytes head body s v h a =
@@ -64,8 +64,8 @@ end-spends number clock (ClosedHeard n) bytes head body s v h a =
     remaining-kept number always (is_client n) (comes_to Closed) s.clients (to_come s.asked number) (λ x. omega arith)
 end-spends number clock (ClosedUnheard n) bytes head body s v h a =
     remaining-kept number always (is_client n) (comes_to Closed) s.clients (to_come s.asked number) (λ x. omega arith)
-end-spends number clock (IsConnected n t) bytes head body s v h a =
-    remaining-kept number always (is_client n) (connects t) s.clients (to_come s.asked number) (λ x. omega arith)
+end-spends number clock (IsConnected n t life) bytes head body s v h a =
+    remaining-kept number always (is_client n) (connects t life) s.clients (to_come s.asked number) (λ x. omega arith)
 end-spends number clock (Sent peer Control k) bytes head body s v h a =
     remaining-told number always clock (to_come s.asked number) (control_of bytes) s.clients
 end-spends number clock (Asked c n y room) bytes head body s v h a =

@@ -18,7 +18,6 @@ use Rattle.rpc_laws.specs.declared.tables.Queued.{Queued}
 use Rattle.rpc_laws.specs.AtMostOnce.{ends_call}
 use Rattle.rpc_laws.specs.Calls.{is_call, has_request, is_active}
 use Rattle.rpc_laws.specs.Front.{front_header, front_body}
-use Rattle.rpc_laws.specs.Lives.{first_life}
 use Rattle.rpc_laws.specs.NodeLists.{after, new_lists, asked_after}
 use Rattle.rpc_laws.specs.Pacing.{due_of}
 use Rattle.rpc_laws.specs.Sessions.{is_client, has_call, ends, clients_after}
@@ -275,9 +274,9 @@ ends-clean past s (f ∷ g) t k l = (
       (knows-after l.0 past s f k l.1) l.2,
 )
 
-pub knows-new : (me : ℕ) (limits : Limits) → Knows [] (new_lists me first_life limits)
-knows-new me limits = record {
-  valid = valid_new me limits;
+pub knows-new : (me life : ℕ) (limits : Limits) → Knows [] (new_lists me life limits)
+knows-new me life limits = record {
+  valid = valid_new me life limits;
   queue = λ test. refl;
   windows = tt;
   eight = tt;
@@ -287,5 +286,5 @@ knows-new me limits = record {
 }
 
 pub ended : EndedCallsAreNotQueued
-ended p me limits g t r = ends-clean [] (new_lists me first_life limits) g t.lists
-    (knows-new me limits) (run_leads r)
+ended p me life limits g t r =
+    ends-clean [] (new_lists me life limits) g t.lists (knows-new me life limits) (run_leads r)

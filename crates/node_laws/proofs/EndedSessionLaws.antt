@@ -11,7 +11,6 @@ use Rattle.rpc_base.specs.declared.owner.Owner.TheVariants.{Ask, Reply, Control}
 use Rattle.rpc_laws.specs.declared.tables.Lists.{Lists}
 use Rattle.rpc_laws.specs.declared.tables.Queued.{Queued}
 use Rattle.rpc_laws.specs.Front.{front_header, front_body}
-use Rattle.rpc_laws.specs.Lives.{first_life}
 use Rattle.rpc_laws.specs.NodeLists.{after, new_lists}
 use Rattle.node_laws.specs.EndedCalls.{queued_by}
 use Rattle.node_laws.specs.EndedSessions.{ends_session, is_reply_of, LeavesNone, SessionsEndClean}
@@ -93,6 +92,5 @@ sessions-end-clean past s (f ∷ g) u k l = (
 )
 
 pub ended_sessions : EndedSessionsAreNotQueued
-ended_sessions p me limits g t r =
-    sessions-end-clean [] (new_lists me first_life limits) g t.lists (knows-new me limits)
-    (run_leads r)
+ended_sessions p me life limits g t r =
+    sessions-end-clean [] (new_lists me life limits) g t.lists (knows-new me life limits) (run_leads r)

@@ -49,11 +49,11 @@ module _ (t : ℕ) where
       → m + to_come (used + 1) t + 0 ≡ c + to_come used t
   next-one used n c m e k = grind (arith, nat_tests)
 
-  made-ends : (n peer c credits : ℕ) (s : Lists) → n ≡ s.server_numbers
-      → count_by (is_server t) (s.servers ++ server_end n peer c credits ∷ [])
+  made-ends : (n peer c credits life : ℕ) (s : Lists) → n ≡ s.server_numbers
+      → count_by (is_server t) (s.servers ++ server_end n peer c credits life ∷ [])
       + to_come (s.server_numbers + 1) t + 0 ≡ standing s
-  made-ends n peer c credits s e =
-      let push = sum_by_push one s.servers (server_end n peer c credits) in
+  made-ends n peer c credits life s e =
+      let push = sum_by_push one s.servers (server_end n peer c credits life) in
       next-one s.server_numbers n (count_by (is_server t) s.servers) _ e (omega arith)
 
   kept-ends : (p : Server → Bool) (f : Server → Server) → ((v : Server) → (f v).way ≡ v.way)
@@ -77,8 +77,8 @@ module _ (t : ℕ) where
       → count_by (is_server t) (servers_after e answer head body s.servers)
       + to_come (server_numbers_after e s.server_numbers) t + cond (ends_session t e) 1 0
       ≡ standing s
-  ends-after (PairedServer n peer c credits) answer head body s a = made-ends n peer c credits s a.numbered
-  ends-after (Accepted n peer c credits) answer head body s a = made-ends n peer c credits s a.numbered
+  ends-after (PairedServer n peer c credits life) answer head body s a = made-ends n peer c credits life s a.numbered
+  ends-after (Accepted n peer c credits life) answer head body s a = made-ends n peer c credits life s a.numbered
   ends-after (Ended n) answer head body s a = left-ends n s a.server a.found
   ends-after (Took (Reply n r) k) answer head body s a =
       kept-ends (is_server n) (λ v. record v { slots = took_packet r head body v.slots }) (λ v. refl) s

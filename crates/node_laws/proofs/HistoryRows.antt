@@ -17,7 +17,7 @@ use Rattle.node_laws.specs.QueuedPackets.{QueuedOnce, queued_of}
 
 -- it begins, posts both packets and sends the first; the second is flushed, and the call rolled back
 abbrev begun : List Fact
-begun = latest_first [] (plain 4 (PairedClient 0 7 3 2) ∷ plain 4 (Asked 0 0 1 9) ∷ plain 4 (Begun 0 0) ∷ [])
+begun = latest_first [] (plain 4 (PairedClient 0 7 3 2 1) ∷ plain 4 (Asked 0 0 1 9) ∷ plain 4 (Begun 0 0) ∷ [])
 
 abbrev posted : List Fact
 posted = latest_first begun (plain 4 (Posted (Ask 0 0) 0) ∷ plain 4 (Posted (Ask 0 0) 1)

@@ -30,7 +30,7 @@ told-idle : (clock : ℕ) (o : Option ControlHeader) (xs : List Client) → AllB
 told-idle clock None xs h = h
 told-idle clock (Some c) xs h =
     all-kept (is_client c.client) (requests clock c) Idle xs
-    (λ x i _. by x i (is_request_of c.kind c.server x.state x.way.other)) h
+    (λ x i _. by x i (is_request_of c.kind c.server c.to_life x.state x.way)) h
   where
     by : (x : Client) → Idle x → (b : Bool) → Idle (cond b (record x { sends = x.sends + 1; sent_at = clock }) x)
     by x i true = i
@@ -39,12 +39,12 @@ told-idle clock (Some c) xs h =
 pub idle-after : (clock : ℕ) (e : Event) (bytes : List ℕ) (head : Option MessageHeader)
     (body : List ℕ) (s : Lists) → AllByRecursion Idle s.clients → Allowed s e
     → AllByRecursion Idle (clients_after clock e bytes head body s.clients)
-idle-after clock (PairedClient n peer t credits) bytes head body s h a =
-    all-push Idle s.clients (client_end n peer t credits) h (λ live off. refl)
+idle-after clock (PairedClient n peer t credits life) bytes head body s h a =
+    all-push Idle s.clients (client_end n peer t credits life) h (λ live off. refl)
 idle-after clock (Opened n peer credits) bytes head body s h a =
     all-push Idle s.clients (opened_end n peer credits) h (λ live off. refl)
-idle-after clock (IsConnected n t) bytes head body s h a =
-    all-kept (is_client n) (connects t) Idle s.clients (λ x i _ live off. cc) h
+idle-after clock (IsConnected n t life) bytes head body s h a =
+    all-kept (is_client n) (connects t life) Idle s.clients (λ x i _ live off. cc) h
 idle-after clock (BeginsClosing n) bytes head body s h a =
     all-changed (is_client n) (comes_to Closing) Idle s.clients a.client a.found (λ i live off. a.idle) h
 idle-after clock (Sent peer Control k) bytes head body s h a = told-idle clock (control_of bytes) s.clients h

@@ -54,8 +54,8 @@ module _ (t : ℕ) where
   pub served-spends : (e : Event) (l : Lists) → Allowed l e
       → cond (makes_server t e) 1 0 + to_come (server_numbers_after e l.server_numbers) t ≤ to_come
       l.server_numbers t
-  served-spends (PairedServer n peer c credits) l a = next-taken l.server_numbers n t a.numbered
-  served-spends (Accepted n peer c credits) l a = next-taken l.server_numbers n t a.numbered
+  served-spends (PairedServer n peer c credits life) l a = next-taken l.server_numbers n t a.numbered
+  served-spends (Accepted n peer c credits life) l a = next-taken l.server_numbers n t a.numbered
   served-spends _ l a = omega arith
 
 module _ (s : ℕ) where
@@ -78,8 +78,8 @@ module _ (s : ℕ) where
       → cond (makes_client s e) 1 0
       + to_come (length (clients_after clock e bytes head body l.clients)) s ≤ to_come
       (length l.clients) s
-  made-spends clock (PairedClient n peer t credits) bytes head body l a =
-      added n (client_end n peer t credits) l.clients a.numbered
+  made-spends clock (PairedClient n peer t credits life) bytes head body l a =
+      added n (client_end n peer t credits life) l.clients a.numbered
   made-spends clock (Opened n peer credits) bytes head body l a =
       added n (opened_end n peer credits) l.clients a.numbered
   made-spends clock (FailedNoRoom n) bytes head body l a = stays (is_client n) (comes_to Failed) l.clients
@@ -87,7 +87,7 @@ module _ (s : ℕ) where
   made-spends clock (BeginsClosing n) bytes head body l a = stays (is_client n) (comes_to Closing) l.clients
   made-spends clock (ClosedHeard n) bytes head body l a = stays (is_client n) (comes_to Closed) l.clients
   made-spends clock (ClosedUnheard n) bytes head body l a = stays (is_client n) (comes_to Closed) l.clients
-  made-spends clock (IsConnected n t) bytes head body l a = stays (is_client n) (connects t) l.clients
+  made-spends clock (IsConnected n t life) bytes head body l a = stays (is_client n) (connects t life) l.clients
   made-spends clock (Sent peer Control k) bytes head body l a = told-stays clock (control_of bytes) l.clients
   made-spends clock (Asked c n y room) bytes head body l a =
       stays (is_client n) (asks (record { number = c; req_type = y; room = room; ask = bytes })) l.clients
@@ -146,10 +146,10 @@ module _ (s : ℕ) where
       (λ x. let same = told-same (awaits s) clock h x refl in omega arith)
 
   -- it is paired, or opened
-  pairs : (n peer t credits : ℕ) (xs : List Client) → n ≡ length xs
-      → cond (n == s) 1 0 + to_join s (xs ++ client_end n peer t credits ∷ []) ≤ to_join s xs
-  pairs n peer t credits xs e =
-      let x = client_end n peer t credits in
+  pairs : (n peer t credits life : ℕ) (xs : List Client) → n ≡ length xs
+      → cond (n == s) 1 0 + to_join s (xs ++ client_end n peer t credits life ∷ []) ≤ to_join s xs
+  pairs n peer t credits life xs e =
+      let x = client_end n peer t credits life in
       let push = sum_by_push (awaits s) xs x in
       let none = never (is_client s x) in
       let taken = added s n x xs e in
@@ -165,12 +165,12 @@ module _ (s : ℕ) where
       omega arith
 
   -- it is connected
-  joins : (n t : ℕ) (l : Lists) → IsIn l Connecting n
-      → cond (n == s) 1 0 + to_join s (at_first (is_client n) (connects t) l.clients) ≤ to_join s
+  joins : (n t life : ℕ) (l : Lists) → IsIn l Connecting n
+      → cond (n == s) 1 0 + to_join s (at_first (is_client n) (connects t life) l.clients) ≤ to_join s
       l.clients
-  joins n t l a =
-      let sums = sum-changed (is_client n) (connects t) (awaits s) l.clients a.client a.found in
-      let long = stays s (is_client n) (connects t) l.clients in
+  joins n t life l a =
+      let sums = sum-changed (is_client n) (connects t life) (awaits s) l.clients a.client a.found in
+      let long = stays s (is_client n) (connects t life) l.clients in
       let number = eqb-true a.client.way.number n (find-passes (is_client n) l.clients a.client a.found) in
       let none = never (is_client s a.client) in
       let before : ◌≡◌ {A = ℕ} (awaits s a.client) (cond (n == s) 1 0) = rw (number, a.stands) (always (n == s)) in
@@ -180,9 +180,10 @@ module _ (s : ℕ) where
       (body : List ℕ) (l : Lists) → Allowed l e
       → cond (joins_client s e) 1 0
       + to_join s (clients_after clock e bytes head body l.clients) ≤ to_join s l.clients
-  join-spends clock (PairedClient n peer t credits) bytes head body l a = pairs n peer t credits l.clients a.numbered
+  join-spends clock (PairedClient n peer t credits life) bytes head body l a =
+      pairs n peer t credits life l.clients a.numbered
   join-spends clock (Opened n peer credits) bytes head body l a = opens n peer credits l.clients a.numbered
-  join-spends clock (IsConnected n t) bytes head body l a = joins n t l a
+  join-spends clock (IsConnected n t life) bytes head body l a = joins n t life l a
   join-spends clock (FailedNoRoom n) bytes head body l a = over (is_client n) Failed refl l.clients
   join-spends clock (FailedNoAnswer n) bytes head body l a = over (is_client n) Failed refl l.clients
   join-spends clock (BeginsClosing n) bytes head body l a = over (is_client n) Closing refl l.clients

@@ -8,7 +8,6 @@ use Rattle.rpc_laws.specs.declared.tables.Client.{Client}
 use Rattle.rpc_laws.specs.declared.tables.Lists.{Lists}
 use Rattle.rpc_laws.specs.declared.tables.Timed.{Timed}
 use Rattle.rpc_laws.specs.Front.{front_header, front_body}
-use Rattle.rpc_laws.specs.Lives.{first_life}
 use Rattle.rpc_laws.specs.NodeLists.{after, after_all, new_lists}
 use Rattle.rpc_laws.specs.Pacing.{due_of}
 use Rattle.rpc_laws.specs.Sessions.{is_client, is_live}
@@ -59,9 +58,9 @@ pub kept-leads : (s : Lists) (x : List Fact) (t : Lists) → Kept s → Leads s 
 kept-leads s [] t k l = rw l k
 kept-leads s (f ∷ fs) t k l = kept-leads (after l.0 s f) fs t (kept-after l.0 s f k l.1) l.2
 
-pub kept-new : (me : ℕ) (limits : Limits) → Kept (new_lists me first_life limits)
-kept-new me limits = record {
-  valid = valid_new me limits;
+pub kept-new : (me life : ℕ) (limits : Limits) → Kept (new_lists me life limits)
+kept-new me life limits = record {
+  valid = valid_new me life limits;
   asked = refl;
   few = tt;
   reads = tt;
@@ -72,8 +71,8 @@ kept-new me limits = record {
 }
 
 pub lists-kept : ListsAreKept
-lists-kept p me limits g t r = kept-leads (new_lists me first_life limits) g t.lists
-    (kept-new me limits) (run_leads r)
+lists-kept p me life limits g t r =
+    kept-leads (new_lists me life limits) g t.lists (kept-new me life limits) (run_leads r)
 
 -- the queued packets of a live session and its free credits are no more than its limit
 pub kept-session : (s : Lists) (n : ℕ) (x : Client) → Kept s → find (is_client n) s.clients ≡ Some x

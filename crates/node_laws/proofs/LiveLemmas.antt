@@ -185,12 +185,12 @@ pub live-after : (clock : ℕ) (e : Event) (due : Option ℕ) (bytes : List ℕ)
     → Windows s.clients s.queued → LiveQueued s.clients s.queued → Allowed s e
     → LiveQueued (clients_after clock e bytes (front_header s.ring) (front_body s.ring) s.clients)
     (queued_after e due s.queued)
-live-after clock (PairedClient n peer t credits) due bytes s v w live a =
-    live-pushed (client_end n peer t credits) s.clients s.queued live
+live-after clock (PairedClient n peer t credits life) due bytes s v w live a =
+    live-pushed (client_end n peer t credits life) s.clients s.queued live
 live-after clock (Opened n peer credits) due bytes s v w live a =
     live-pushed (opened_end n peer credits) s.clients s.queued live
-live-after clock (IsConnected n t) due bytes s v w live a =
-    live-kept (is_client n) (connects t) (λ x. refl) s.clients (λ x on. refl) s.queued live
+live-after clock (IsConnected n t life) due bytes s v w live a =
+    live-kept (is_client n) (connects t life) (λ x. refl) s.clients (λ x on. refl) s.queued live
 live-after clock (BeginsClosing n) due bytes s v w live a =
     live-kept (is_client n) (comes_to Closing) (λ x. refl) s.clients (λ x on. refl) s.queued live
 live-after clock (FailedNoRoom n) due bytes s v w live a =

@@ -89,17 +89,18 @@ module _ (t r : ℕ) where
   made-by v o p true ih = refl
   made-by v o p false ih = ih
 
-  new-by : (n peer c credits : ℕ) (b : Bool) → request_on r (cond b (Some (server_end n peer c credits)) None) ≡ None
-  new-by n peer c credits true = refl
-  new-by n peer c credits false = refl
+  new-by : (n peer c credits life : ℕ) (b : Bool) → request_on r (cond b (Some
+      (server_end n peer c credits life)) None) ≡ None
+  new-by n peer c credits life true = refl
+  new-by n peer c credits life false = refl
 
-  pub look-made : (n peer c credits : ℕ) (servers : List Server)
-      → request_of t r (servers ++ server_end n peer c credits ∷ []) ≡ request_of t r servers
-  look-made n peer c credits [] = new-by n peer c credits (n == t)
-  look-made n peer c credits (v ∷ servers) =
+  pub look-made : (n peer c credits life : ℕ) (servers : List Server)
+      → request_of t r (servers ++ server_end n peer c credits life ∷ []) ≡ request_of t r servers
+  look-made n peer c credits life [] = new-by n peer c credits life (n == t)
+  look-made n peer c credits life (v ∷ servers) =
       made-by v (find (is_server t) servers) (find (is_server t)
-      (servers ++ server_end n peer c credits ∷ [])) (is_server t v)
-      (look-made n peer c credits servers)
+      (servers ++ server_end n peer c credits life ∷ [])) (is_server t v)
+      (look-made n peer c credits life servers)
 
 -- a packet is taken
 module _ (s : Lists) (valid : Valid s) (n k : ℕ) (a : MayServe s n k) (body : List ℕ) where

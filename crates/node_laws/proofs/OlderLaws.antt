@@ -12,7 +12,6 @@ use Rattle.rpc_base.specs.declared.owner.Owner.TheVariants.{Ask, Reply, Control}
 use Rattle.rpc_laws.specs.declared.tables.Lists.{Lists}
 use Rattle.rpc_laws.specs.declared.tables.Served.{Served}
 use Rattle.rpc_laws.specs.Front.{front_header, front_body}
-use Rattle.rpc_laws.specs.Lives.{first_life}
 use Rattle.rpc_laws.specs.NodeLists.{after, new_lists}
 use Rattle.rpc_laws.specs.Pacing.{due_of}
 use Rattle.rpc_laws.specs.Requests.{is_server, is_request, in_slot_of, servers_after, server_numbers_after}
@@ -136,8 +135,8 @@ knows-after clock past s f k a = record {
       k.valid k.standing a;
 }
 
-pub knows-new : (me : ℕ) (limits : Limits) → Knows [] (new_lists me first_life limits)
-knows-new me limits = record { valid = valid_new me limits; queue = λ test. refl; standing = λ n k e. refl }
+pub knows-new : (me life : ℕ) (limits : Limits) → Knows [] (new_lists me life limits)
+knows-new me life limits = record { valid = valid_new me life limits; queue = λ test. refl; standing = λ n k e. refl }
 
 gives-up : (clock : ℕ) (past : List Fact) (s : Lists) (f : Fact) (g : List Fact) (u : Lists)
     → Knows past s → Allowed s f.event → Leads (after clock s f) g u → (t r old : ℕ)
@@ -160,5 +159,5 @@ begins-clean past s (f ∷ g) u k l = (
 )
 
 pub older_clean : OlderRequestsAreNotQueued
-older_clean p me limits g t r =
-    begins-clean [] (new_lists me first_life limits) g t.lists (knows-new me limits) (run_leads r)
+older_clean p me life limits g t r =
+    begins-clean [] (new_lists me life limits) g t.lists (knows-new me life limits) (run_leads r)

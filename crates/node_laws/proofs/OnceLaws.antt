@@ -9,7 +9,6 @@ use Rattle.rpc_base.proofs.BasicLemmas.{at-most-one}
 use Rattle.rpc_laws.specs.declared.tables.Lists.{Lists}
 use Rattle.rpc_laws.specs.AtMostOnce.{is_at, runs_request, works_request, begins_call, ends_call, times, Once}
 use Rattle.rpc_laws.specs.Front.{front_header, front_body}
-use Rattle.rpc_laws.specs.Lives.{first_life}
 use Rattle.rpc_laws.specs.NodeLists.{after, new_lists}
 use Rattle.node_laws.specs.Laws.{HappensAtMostOnce}
 use Rattle.node_laws.proofs.Allowed.{Allowed, Leads}
@@ -73,13 +72,12 @@ times-few n test (f ∷ g) =
     let own = both-less (is_at n f.who) (test f.event) in
     omega arith
 
-module _ (me : ℕ) (limits : Limits) (g : List Fact) (t : Lists)
-    (l : Leads (new_lists me first_life limits) g t) where
+module _ (me life : ℕ) (limits : Limits) (g : List Fact) (t : Lists) (l : Leads (new_lists me life limits) g t) where
   once-of : (test : Event → Bool) (left : Lists → ℕ) → Spends test left
-      → left (new_lists me first_life limits) ≤ 1 → (n : ℕ) → times n test g ≤ 1
+      → left (new_lists me life limits) ≤ 1 → (n : ℕ) → times n test g ≤ 1
   once-of test left each h n =
-      at-most (times n test g) (left (new_lists me first_life limits))
-      (times-le test left each n (new_lists me first_life limits) g t (valid_new me limits) h l) h
+      at-most (times n test g) (left (new_lists me life limits))
+      (times-le test left each n (new_lists me life limits) g t (valid_new me life limits) h l) h
 
   run-once : ((n r : ℕ) → count_by (λ f. works_request n r f.event) g ≤ 1) → Once g
   run-once worked = record {
@@ -94,4 +92,4 @@ module _ (me : ℕ) (limits : Limits) (g : List Fact) (t : Lists)
   }
 
 pub once : HappensAtMostOnce
-once p me limits g t r = run-once me limits g t.lists (run_leads r) r.worked_once
+once p me life limits g t r = run-once me life limits g t.lists (run_leads r) r.worked_once

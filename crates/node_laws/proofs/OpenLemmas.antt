@@ -50,8 +50,8 @@ turns-told clock (Some c) xs h =
 pub turns-after : (clock : ℕ) (e : Event) (bytes : List ℕ) (head : Option MessageHeader)
     (body : List ℕ) (xs : List Client) → AllByRecursion EightTurns xs
     → AllByRecursion EightTurns (clients_after clock e bytes head body xs)
-turns-after clock (PairedClient n peer t credits) bytes head body xs h =
-    all-push EightTurns xs (client_end n peer t credits) h refl
+turns-after clock (PairedClient n peer t credits life) bytes head body xs h =
+    all-push EightTurns xs (client_end n peer t credits life) h refl
 turns-after clock (Opened n peer credits) bytes head body xs h =
     all-push EightTurns xs (opened_end n peer credits) h refl
 turns-after clock (FailedNoRoom n) bytes head body xs h =
@@ -64,8 +64,8 @@ turns-after clock (ClosedHeard n) bytes head body xs h =
     all-kept (is_client n) (comes_to Closed) EightTurns xs (λ x i _. i) h
 turns-after clock (ClosedUnheard n) bytes head body xs h =
     all-kept (is_client n) (comes_to Closed) EightTurns xs (λ x i _. i) h
-turns-after clock (IsConnected n t) bytes head body xs h =
-    all-kept (is_client n) (connects t) EightTurns xs (λ x i _. i) h
+turns-after clock (IsConnected n t life) bytes head body xs h =
+    all-kept (is_client n) (connects t life) EightTurns xs (λ x i _. i) h
 turns-after clock (Sent peer Control k) bytes head body xs h = turns-told clock (control_of bytes) xs h
 turns-after clock (Asked c n y room) bytes head body xs h =
     all-kept (is_client n) (asks (record { number = c; req_type = y; room = room; ask = bytes }))
@@ -193,11 +193,11 @@ module _ (r : ℕ) where
   open-pushed n y (x ∷ xs) h =
       made-by (is_client n x) x (find (is_client n) xs) (find (is_client n) (xs ++ y ∷ [])) (open-pushed n y xs h)
 
-  open-made : (n s peer t credits : ℕ) (xs : List Client)
-      → open_of (find (is_client n) (xs ++ client_end s peer t credits ∷ [])) ≤ open_of
+  open-made : (n s peer t credits life : ℕ) (xs : List Client)
+      → open_of (find (is_client n) (xs ++ client_end s peer t credits life ∷ [])) ≤ open_of
       (find (is_client n) xs)
-  open-made n s peer t credits xs =
-      open-pushed n (client_end s peer t credits) xs (one-future (ltb (r / 8) (slice_index no_turns (r % 8))))
+  open-made n s peer t credits life xs =
+      open-pushed n (client_end s peer t credits life) xs (one-future (ltb (r / 8) (slice_index no_turns (r % 8))))
 
   open-opened : (n s peer credits : ℕ) (xs : List Client)
       → open_of (find (is_client n) (xs ++ opened_end s peer credits ∷ [])) ≤ open_of
@@ -238,8 +238,8 @@ module _ (n r : ℕ) (s : Lists) (v : Valid s) (eight : AllByRecursion EightTurn
 pub open-after : (n r clock : ℕ) (e : Event) (bytes : List ℕ) (head : Option MessageHeader)
     (body : List ℕ) (s : Lists) → Valid s → AllByRecursion EightTurns s.clients → Allowed s e
     → open_for n r (clients_after clock e bytes head body s.clients) ≤ open_for n r s.clients
-open-after n r clock (PairedClient i peer t credits) bytes head body s v h a =
-    open-made r n i peer t credits s.clients
+open-after n r clock (PairedClient i peer t credits life) bytes head body s v h a =
+    open-made r n i peer t credits life s.clients
 open-after n r clock (Opened i peer credits) bytes head body s v h a = open-opened r n i peer credits s.clients
 open-after n r clock (FailedNoRoom i) bytes head body s v h a =
     changed-le (open_of r) (is_client i) (comes_to Failed) (is_client n) (λ x. refl) s.clients (λ x _. omega arith)
@@ -251,8 +251,8 @@ open-after n r clock (ClosedHeard i) bytes head body s v h a =
     changed-le (open_of r) (is_client i) (comes_to Closed) (is_client n) (λ x. refl) s.clients (λ x _. omega arith)
 open-after n r clock (ClosedUnheard i) bytes head body s v h a =
     changed-le (open_of r) (is_client i) (comes_to Closed) (is_client n) (λ x. refl) s.clients (λ x _. omega arith)
-open-after n r clock (IsConnected i t) bytes head body s v h a =
-    changed-le (open_of r) (is_client i) (connects t) (is_client n) (λ x. refl) s.clients (λ x _. omega arith)
+open-after n r clock (IsConnected i t life) bytes head body s v h a =
+    changed-le (open_of r) (is_client i) (connects t life) (is_client n) (λ x. refl) s.clients (λ x _. omega arith)
 open-after n r clock (Sent peer Control k) bytes head body s v h a = open-told r n clock (control_of bytes) s.clients
 open-after n r clock (Asked c i y room) bytes head body s v h a =
     changed-le (open_of r) (is_client i) (asks

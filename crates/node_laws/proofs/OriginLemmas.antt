@@ -127,8 +127,8 @@ pub unlike-after : (c r clock : ℕ) (e : Event) (bytes : List ℕ) (head : Opti
     (body : List ℕ) (s : Lists) → Valid s → Allowed s e
     → 0 + (remaining c (otherwise r) (clients_after clock e bytes head body s.clients)
     + to_come (asked_after e s.asked) c) ≤ unlike c r s
-unlike-after c r clock (PairedClient n peer t credits) bytes head body s v a =
-    remaining-made c (otherwise r) n peer t credits (to_come s.asked c) s.clients
+unlike-after c r clock (PairedClient n peer t credits life) bytes head body s v a =
+    remaining-made c (otherwise r) n peer t credits life (to_come s.asked c) s.clients
 unlike-after c r clock (Opened n peer credits) bytes head body s v a =
     remaining-opened c (otherwise r) n peer credits (to_come s.asked c) s.clients
 unlike-after c r clock (FailedNoRoom n) bytes head body s v a =
@@ -141,8 +141,8 @@ unlike-after c r clock (ClosedHeard n) bytes head body s v a =
     remaining-kept c (otherwise r) (is_client n) (comes_to Closed) s.clients (to_come s.asked c) (λ x. omega arith)
 unlike-after c r clock (ClosedUnheard n) bytes head body s v a =
     remaining-kept c (otherwise r) (is_client n) (comes_to Closed) s.clients (to_come s.asked c) (λ x. omega arith)
-unlike-after c r clock (IsConnected n t) bytes head body s v a =
-    remaining-kept c (otherwise r) (is_client n) (connects t) s.clients (to_come s.asked c) (λ x. omega arith)
+unlike-after c r clock (IsConnected n t life) bytes head body s v a =
+    remaining-kept c (otherwise r) (is_client n) (connects t life) s.clients (to_come s.asked c) (λ x. omega arith)
 unlike-after c r clock (Sent peer Control k) bytes head body s v a =
     remaining-told c (otherwise r) clock (to_come s.asked c) (control_of bytes) s.clients
 unlike-after c r clock (Asked i n y room) bytes head body s v a =

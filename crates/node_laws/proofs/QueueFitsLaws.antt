@@ -8,7 +8,6 @@ use Rattle.rpc_base.specs.declared.fact.Fact.{Fact}
 use Rattle.rpc_base.specs.declared.owner.Owner.TheVariants.{Ask}
 use Rattle.rpc_laws.specs.declared.tables.Client.{Client}
 use Rattle.rpc_laws.specs.declared.tables.Lists.{Lists}
-use Rattle.rpc_laws.specs.Lives.{first_life}
 use Rattle.rpc_laws.specs.NodeLists.{after, new_lists}
 use Rattle.rpc_laws.specs.Pacing.{due_of}
 use Rattle.rpc_laws.specs.Sessions.{is_live}
@@ -104,11 +103,11 @@ fits-from past a s (f ∷ g) t k l = (
 )
 
 pub queue-fits : QueuedPacketsFit
-queue-fits p me limits g t r =
-    fits-from [] no_accounts (new_lists me first_life limits) g t.lists
+queue-fits p me life limits g t r =
+    fits-from [] no_accounts (new_lists me life limits) g t.lists
     (record {
-      knows = knows-new me limits;
-      agrees = agrees-new me limits;
+      knows = knows-new me life limits;
+      agrees = agrees-new me life limits;
       once = λ n j i. omega arith;
       live = tt;
     }) (run_leads r)

@@ -97,8 +97,8 @@ pub windows-after : (clock : ℕ) (e : Event) (due : Option ℕ) (bytes : List �
     → Windows s.clients s.queued → Allowed s e
     → Windows (clients_after clock e bytes (front_header s.ring) (front_body s.ring) s.clients)
     (queued_after e due s.queued)
-windows-after clock (PairedClient n peer t credits) due bytes s v w a =
-    all-in s.clients _ s.queued (window-made n peer t credits s.clients) w
+windows-after clock (PairedClient n peer t credits life) due bytes s v w a =
+    all-in s.clients _ s.queued (window-made n peer t credits life s.clients) w
 windows-after clock (Opened n peer credits) due bytes s v w a =
     all-in s.clients _ s.queued (window-opened n peer credits s.clients) w
 windows-after clock (FailedNoRoom n) due bytes s v w a =
@@ -111,8 +111,8 @@ windows-after clock (ClosedHeard n) due bytes s v w a =
     all-in s.clients _ s.queued (window-kept (is_client n) (comes_to Closed) (λ x. refl) (λ x. refl) s.clients) w
 windows-after clock (ClosedUnheard n) due bytes s v w a =
     all-in s.clients _ s.queued (window-kept (is_client n) (comes_to Closed) (λ x. refl) (λ x. refl) s.clients) w
-windows-after clock (IsConnected n t) due bytes s v w a =
-    all-in s.clients _ s.queued (window-kept (is_client n) (connects t) (λ x. refl) (λ x. refl) s.clients) w
+windows-after clock (IsConnected n t life) due bytes s v w a =
+    all-in s.clients _ s.queued (window-kept (is_client n) (connects t life) (λ x. refl) (λ x. refl) s.clients) w
 windows-after clock (Asked c n y room) due bytes s v w a =
     all-in s.clients _ s.queued (window-asked
     (record { number = c; req_type = y; room = room; ask = bytes }) n s.clients) w

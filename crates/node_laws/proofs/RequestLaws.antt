@@ -205,13 +205,13 @@ module _ (who : Who) (bytes second : List ℕ) (past : List Fact) (s : Lists) (v
   pub told-after : (e : Event) → Allowed s e → Told t r past (request_of t r s.servers)
       → Told t r (noted who e bytes second ∷ past)
       (request_of t r (servers_after e second (front_header s.ring) (front_body s.ring) s.servers))
-  told-after (PairedServer n peer c credits) a told =
-      rw (look-made t r n peer c credits s.servers)
-      (told-stays t r past (noted who (PairedServer n peer c credits) bytes second)
+  told-after (PairedServer n peer c credits life) a told =
+      rw (look-made t r n peer c credits life s.servers)
+      (told-stays t r past (noted who (PairedServer n peer c credits life) bytes second)
       (request_of t r s.servers) refl told)
-  told-after (Accepted n peer c credits) a told =
-      rw (look-made t r n peer c credits s.servers)
-      (told-stays t r past (noted who (Accepted n peer c credits) bytes second)
+  told-after (Accepted n peer c credits life) a told =
+      rw (look-made t r n peer c credits life s.servers)
+      (told-stays t r past (noted who (Accepted n peer c credits life) bytes second)
       (request_of t r s.servers) refl told)
   told-after (Ended n) a told =
       ended-told n (ended-by (λ q. true) (falls-always true).next t n s.server_numbers s.servers (valid.alone t)) told

@@ -56,7 +56,7 @@ node servers jobs queued =
 
 -- a session of two credits
 abbrev paired : List Server
-paired = server_end 0 7 3 2 ∷ []
+paired = server_end 0 7 3 2 1 ∷ []
 
 -- the request begins, and is given to a worker, unless the jobs are full
 row-begins : server_row Background false false (slice_get paired 0) 7 (asking 0) ≡ Begins
@@ -85,7 +85,7 @@ out = record { limit = 64; given = 1; out = job ∷ [] }
 row-given : jobs_after (Given 0 0) took (no_jobs 64) ≡ out
 row-given = refl
 
-row-slot : given ≡ record (server_end 0 7 3 2) {
+row-slot : given ≡ record (server_end 0 7 3 2 1) {
   slots = record {
     number = 0;
     req_type = 130;
@@ -147,9 +147,8 @@ row-newer-listed = refl
 -- the facts: the datagram, its header of 20 bytes and its body, arrives, and is taken
 abbrev taken_facts : List Fact
 taken_facts =
-    plain 4 (PairedServer 0 7 3 2) ∷ with_bytes 4 (Arrived 7)
-    (226 ∷ 0 ∷ 130 ∷ 0 ∷ 0 ∷ 2 ∷ 0 ∷ 0 ∷ 0 ∷ 0 ∷ 0 ∷ 0 ∷ 0 ∷ 0 ∷ 0 ∷ 0 ∷ 0 ∷ 0 ∷ 0 ∷ 1
-    ∷ 97 ∷ 98 ∷ [])
+    plain 4 (PairedServer 0 7 3 2 1) ∷ with_bytes 4 (Arrived 7)
+    (226 ∷ 0 ∷ 130 ∷ 0 ∷ 0 ∷ 2 ∷ 0 ∷ 0 ∷ 0 ∷ 0 ∷ 0 ∷ 0 ∷ 0 ∷ 0 ∷ 0 ∷ 0 ∷ 0 ∷ 0 ∷ 0 ∷ 1 ∷ 97 ∷ 98 ∷ [])
     ∷ plain 4 (Took (Reply 0 0) 0) ∷ []
 
 abbrev ran_facts : List Fact

@@ -15,7 +15,6 @@ use Rattle.rpc_laws.specs.declared.tables.Lists.{Lists}
 use Rattle.rpc_laws.specs.declared.tables.Served.{Served}
 use Rattle.rpc_laws.specs.declared.tables.Server.{Server}
 use Rattle.rpc_laws.specs.Front.{front_header, front_body}
-use Rattle.rpc_laws.specs.Lives.{first_life}
 use Rattle.rpc_laws.specs.NodeLists.{after, new_lists}
 use Rattle.rpc_laws.specs.Queues.{ring_after}
 use Rattle.rpc_laws.specs.Requests.{is_server, is_request, request_of}
@@ -97,9 +96,9 @@ come-one t = by (leb 0 t) (le-leb 0 t (omega arith))
     by true e = refl
     by false e = cc
 
-tells-new : (me : ℕ) (limits : Limits) → Tells [] (new_lists me first_life limits)
-tells-new me limits = record {
-  valid = valid_new me limits;
+tells-new : (me life : ℕ) (limits : Limits) → Tells [] (new_lists me life limits)
+tells-new me life limits = record {
+  valid = valid_new me life limits;
   ring = refl;
   started = λ t r e. cc;
   newer = λ t r e. cc;
@@ -275,5 +274,5 @@ at-end past s [] u k l = rw l (tells-requests past s k)
 at-end past s (f ∷ g) u k l = at-end (f ∷ past) (after l.0 s f) g u (tells-after l.0 past s f k l.1) l.2
 
 pub requests_tell : RequestsTellTheHistory
-requests_tell p me limits g t r = at-end [] (new_lists me first_life limits) g t.lists
-    (tells-new me limits) (run_leads r)
+requests_tell p me life limits g t r =
+    at-end [] (new_lists me life limits) g t.lists (tells-new me life limits) (run_leads r)

@@ -8,7 +8,6 @@ use Rattle.rpc_laws.specs.declared.tables.Arrival.{Arrival}
 use Rattle.rpc_laws.specs.declared.tables.Lists.{Lists}
 use Rattle.rpc_laws.specs.Deliveries.{inbox_room}
 use Rattle.rpc_laws.specs.Front.{is_message, is_control}
-use Rattle.rpc_laws.specs.Lives.{first_life}
 use Rattle.rpc_laws.specs.NodeLists.{after, new_lists}
 use Rattle.rpc_laws.specs.Queues.{ring_after, inbox_after}
 use Rattle.node_laws.specs.Laws.{RingFits, InboxFits, SharesFit}
@@ -53,12 +52,10 @@ inbox-within s [] t h l = h
 inbox-within s (f ∷ g) t h l = (h, inbox-within (after l.0 s f) g t (inbox-after f.event f.first f.second s l.1 h) l.2)
 
 pub ring_within : RingFits
-ring_within p me limits g t r = within (new_lists me first_life limits) g t.lists (omega arith)
-    (run_leads_by r)
+ring_within p me life limits g t r = within (new_lists me life limits) g t.lists (omega arith) (run_leads_by r)
 
 pub inbox_within : InboxFits
-inbox_within p me limits g t r = inbox-within (new_lists me first_life limits) g t.lists
-    (omega arith) (run_leads_by r)
+inbox_within p me life limits g t r = inbox-within (new_lists me life limits) g t.lists (omega arith) (run_leads_by r)
 
 -- the ring keeps its length
 room-stays : (s : Lists) (g : List Fact) (t : Lists) → Leads s g t → t.room ≡ s.room
@@ -66,8 +63,8 @@ room-stays s [] t l = ap (λ (u : Lists). u.room) l
 room-stays s (f ∷ g) t l = room-stays (after l.0 s f) g t l.2
 
 pub shares_fit : SharesFit
-shares_fit p me limits g t r =
+shares_fit p me life limits g t r =
     let valid = run_valid r in
     let shared = valid.shared in
-    let room = room-stays (new_lists me first_life limits) g t.lists (run_leads r) in
+    let room = room-stays (new_lists me life limits) g t.lists (run_leads r) in
     omega arith

@@ -21,12 +21,13 @@ use Rattle.rpc_base.specs.declared.event.Event.TheVariants.{PairedClient, Paired
 use Rattle.rpc_base.specs.declared.event.Event.TheVariants.{Closing as BeginsClosing}
 use Rattle.rpc_base.specs.declared.event.Event.TheVariants.{NconnectNumbers, NconnectRing}
 use Rattle.rpc_base.specs.declared.event.Event.TheVariants.{NcloseState, NcloseBusy, Rated, Nrate}
-use Rattle.rpc_base.specs.declared.event.Event.TheVariants.{NcallTooLarge, Arrived}
+use Rattle.rpc_base.specs.declared.event.Event.TheVariants.{NcallTooLarge, Arrived, Dropped}
 use Rattle.rpc_base.specs.declared.event.Event.TheVariants.{Overflowed, Bad, Ran, Sent, Worked, Missed}
 use Rattle.rpc_base.specs.declared.fact.Fact.{Fact}
 use Rattle.rpc_base.specs.declared.limits.TheConstants.{HEAD_BYTES}
 use Rattle.rpc_base.specs.declared.owner.Owner.{Owner}
 use Rattle.rpc_base.specs.declared.owner.Owner.TheVariants.{Ask, Reply, Control as IsControl}
+use Rattle.rpc_base.specs.declared.state.DropReason.TheVariants.{StaleLife}
 use Rattle.rpc_base.specs.declared.state.SessionState.{SessionState}
 use Rattle.rpc_base.specs.declared.state.SessionState.TheVariants.{Unknown, Connecting, Connected}
 use Rattle.rpc_base.specs.declared.state.SessionState.TheVariants.{Closing, Closed, Failed, Broken}
@@ -48,7 +49,6 @@ use Rattle.rpc_laws.specs.Groups.{Asks, Connects, Disconnects, SetsRate, told_st
 use Rattle.rpc_laws.specs.Groups.{ask_by_state, shares, clients_spent, servers_spent, has_no_room}
 use Rattle.rpc_laws.specs.Groups.{refusal_by, connect_by, disconnect_by, pending}
 use Rattle.rpc_laws.specs.Jobs.{is_job}
-use Rattle.rpc_laws.specs.Lives.{first_life}
 use Rattle.rpc_laws.specs.NodeLists.{after, new_lists, new_node}
 use Rattle.rpc_laws.specs.Packets.{owner_packet}
 use Rattle.rpc_laws.specs.PollOrder.{answer_posted, awaited, awaited_of, Finishes, FinishesOne}
@@ -63,7 +63,7 @@ use Rattle.rpc_laws.specs.Steps.{Then}
 use Rattle.rpc_laws.specs.Requests.{is_request, is_server, request_of}
 use Rattle.node_laws.specs.NodeRun.{Notes, Group, pairs_client, pairs_server, refuses, connects}
 use Rattle.node_laws.specs.NodeRun.{disconnects, sets_rate, asks, delivers, polls, works, misses}
-use Rattle.node_laws.specs.NodeRun.{NodeRun}
+use Rattle.node_laws.specs.NodeRun.{LifeRun}
 use Rattle.node_laws.proofs.Allowed.{MayFinish, MayClose, MayReply, AllowedBy}
 use Rattle.node_laws.proofs.Allowed.{AllAllowed, Leads, LeadsBy, leads-of}
 use Rattle.node_laws.proofs.ControlLemmas.{hears-all-lawful}
@@ -100,12 +100,20 @@ module _ (mode : ℕ → Mode) (lacks : Bool) (answer : List ℕ) where
   handling-allowed clock s peer h Cr e v front = replies-allowed clock s v h front peer
   handling-allowed clock s peer h Response e v front = replies-allowed clock s v h front peer
 
+  -- a packet for another life is dropped
+  handled-allowed : (clock : ℕ) (s : Lists) (peer : ℕ) (h : MessageHeader) (b : Bool) → Valid s
+      → front_header s.ring ≡ Some h
+      → AllAllowed clock s (cond b (handling_by mode lacks answer h.kind s peer h (front_body s.ring))
+      (plain s.me (Dropped StaleLife) ∷ []))
+  handled-allowed clock s peer h true v front = handling-allowed clock s peer h h.kind refl v front
+  handled-allowed clock s peer h false v front = (tt, tt)
+
 pub handles-lawful : (mode : ℕ → Mode) → Lawful (Handles mode)
 handles-lawful mode s x t v h =
     let front = front-is s.lists.ring h.front h.is_front in
     let header : front_header s.lists.ring ≡ Some h.header = front.0 ∙ h.reads in
-    let all = handling-allowed mode h.lacks h.answer s.clock s.lists h.front.peer h.header h.header.kind refl
-    v header in
+    let all = handled-allowed mode h.lacks h.answer s.clock s.lists h.front.peer h.header
+    (h.header.to_life == s.lists.life) v header in
     lawful-goes s x t h.goes (rw (h.facts, ← front.1) all)
 
 -- a job is finished
@@ -425,14 +433,14 @@ own-clock s x t l = record { clock = s.clock; leads = record { all = l.all; list
 
 pub group-lawful : (mode : ℕ → Mode) (s : Timed) (x : List Fact) (t : Timed) → Valid s.lists
     → Group mode s x t → LeadsFrom s x t
-group-lawful mode s x t v (pairs_client peer server credits may h) =
-    own-clock s x t (notes-lawful (PairedClient (length s.lists.clients) peer server credits) s x t
+group-lawful mode s x t v (pairs_client peer server credits life may h) =
+    own-clock s x t (notes-lawful (PairedClient (length s.lists.clients) peer server credits life) s x t
     (record {
       numbered = refl;
       room = pair-fits (clients_spent s.lists) credits s.lists may.fits;
     }) h)
-group-lawful mode s x t v (pairs_server peer client credits may h) =
-    own-clock s x t (notes-lawful (PairedServer s.lists.server_numbers peer client credits) s x t
+group-lawful mode s x t v (pairs_server peer client credits life may h) =
+    own-clock s x t (notes-lawful (PairedServer s.lists.server_numbers peer client credits life) s x t
     (record {
       numbered = refl;
       room = pair-fits (servers_spent s.lists) credits s.lists may.fits;
@@ -462,18 +470,17 @@ group-leads mode s x t v h =
     let l = group-lawful mode s x t v h in leads-at (record s { clock = l.clock }) x t l.leads
 
 -- what a run says of its facts
-pub run_leads_by : {p : Serving} {me : ℕ} {limits : Limits} {g : List Fact} {t : Timed}
-    → NodeRun p me limits g t → LeadsBy (new_lists me first_life limits) g t.lists
-run_leads_by {p} {me} {limits} r =
-    groups-chain (Group p.mode) (group-leads p.mode) (new_node me first_life limits)
-    (valid_new me limits) r.steps
+pub run_leads_by : {p : Serving} {me life : ℕ} {limits : Limits} {g : List Fact} {t : Timed}
+    → LifeRun p me life limits g t → LeadsBy (new_lists me life limits) g t.lists
+run_leads_by {p} {me} {life} {limits} r =
+    groups-chain (Group p.mode) (group-leads p.mode) (new_node me life limits)
+    (valid_new me life limits) r.steps
 
-pub run_leads : {p : Serving} {me : ℕ} {limits : Limits} {g : List Fact} {t : Timed}
-    → NodeRun p me limits g t → Leads (new_lists me first_life limits) g t.lists
-run_leads {p} {me} {limits} {g} {t} r = leads-of (new_lists me first_life limits) g t.lists
-    (run_leads_by r)
+pub run_leads : {p : Serving} {me life : ℕ} {limits : Limits} {g : List Fact} {t : Timed}
+    → LifeRun p me life limits g t → Leads (new_lists me life limits) g t.lists
+run_leads {p} {me} {life} {limits} {g} {t} r = leads-of (new_lists me life limits) g t.lists (run_leads_by r)
 
-pub run_valid : {p : Serving} {me : ℕ} {limits : Limits} {g : List Fact} {t : Timed}
-    → NodeRun p me limits g t → Valid t.lists
-run_valid {p} {me} {limits} {g} {t} r =
-    valid_leads (new_lists me first_life limits) g t.lists (valid_new me limits) (run_leads r)
+pub run_valid : {p : Serving} {me life : ℕ} {limits : Limits} {g : List Fact} {t : Timed}
+    → LifeRun p me life limits g t → Valid t.lists
+run_valid {p} {me} {life} {limits} {g} {t} r =
+    valid_leads (new_lists me life limits) g t.lists (valid_new me life limits) (run_leads r)

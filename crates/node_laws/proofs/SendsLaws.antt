@@ -17,7 +17,6 @@ use Rattle.rpc_laws.specs.declared.tables.Queued.{Queued}
 use Rattle.rpc_laws.specs.declared.tables.Served.{Served}
 use Rattle.rpc_laws.specs.declared.tables.Server.{Server}
 use Rattle.rpc_laws.specs.BufferSafety.{SentRight, SpellsOwn}
-use Rattle.rpc_laws.specs.Lives.{first_life}
 use Rattle.rpc_laws.specs.NodeLists.{after, new_lists}
 use Rattle.rpc_laws.specs.Pacing.{due_of}
 use Rattle.rpc_laws.specs.Packets.{reply_packet, request_packet}
@@ -55,9 +54,9 @@ knows-after clock s f k a =
       reached = reached-after s k.valid k.standing k.reached f.event due f.first f.second a;
     }
 
-knows-new : (me : ℕ) (limits : Limits) → Knows (new_lists me first_life limits)
-knows-new me limits = record {
-  valid = valid_new me limits;
+knows-new : (me life : ℕ) (limits : Limits) → Knows (new_lists me life limits)
+knows-new me life limits = record {
+  valid = valid_new me life limits;
   standing = λ t r e. refl;
   taken = tt;
   reached = λ t r k q e some. absurd (omega arith);
@@ -132,10 +131,10 @@ sends-from s t u (f ∷ g) k l same = (
 )
 
 pub sends_own : SendsItsOwn
-sends_own p me limits g t r =
-    λ other others same. sends-from (new_lists me first_life limits)
-    (new_lists other first_life others) t.lists g
-    (knows-new me limits) (run_leads_by r) (record {
+sends_own p me life limits g t r =
+    λ other others same. sends-from (new_lists me life limits)
+    (new_lists other life others) t.lists g
+    (knows-new me life limits) (run_leads_by r) (record {
       clients = refl;
       servers = refl;
       ring = refl;

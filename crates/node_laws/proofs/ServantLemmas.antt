@@ -44,13 +44,13 @@ module _ (test : Served → Bool)
   new-by r t used true v e h = let same = eqb-true used t e in grind (arith, nat_tests)
   new-by r t used false v e h = grind (arith, nat_tests)
 
-  made-le : (t r : ℕ) (n peer s credits : ℕ) (xs : List Server)
-      → left test t r (n + 1) (xs ++ server_end n peer s credits ∷ []) ≤ left test t r n xs
-  made-le t r n peer s credits [] = new-by r t n (n == t) (server_end n peer s credits) refl (omega arith)
-  made-le t r n peer s credits (v ∷ xs) =
+  made-le : (t r : ℕ) (n peer s credits life : ℕ) (xs : List Server)
+      → left test t r (n + 1) (xs ++ server_end n peer s credits life ∷ []) ≤ left test t r n xs
+  made-le t r n peer s credits life [] = new-by r t n (n == t) (server_end n peer s credits life) refl (omega arith)
+  made-le t r n peer s credits life (v ∷ xs) =
       made-by r (to_come n t) (to_come (n + 1) t) (is_server t v) v (find (is_server t) xs)
-      (find (is_server t) (xs ++ server_end n peer s credits ∷ []))
-      (made-le t r n peer s credits xs)
+      (find (is_server t) (xs ++ server_end n peer s credits life ∷ []))
+      (made-le t r n peer s credits life xs)
 
   -- a session that ended has no request to come
   over-by : (r m : ℕ) (o p : Option Server) → (p ≡ o) ⊎ ((p ≡ None) × (m ≤ 0))
@@ -126,10 +126,10 @@ module _ (test : Served → Bool)
       (body : List ℕ) (s : Lists) → Valid s → IsElse e → Allowed s e
       → left test t r (server_numbers_after e s.server_numbers)
       (servers_after e answer head body s.servers) ≤ left test t r s.server_numbers s.servers
-  left-else t r (PairedServer n peer c credits) answer head body s v u a =
-      rw a.numbered (made-le t r s.server_numbers peer c credits s.servers)
-  left-else t r (Accepted n peer c credits) answer head body s v u a =
-      rw a.numbered (made-le t r s.server_numbers peer c credits s.servers)
+  left-else t r (PairedServer n peer c credits life) answer head body s v u a =
+      rw a.numbered (made-le t r s.server_numbers peer c credits life s.servers)
+  left-else t r (Accepted n peer c credits life) answer head body s v u a =
+      rw a.numbered (made-le t r s.server_numbers peer c credits life s.servers)
   left-else t r (Ended n) answer head body s v u a =
       over-by r (to_come s.server_numbers t) (find (is_server t) s.servers)
       (find (is_server t) (without_first (is_server n) s.servers))

@@ -70,11 +70,11 @@ module _ (s : Lists) (valid : Valid s) (t r : ℕ) where
 pub served-after : (e : Event) (answer : List ℕ) (head : Option MessageHeader) (body : List ℕ)
     (s : Lists) → Valid s → Allowed s e
     → AllByRecursion SoundServer (servers_after e answer head body s.servers)
-served-after (PairedServer t peer n credits) answer head body s v a =
-    all-push SoundServer s.servers (server_end t peer n credits) v.served
+served-after (PairedServer t peer n credits life) answer head body s v a =
+    all-push SoundServer s.servers (server_end t peer n credits life) v.served
     (record { apart = λ slot. omega arith; whole = tt })
-served-after (Accepted t peer n credits) answer head body s v a =
-    all-push SoundServer s.servers (server_end t peer n credits) v.served
+served-after (Accepted t peer n credits life) answer head body s v a =
+    all-push SoundServer s.servers (server_end t peer n credits life) v.served
     (record { apart = λ slot. omega arith; whole = tt })
 served-after (Ended t) answer head body s v a = all-left (is_server t) SoundServer s.servers v.served
 served-after (Took (Reply t r) k) answer head body s v a =
@@ -94,12 +94,12 @@ module _ (t : ℕ) where
       → m + to_come (used + 1) t ≤ 1
   next-one used n c m e h k = grind (arith, nat_tests)
 
-  made-alone : (n peer c credits : ℕ) (s : Lists) → n ≡ s.server_numbers
+  made-alone : (n peer c credits life : ℕ) (s : Lists) → n ≡ s.server_numbers
       → count_by (is_server t) s.servers + to_come s.server_numbers t ≤ 1
-      → count_by (is_server t) (s.servers ++ server_end n peer c credits ∷ [])
+      → count_by (is_server t) (s.servers ++ server_end n peer c credits life ∷ [])
       + to_come (s.server_numbers + 1) t ≤ 1
-  made-alone n peer c credits s e h =
-      let push = sum_by_push one s.servers (server_end n peer c credits) in
+  made-alone n peer c credits life s e h =
+      let push = sum_by_push one s.servers (server_end n peer c credits life) in
       next-one s.server_numbers n (count_by (is_server t) s.servers) _ e h (omega arith)
 
   kept-alone : (p : Server → Bool) (f : Server → Server) → ((v : Server) → (f v).way ≡ v.way)
@@ -112,8 +112,9 @@ module _ (t : ℕ) where
       (s : Lists) → count_by (is_server t) s.servers + to_come s.server_numbers t ≤ 1 → Allowed s e
       → count_by (is_server t) (servers_after e answer head body s.servers)
       + to_come (server_numbers_after e s.server_numbers) t ≤ 1
-  alone-after (PairedServer n peer c credits) answer head body s h a = made-alone n peer c credits s a.numbered h
-  alone-after (Accepted n peer c credits) answer head body s h a = made-alone n peer c credits s a.numbered h
+  alone-after (PairedServer n peer c credits life) answer head body s h a =
+      made-alone n peer c credits life s a.numbered h
+  alone-after (Accepted n peer c credits life) answer head body s h a = made-alone n peer c credits life s a.numbered h
   alone-after (Ended n) answer head body s h a = let fewer = sum-fewer (is_server n) one s.servers in omega arith
   alone-after (Took (Reply n r) k) answer head body s h a =
       kept-alone (is_server n) (λ v. record v { slots = took_packet r head body v.slots }) (λ v. refl) s h

@@ -35,13 +35,13 @@ use Rattle.node_laws.proofs.ToldSame.{told-same}
 
 -- the credits of a client session that a fact makes, and of a server session
 abbrev client_made : Event → ℕ
-client_made (PairedClient n peer t credits) = credits
+client_made (PairedClient n peer t credits life) = credits
 client_made (Opened n peer credits) = credits
 client_made _ = 0
 
 abbrev server_made : Event → ℕ
-server_made (PairedServer n peer c credits) = credits
-server_made (Accepted n peer c credits) = credits
+server_made (PairedServer n peer c credits life) = credits
+server_made (Accepted n peer c credits life) = credits
 server_made _ = 0
 
 abbrev client_part : List Client → ℕ
@@ -77,12 +77,12 @@ clients-after : (clock : ℕ) (e : Event) (bytes : List ℕ) (head : Option Mess
     (body : List ℕ) (s : Lists) → Allowed s e
     → client_part (clients_after clock e bytes head body s.clients) ≤ client_part s.clients
     + client_made e
-clients-after clock (PairedClient n peer t credits) bytes head body s a =
-    let push = sum_by_push live_credits s.clients (client_end n peer t credits) in omega arith
+clients-after clock (PairedClient n peer t credits life) bytes head body s a =
+    let push = sum_by_push live_credits s.clients (client_end n peer t credits life) in omega arith
 clients-after clock (Opened n peer credits) bytes head body s a =
     let push = sum_by_push live_credits s.clients (opened_end n peer credits) in omega arith
-clients-after clock (IsConnected n t) bytes head body s a =
-    let less = lives n (connects t) a.client s.clients a.found (ap is_live a.stands) refl refl in omega arith
+clients-after clock (IsConnected n t life) bytes head body s a =
+    let less = lives n (connects t life) a.client s.clients a.found (ap is_live a.stands) refl refl in omega arith
 clients-after clock (BeginsClosing n) bytes head body s a =
     let less = lives n (comes_to Closing) a.client s.clients a.found
     (connected-live a.client.state a.connected) refl refl in omega arith
@@ -123,10 +123,10 @@ clients-after clock _ bytes head body s a = omega arith
 servers-after : (e : Event) (answer : List ℕ) (head : Option MessageHeader) (body : List ℕ)
     (s : Lists) → server_part (servers_after e answer head body s.servers) ≤ server_part s.servers
     + server_made e
-servers-after (PairedServer n peer c credits) answer head body s =
-    let push = sum_by_push (λ (v : Server). v.credits) s.servers (server_end n peer c credits) in omega arith
-servers-after (Accepted n peer c credits) answer head body s =
-    let push = sum_by_push (λ (v : Server). v.credits) s.servers (server_end n peer c credits) in omega arith
+servers-after (PairedServer n peer c credits life) answer head body s =
+    let push = sum_by_push (λ (v : Server). v.credits) s.servers (server_end n peer c credits life) in omega arith
+servers-after (Accepted n peer c credits life) answer head body s =
+    let push = sum_by_push (λ (v : Server). v.credits) s.servers (server_end n peer c credits life) in omega arith
 servers-after (Ended n) answer head body s =
     let fewer = sum-fewer (is_server n) (λ (v : Server). v.credits) s.servers in omega arith
 servers-after (Took (Reply n r) k) answer head body s =
@@ -144,10 +144,10 @@ servers-after _ answer head body s = omega arith
 
 room-for : (e : Event) (s : Lists) → shares s ≤ s.room → Allowed s e
     → shares s + client_made e + server_made e ≤ s.room
-room-for (PairedClient n peer t credits) s h a = let room = a.room in omega arith
-room-for (PairedServer n peer c credits) s h a = let room = a.room in omega arith
+room-for (PairedClient n peer t credits life) s h a = let room = a.room in omega arith
+room-for (PairedServer n peer c credits life) s h a = let room = a.room in omega arith
 room-for (Opened n peer credits) s h a = let room = a.room in omega arith
-room-for (Accepted n peer c credits) s h a = let room = a.room in omega arith
+room-for (Accepted n peer c credits life) s h a = let room = a.room in omega arith
 room-for _ s h a = omega arith
 
 pub shares-after : (clock : ℕ) (s : Lists) (f : Fact) → shares s ≤ s.room → Allowed s f.event

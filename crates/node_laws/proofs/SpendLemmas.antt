@@ -88,10 +88,10 @@ module _ (number : ℕ) (test : Option Progress → Bool) where
       let own = asked-one c number (test None) in
       omega arith))
 
-  pub remaining-made : (s peer t credits k : ℕ) (xs : List Client)
-      → 0 + (remaining (xs ++ client_end s peer t credits ∷ []) + k) ≤ remaining xs + k
-  remaining-made s peer t credits k xs =
-      let push = sum_by_push those xs (client_end s peer t credits) in omega arith
+  pub remaining-made : (s peer t credits life k : ℕ) (xs : List Client)
+      → 0 + (remaining (xs ++ client_end s peer t credits life ∷ []) + k) ≤ remaining xs + k
+  remaining-made s peer t credits life k xs =
+      let push = sum_by_push those xs (client_end s peer t credits life) in omega arith
 
   pub remaining-opened : (s peer credits k : ℕ) (xs : List Client)
       → 0 + (remaining (xs ++ opened_end s peer credits ∷ []) + k) ≤ remaining xs + k

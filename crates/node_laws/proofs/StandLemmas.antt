@@ -179,10 +179,10 @@ pub standing-after : (e : Event) (due : Option ℕ) (answer body : List ℕ) (s 
     → Standing s.servers s.queued → Allowed s e
     → Standing (servers_after e answer (front_header s.ring) body s.servers)
     (queued_after e due s.queued)
-standing-after (PairedServer n peer c credits) due answer body s v h a t r none =
-    h t r (sym (look-made t r n peer c credits s.servers) ∙ none)
-standing-after (Accepted n peer c credits) due answer body s v h a t r none =
-    h t r (sym (look-made t r n peer c credits s.servers) ∙ none)
+standing-after (PairedServer n peer c credits life) due answer body s v h a t r none =
+    h t r (sym (look-made t r n peer c credits life s.servers) ∙ none)
+standing-after (Accepted n peer c credits life) due answer body s v h a t r none =
+    h t r (sym (look-made t r n peer c credits life s.servers) ∙ none)
 standing-after (Ended n) due answer body s v h a t r none = ended-stands s v h n a t r none
 standing-after (Took (Reply n k) i) due answer body s v h a t r none =
     let own : request_of t r (taken s v n k a body) ≡ None =

@@ -14,7 +14,6 @@ use Rattle.rpc_laws.specs.declared.tables.Progress.{Progress}
 use Rattle.rpc_laws.specs.AtMostOnce.{begins_call, ends_call}
 use Rattle.rpc_laws.specs.Calls.{is_call}
 use Rattle.rpc_laws.specs.Front.{front_header, front_body}
-use Rattle.rpc_laws.specs.Lives.{first_life}
 use Rattle.rpc_laws.specs.NodeLists.{after, new_lists}
 use Rattle.rpc_laws.specs.Queues.{ring_after}
 use Rattle.rpc_laws.specs.Sessions.{is_client, has_call}
@@ -75,9 +74,9 @@ tells-after clock past s f k a = record {
       omega arith;
 }
 
-tells-new : (me : ℕ) (limits : Limits) → Tells [] (new_lists me first_life limits)
-tells-new me limits = record {
-  knows = knows-new me limits;
+tells-new : (me life : ℕ) (limits : Limits) → Tells [] (new_lists me life limits)
+tells-new me life limits = record {
+  knows = knows-new me life limits;
   ring = refl;
   fresh = record { taken = λ n r. inl refl };
   told = λ c n. tt;
@@ -175,5 +174,5 @@ at-end past s [] t k l = rw l (tells-table past s k)
 at-end past s (f ∷ g) t k l = at-end (f ∷ past) (after l.0 s f) g t (tells-after l.0 past s f k l.1) l.2
 
 pub table_tells : TablesTellTheHistory
-table_tells p me limits g t r = at-end [] (new_lists me first_life limits) g t.lists
-    (tells-new me limits) (run_leads r)
+table_tells p me life limits g t r =
+    at-end [] (new_lists me life limits) g t.lists (tells-new me life limits) (run_leads r)

@@ -74,8 +74,8 @@ module _ (n r : ℕ) where
   pub future-after : (clock : ℕ) (e : Event) (bytes : List ℕ) (head : Option MessageHeader)
       (body : List ℕ) (xs : List Client) → AllByRecursion EightTurns xs
       → future_for n r (clients_after clock e bytes head body xs) ≤ future_for n r xs
-  future-after clock (PairedClient s peer t credits) bytes head body xs h =
-      pushed-le (client_end s peer t credits) xs (one-future (ltb (r / 8) (slice_index no_turns (r % 8))))
+  future-after clock (PairedClient s peer t credits life) bytes head body xs h =
+      pushed-le (client_end s peer t credits life) xs (one-future (ltb (r / 8) (slice_index no_turns (r % 8))))
   future-after clock (Opened s peer credits) bytes head body xs h =
       pushed-le (opened_end s peer credits) xs (one-future (ltb (r / 8) (slice_index no_turns (r % 8))))
   future-after clock (FailedNoRoom m) bytes head body xs h =
@@ -88,8 +88,8 @@ module _ (n r : ℕ) where
       kept (is_client m) (comes_to Closed) (λ x. refl) (λ x. refl) xs
   future-after clock (ClosedUnheard m) bytes head body xs h =
       kept (is_client m) (comes_to Closed) (λ x. refl) (λ x. refl) xs
-  future-after clock (IsConnected m t) bytes head body xs h =
-      kept (is_client m) (connects t) (λ x. refl) (λ x. refl) xs
+  future-after clock (IsConnected m t life) bytes head body xs h =
+      kept (is_client m) (connects t life) (λ x. refl) (λ x. refl) xs
   future-after clock (Sent peer Control k) bytes head body xs h = told-le clock (control_of bytes) xs
   future-after clock (Asked c m y room) bytes head body xs h =
       kept (is_client m) (asks (record { number = c; req_type = y; room = room; ask = bytes }))

@@ -182,10 +182,10 @@ module _ (s : Lists) (valid : Valid s) where
   pub taken-after : (e : Event) (first second : List ℕ) → RequestsRight s.servers
       → AllowedBy s e first second
       → RequestsRight (servers_after e second (front_header s.ring) (front_body s.ring) s.servers)
-  taken-after (PairedServer n peer c credits) first second all a =
-      all-push (λ v. AllByRecursion RequestRight v.slots) s.servers (server_end n peer c credits) all tt
-  taken-after (Accepted n peer c credits) first second all a =
-      all-push (λ v. AllByRecursion RequestRight v.slots) s.servers (server_end n peer c credits) all tt
+  taken-after (PairedServer n peer c credits life) first second all a =
+      all-push (λ v. AllByRecursion RequestRight v.slots) s.servers (server_end n peer c credits life) all tt
+  taken-after (Accepted n peer c credits life) first second all a =
+      all-push (λ v. AllByRecursion RequestRight v.slots) s.servers (server_end n peer c credits life) all tt
   taken-after (Ended n) first second all a =
       all-left (is_server n) (λ v. AllByRecursion RequestRight v.slots) s.servers all
   taken-after (Took (Reply n k) i) first second all a =
@@ -325,10 +325,10 @@ module _ (s : Lists) (valid : Valid s) (standing : Standing s.servers s.queued)
   pub reached-after : (e : Event) (due : Option ℕ) (first second : List ℕ) → AllowedBy s e first second
       → Reached (servers_after e second (front_header s.ring) (front_body s.ring) s.servers)
       (queued_after e due s.queued)
-  reached-after (PairedServer n peer c credits) due first second a t r k q e some =
-      reached t r k q (sym (look-made t r n peer c credits s.servers) ∙ e) some
-  reached-after (Accepted n peer c credits) due first second a t r k q e some =
-      reached t r k q (sym (look-made t r n peer c credits s.servers) ∙ e) some
+  reached-after (PairedServer n peer c credits life) due first second a t r k q e some =
+      reached t r k q (sym (look-made t r n peer c credits life s.servers) ∙ e) some
+  reached-after (Accepted n peer c credits life) due first second a t r k q e some =
+      reached t r k q (sym (look-made t r n peer c credits life s.servers) ∙ e) some
   reached-after (Ended n) due first second a t r k q e some = by (n == t) refl
     where
       by : (b : Bool) → (n == t) ≡ b → k < q.taken

@@ -261,13 +261,13 @@ module _ (now : List Fact) (c n : ℕ) (xs : List Client) where
   made-none y true t e = inl (push-found (is_client n) xs y e t)
   made-none y false t e = inr (push-other (is_client n) xs y t ∙ e)
 
-  pub told-made : (s peer i credits : ℕ) → Told now c n (find (is_client n) xs)
-      → Told now c n (find (is_client n) (xs ++ client_end s peer i credits ∷ []))
-  told-made s peer i credits t =
-      made-by (find (is_client n) xs) (find (is_client n) (xs ++ client_end s peer i credits ∷ []))
-      (client_end s peer i credits) refl (λ x e. push-kept (is_client n) xs x
-      (client_end s peer i credits) e) (made-none (client_end s peer i credits)
-      (is_client n (client_end s peer i credits)) refl) t
+  pub told-made : (s peer i credits life : ℕ) → Told now c n (find (is_client n) xs)
+      → Told now c n (find (is_client n) (xs ++ client_end s peer i credits life ∷ []))
+  told-made s peer i credits life t =
+      made-by (find (is_client n) xs) (find (is_client n) (xs ++ client_end s peer i credits life ∷ []))
+      (client_end s peer i credits life) refl (λ x e. push-kept (is_client n) xs x
+      (client_end s peer i credits life) e) (made-none (client_end s peer i credits life)
+      (is_client n (client_end s peer i credits life)) refl) t
 
   pub told-opened : (s peer credits : ℕ) → Told now c n (find (is_client n) xs)
       → Told now c n (find (is_client n) (xs ++ opened_end s peer credits ∷ []))

@@ -261,9 +261,9 @@ pub told-after : (clock : ℕ) (who : Who) (e : Event) (bytes second : List ℕ)
     → Told (noted who e bytes second ∷ past) c n
     (find (is_client n) (clients_after clock e bytes (front_header s.ring)
     (front_body s.ring) s.clients))
-told-after clock who (PairedClient i peer t credits) bytes second past s v ring k a c n told =
-    told-made (noted who (PairedClient i peer t credits) bytes second ∷ past) c n s.clients i peer t
-    credits (told-stays past (noted who (PairedClient i peer t credits) bytes second) c n
+told-after clock who (PairedClient i peer t credits life) bytes second past s v ring k a c n told =
+    told-made (noted who (PairedClient i peer t credits life) bytes second ∷ past) c n s.clients i peer t
+    credits life (told-stays past (noted who (PairedClient i peer t credits life) bytes second) c n
     (find (is_client n) s.clients) (λ x d p e g h. refl) told)
 told-after clock who (Opened i peer credits) bytes second past s v ring k a c n told =
     told-opened (noted who (Opened i peer credits) bytes second ∷ past) c n s.clients i peer credits
@@ -294,10 +294,10 @@ told-after clock who (ClosedUnheard m) bytes second past s v ring k a c n told =
     (comes_to Closed) (λ x. refl) (λ x. refl)
     (told-stays past (noted who (ClosedUnheard m) bytes second) c n
     (find (is_client n) s.clients) (λ x d p e g h. refl) told)
-told-after clock who (IsConnected m t) bytes second past s v ring k a c n told =
-    told-kept (noted who (IsConnected m t) bytes second ∷ past) c n s.clients (is_client m)
-    (connects t) (λ x. refl) (λ x. refl) (told-stays past
-    (noted who (IsConnected m t) bytes second) c n (find (is_client n) s.clients)
+told-after clock who (IsConnected m t life) bytes second past s v ring k a c n told =
+    told-kept (noted who (IsConnected m t life) bytes second ∷ past) c n s.clients (is_client m)
+    (connects t life) (λ x. refl) (λ x. refl) (told-stays past
+    (noted who (IsConnected m t life) bytes second) c n (find (is_client n) s.clients)
     (λ x d p e g h. refl) told)
 told-after clock who (Sent peer Control j) bytes second past s v ring k a c n told =
     told-requests (noted who (Sent peer Control j) bytes second ∷ past) c n s.clients clock

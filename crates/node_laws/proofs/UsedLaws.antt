@@ -15,7 +15,6 @@ use Rattle.rpc_base.proofs.FirstLemmas.{found-changed, found-holds}
 use Rattle.rpc_base.proofs.TakingLemmas.{find-passes}
 use Rattle.rpc_laws.specs.declared.tables.Lists.{Lists}
 use Rattle.rpc_laws.specs.Front.{front_header, front_body}
-use Rattle.rpc_laws.specs.Lives.{first_life}
 use Rattle.rpc_laws.specs.NodeLists.{after, new_lists}
 use Rattle.rpc_laws.specs.Sessions.{is_client, has_call, begins}
 use Rattle.node_laws.specs.CallHistory.{asks_call, latest_first}
@@ -187,9 +186,9 @@ started-after clock past s f k a = record {
       (new-or-old past s k.knows clock d n r f a e);
 }
 
-started-new : (me : ℕ) (limits : Limits) → Started [] (new_lists me first_life limits)
-started-new me limits = record {
-  knows = knows-new me limits;
+started-new : (me life : ℕ) (limits : Limits) → Started [] (new_lists me life limits)
+started-new me life limits = record {
+  knows = knows-new me life limits;
   gone = λ c n r b. let none = b.asked in cc;
   one = λ c d n r b e. let none = b.asked in cc;
 }
@@ -225,10 +224,10 @@ few-at-start : (a b c : ℕ) → a ≤ b → b ≤ 1 → a ≤ 1
 few-at-start a b c h k = omega arith
 
 pub used : NumbersAreUsedOnce
-used v me limits g t run =
-    let s = new_lists me first_life limits in
+used v me life limits g t run =
+    let s = new_lists me life limits in
     let l = run_leads run in
-    let end = at-end [] s g t.lists (started-new me limits) l in
+    let end = at-end [] s g t.lists (started-new me life limits) l in
     record {
       asked = λ c. few-at-start _ (to_come 0 c) 0 (takes-le (asks_call c) _ (asked-takes c) s g t.lists l)
           (let one = at-most-one (leb 0 c) in omega arith);

@@ -25,7 +25,6 @@ use Rattle.rpc_laws.specs.declared.tables.Client.{Client}
 use Rattle.rpc_laws.specs.declared.tables.Lists.{Lists}
 use Rattle.rpc_laws.specs.Calls.{is_call, is_active, moved, begun, posted_up_to, sent_packet, took_reply, rolled_back}
 use Rattle.rpc_laws.specs.Front.{front_header, front_body, control_of}
-use Rattle.rpc_laws.specs.Lives.{first_life}
 use Rattle.rpc_laws.specs.NodeLists.{after, asked_after, new_lists}
 use Rattle.rpc_laws.specs.Posting.{is_taken}
 use Rattle.rpc_laws.specs.Sessions.{is_client, is_live, has_call, client_end, opened_end, comes_to}
@@ -124,13 +123,13 @@ told-sound clock (Some c) xs h =
 sound-after : (clock : ℕ) (e : Event) (bytes : List ℕ) (s : Lists) → Valid s → Allowed s e
     → AllByRecursion Sound (clients_after clock e bytes (front_header s.ring)
     (front_body s.ring) s.clients)
-sound-after clock (PairedClient n peer t credits) bytes s v a =
-    all-push Sound s.clients (client_end n peer t credits) v.sound (sound-made n peer t credits)
+sound-after clock (PairedClient n peer t credits life) bytes s v a =
+    all-push Sound s.clients (client_end n peer t credits life) v.sound (sound-made n peer t credits life)
 sound-after clock (Opened n peer credits) bytes s v a =
     all-push Sound s.clients (opened_end n peer credits) v.sound (sound-opened n peer credits)
-sound-after clock (IsConnected n t) bytes s v a =
-    all-changed (is_client n) (connects t) Sound s.clients a.client a.found
-    (λ h. sound-connects t a.client (ap is_live a.stands) h) v.sound
+sound-after clock (IsConnected n t life) bytes s v a =
+    all-changed (is_client n) (connects t life) Sound s.clients a.client a.found
+    (λ h. sound-connects t life a.client (ap is_live a.stands) h) v.sound
 sound-after clock (FailedNoRoom n) bytes s v a =
     all-kept (is_client n) (comes_to Failed) Sound s.clients (λ x h _. sound-over Failed x refl h) v.sound
 sound-after clock (FailedNoAnswer n) bytes s v a =
@@ -171,8 +170,8 @@ told-numbered clock (Some c) xs h =
 numbered-after : (clock : ℕ) (e : Event) (bytes : List ℕ) (head : Option MessageHeader)
     (body : List ℕ) (s : Lists) → NumberedFrom client_no 0 s.clients → Allowed s e
     → NumberedFrom client_no 0 (clients_after clock e bytes head body s.clients)
-numbered-after clock (PairedClient n peer t credits) bytes head body s h a =
-    numbered-push client_no 0 s.clients (client_end n peer t credits) h (omega arith)
+numbered-after clock (PairedClient n peer t credits life) bytes head body s h a =
+    numbered-push client_no 0 s.clients (client_end n peer t credits life) h (omega arith)
 numbered-after clock (Opened n peer credits) bytes head body s h a =
     numbered-push client_no 0 s.clients (opened_end n peer credits) h (omega arith)
 numbered-after clock (FailedNoRoom n) bytes head body s h a =
@@ -185,8 +184,8 @@ numbered-after clock (ClosedHeard n) bytes head body s h a =
     numbered-kept client_no (is_client n) (comes_to Closed) (λ x. refl) 0 s.clients h
 numbered-after clock (ClosedUnheard n) bytes head body s h a =
     numbered-kept client_no (is_client n) (comes_to Closed) (λ x. refl) 0 s.clients h
-numbered-after clock (IsConnected n t) bytes head body s h a =
-    numbered-kept client_no (is_client n) (connects t) (λ x. refl) 0 s.clients h
+numbered-after clock (IsConnected n t life) bytes head body s h a =
+    numbered-kept client_no (is_client n) (connects t life) (λ x. refl) 0 s.clients h
 numbered-after clock (Sent peer Control k) bytes head body s h a = told-numbered clock (control_of bytes) s.clients h
 numbered-after clock (Asked c n y room) bytes head body s h a =
     numbered-kept client_no (is_client n) (asks
@@ -255,8 +254,8 @@ module _ (number : ℕ) where
       (body : List ℕ) (s : Lists) → holders number s.clients + to_come s.asked number ≤ 1
       → Allowed s e → holders number (clients_after clock e bytes head body s.clients)
       + to_come (asked_after e s.asked) number ≤ 1
-  once-after clock (PairedClient n peer t credits) bytes head body s h a =
-      let push = sum_by_push holds s.clients (client_end n peer t credits) in
+  once-after clock (PairedClient n peer t credits life) bytes head body s h a =
+      let push = sum_by_push holds s.clients (client_end n peer t credits life) in
       kept (holders number s.clients) _ (to_come s.asked number) h (omega arith)
   once-after clock (Opened n peer credits) bytes head body s h a =
       let push = sum_by_push holds s.clients (opened_end n peer credits) in
@@ -276,9 +275,9 @@ module _ (number : ℕ) where
   once-after clock (ClosedUnheard n) bytes head body s h a =
       kept (holders number s.clients) _ (to_come s.asked number) h
       (sum-grown (is_client n) (comes_to Closed) holds 0 s.clients (λ x. omega arith))
-  once-after clock (IsConnected n t) bytes head body s h a =
+  once-after clock (IsConnected n t life) bytes head body s h a =
       kept (holders number s.clients) _ (to_come s.asked number) h
-      (sum-grown (is_client n) (connects t) holds 0 s.clients (λ x. omega arith))
+      (sum-grown (is_client n) (connects t life) holds 0 s.clients (λ x. omega arith))
   once-after clock (Sent peer Control k) bytes head body s h a =
       kept (holders number s.clients) _ (to_come s.asked number) h (told-holds clock (control_of bytes) s.clients)
   once-after clock (Asked c n y room) bytes head body s h a =
@@ -334,8 +333,8 @@ valid_after clock s f v a = record {
   shared = shares-after clock s f v.shared a;
 }
 
-pub valid_new : (me : ℕ) (limits : Limits) → Valid (new_lists me first_life limits)
-valid_new me limits = record {
+pub valid_new : (me life : ℕ) (limits : Limits) → Valid (new_lists me life limits)
+valid_new me life limits = record {
   numbered = tt;
   alone = λ t. at-most-one (leb 0 t);
   once = λ number. at-most-one (leb 0 number);

@@ -52,9 +52,9 @@ window-pushed y xs (Ask s r) k m =
 window-pushed y xs (Reply s r) k m = tt
 window-pushed y xs Control k m = tt
 
-pub window-made : (n peer t credits : ℕ) (xs : List Client) (o : Owner) (k : ℕ) → InWindow xs o k
-    → InWindow (xs ++ client_end n peer t credits ∷ []) o k
-window-made n peer t credits xs o k m = window-pushed (client_end n peer t credits) xs o k m
+pub window-made : (n peer t credits life : ℕ) (xs : List Client) (o : Owner) (k : ℕ) → InWindow xs o k
+    → InWindow (xs ++ client_end n peer t credits life ∷ []) o k
+window-made n peer t credits life xs o k m = window-pushed (client_end n peer t credits life) xs o k m
 
 pub window-opened : (n peer credits : ℕ) (xs : List Client) (o : Owner) (k : ℕ) → InWindow xs o k
     → InWindow (xs ++ opened_end n peer credits ∷ []) o k

@@ -19,7 +19,7 @@ use Rattle.node_laws.specs.CreditBalance.{Accounts, accounts_after, no_accounts,
 
 -- the call: two bytes of type 1, for whose answer there is this room
 abbrev asked : ℕ → List Client
-asked room = clients_after 0 (Asked 0 0 1 room) (5 ∷ 6 ∷ []) None [] (client_end 0 7 3 2 ∷ [])
+asked room = clients_after 0 (Asked 0 0 1 room) (5 ∷ 6 ∷ []) None [] (client_end 0 7 3 2 1 ∷ [])
 
 -- the session with the call, of which so much is got, posted and rolled back
 abbrev at : (room free got posted rolls mark : ℕ) → Client
@@ -151,7 +151,7 @@ accounts free packets = record {
 }
 
 row-account-begins : accounts_after (Begun 0 0)
-    (accounts_after (Asked 0 0 1 9) (accounts_after (PairedClient 0 7 3 2) no_accounts))
+    (accounts_after (Asked 0 0 1 9) (accounts_after (PairedClient 0 7 3 2 1) no_accounts))
     ≡ accounts 2 []
 row-account-begins = refl
 

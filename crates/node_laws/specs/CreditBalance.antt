@@ -126,9 +126,9 @@ fails x = record x { live = false; free = 0 }
 -- a packet takes one credit, and its answer gives it back. A rollback gives back POSTED - GOT
 -- credits to the session of its call, which is looked up among the calls before it
 abbrev pub sessions_after : Event → List CallAccount → List SessionAccount → List SessionAccount
-sessions_after (PairedClient s peer t credits) calls xs = xs ++ opened s credits ∷ []
+sessions_after (PairedClient s peer t credits life) calls xs = xs ++ opened s credits ∷ []
 sessions_after (Opened s peer credits) calls xs = xs ++ connecting s credits ∷ []
-sessions_after (Connected s t) calls xs = at_first (is_session s) (lives true) xs
+sessions_after (Connected s t life) calls xs = at_first (is_session s) (lives true) xs
 sessions_after (Closing s) calls xs = at_first (is_session s) (lives true) xs
 sessions_after (FailedNoRoom s) calls xs = at_first (is_session s) (lives false) xs
 sessions_after (FailedNoAnswer s) calls xs = at_first (is_session s) (lives false) xs

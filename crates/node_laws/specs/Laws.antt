@@ -12,7 +12,7 @@ use Rattle.node_laws.specs.CreditBalance.{Credit}
 use Rattle.node_laws.specs.EndedCalls.{EndsClean}
 use Rattle.node_laws.specs.EndedSessions.{SessionsEndClean}
 use Rattle.node_laws.specs.Kept.{Kept}
-use Rattle.node_laws.specs.NodeRun.{NodeRun}
+use Rattle.node_laws.specs.NodeRun.{LifeRun}
 use Rattle.node_laws.specs.OlderRequests.{BeginsClean}
 use Rattle.node_laws.specs.PassedOver.{PassesOver}
 use Rattle.node_laws.specs.QueuedPackets.{QueueAlwaysFits}
@@ -21,11 +21,11 @@ use Rattle.node_laws.specs.RingLimit.{RingWithin, InboxWithin}
 use Rattle.node_laws.specs.SendsOwn.{SendsOwn}
 use Rattle.node_laws.specs.UsedOnce.{UsedOnce}
 
--- of every run of a node, whatever its service, its number and its limits
+-- of every life of a node, whatever its service, its number, its life and its limits
 abbrev pub OfEveryRun : ((ring : ℕ) → List Fact → Timed → Type 0) → Type 0
 OfEveryRun P =
-    (v : Serving) (me : ℕ) (limits : Limits) (g : List Fact) (t : Timed) → NodeRun v me limits g t
-    → P limits.ring g t
+    (v : Serving) (me life : ℕ) (limits : Limits) (g : List Fact) (t : Timed)
+    → LifeRun v me life limits g t → P limits.ring g t
 
 -- what always holds of a node's lists does
 abbrev pub ListsAreKept : Type 0
@@ -84,7 +84,9 @@ NumbersAreUsedOnce = OfEveryRun (λ ring g t. UsedOnce g)
 
 -- what a node sends is what its own tables have
 abbrev pub SendsItsOwn : Type 0
-SendsItsOwn = OfEveryRun (λ ring g t. SendsOwn ring g)
+SendsItsOwn =
+    (v : Serving) (me life : ℕ) (limits : Limits) (g : List Fact) (t : Timed)
+    → LifeRun v me life limits g t → SendsOwn life limits.ring g
 
 -- what is bad, overflowed, dropped or heard changes nothing but its list and its count
 abbrev pub DatagramsArePassedOver : Type 0

@@ -1,8 +1,10 @@
 -- A run of one node: what it notes from when it is made, one group of facts after another.
-use Rattle.std.specs.Prelude.{ℕ, ◌≡◌, ◌≤◌, ◌<◌, ◌⊎◌, true, Option, Some, None, List, [], ◌∷◌, count_by, length}
+use Rattle.std.specs.Prelude.{ℕ, ◌≡◌, ◌≤◌, ◌<◌, ◌⊎◌, ◌+◌, true, Option, Some, None, List, [], ◌∷◌}
+use Rattle.std.specs.Prelude.{◌++◌, count_by, length}
 use Rattle.std.specs.List.{list_any}
 use Rattle.rpc_base.specs.declared.event.Event.{Event}
-use Rattle.rpc_base.specs.declared.event.Event.TheVariants.{Made, PairedClient, PairedServer, Worked, Missed}
+use Rattle.rpc_base.specs.declared.event.Event.TheVariants.{Made, PairedClient, PairedServer, Restarted}
+use Rattle.rpc_base.specs.declared.event.Event.TheVariants.{Worked, Missed}
 use Rattle.rpc_base.specs.declared.fact.Fact.{Fact}
 use Rattle.rpc_base.specs.declared.limits.Limits.{Limits}
 use Rattle.rpc_base.specs.declared.limits.TheConstants.{MOST_CREDITS, SESSION_NUMBERS}
@@ -13,7 +15,6 @@ use Rattle.rpc_laws.specs.Deliveries.{Delivers}
 use Rattle.rpc_laws.specs.Facts.{plain}
 use Rattle.rpc_laws.specs.Groups.{Asks, Connects, Disconnects, SetsRate, client_refusal, server_refusal}
 use Rattle.rpc_laws.specs.Jobs.{is_job}
-use Rattle.rpc_laws.specs.Lives.{first_life}
 use Rattle.rpc_laws.specs.NodeLists.{new_node}
 use Rattle.rpc_laws.specs.PollOrder.{Poll}
 use Rattle.rpc_laws.specs.Service.{Serving, Answers}
@@ -29,8 +30,8 @@ pub record IsCredits (credits : ℕ) : Type 0 where
   pub some : 1 ≤ credits
   pub few : credits ≤ MOST_CREDITS
 
--- an end of a pair may be made, for an end of this number: its credits are few, and nothing refuses
--- it
+-- an end of a pair may be made, for an end of this number and life: its credits are few, and
+-- nothing refuses it
 pub record MayPair (refusal : Option Event) (other credits : ℕ) : Type 0 where
   pub credits_fit : IsCredits credits
   pub other_is : other < SESSION_NUMBERS
@@ -44,10 +45,14 @@ Refuses credits event s =
 -- what is noted at once: an application call with its answer or refusal; a datagram is delivered; a
 -- poll; and, by the world, that a job that is out was worked, or that there was none to work
 pub data Group (mode : ℕ → Mode) (s : Timed) (x : List Fact) (t : Timed) : Type 0 where
-  pairs_client : (peer server credits : ℕ) → MayPair (client_refusal credits s.lists) server credits
-      → Notes (PairedClient (length s.lists.clients) peer server credits) s x t → Group mode s x t
-  pairs_server : (peer client credits : ℕ) → MayPair (server_refusal credits s.lists) client credits
-      → Notes (PairedServer s.lists.server_numbers peer client credits) s x t → Group mode s x t
+  pairs_client : (peer server credits life : ℕ)
+      → MayPair (client_refusal credits s.lists) server credits
+      → Notes (PairedClient (length s.lists.clients) peer server credits life) s x t
+      → Group mode s x t
+  pairs_server : (peer client credits life : ℕ)
+      → MayPair (server_refusal credits s.lists) client credits
+      → Notes (PairedServer s.lists.server_numbers peer client credits life) s x t
+      → Group mode s x t
   refuses : (credits : ℕ) → IsCredits credits → (event : Event) → Refuses credits event s
       → Notes event s x t → Group mode s x t
   connects : (peer credits rate : ℕ) → IsCredits credits → Connects peer credits rate s x t
@@ -62,20 +67,28 @@ pub data Group (mode : ℕ → Mode) (s : Timed) (x : List Fact) (t : Timed) : T
       → Notes (Worked session request) s x t → Group mode s x t
   misses : (i : ℕ) → Notes (Missed i) s x t → Group mode s x t
 
--- g is what a node notes from when it is made, with this number, these limits and this service, and
--- t what it is then: one group after another, no job is worked twice, and each Ran has the
--- service's answer after what ran in the event loop before it. The Made that the world notes of it
--- stands before g
-pub record NodeRun (v : Serving) (me : ℕ) (limits : Limits) (g : List Fact) (t : Timed)
+-- g is what a node notes in one life, from when it is made or restarted, with this number, these
+-- limits and this service, and t what it is then: one group after another, no job is worked twice,
+-- and each Ran has the service's answer after what ran in the event loop before it
+pub record LifeRun (v : Serving) (me life : ℕ) (limits : Limits) (g : List Fact) (t : Timed)
     : Type 0 where
-  pub steps : Chain (Group v.mode) (new_node me first_life limits) g t
+  pub steps : Chain (Group v.mode) (new_node me life limits) g t
   pub worked_once : (session request : ℕ) → count_by (λ f. works_request session request f.event) g
       ≤ 1
   pub answers : Answers v [] g
 
+-- g is what a node notes from when it is made in this life: that life, and where it is restarted the
+-- next one. The Made that the world notes of it stands before g
+pub data NodeRun (v : Serving) (me : ℕ) (limits : Limits) : ℕ → List Fact → Timed → Type 0 where
+  lives_on : (life : ℕ) (g : List Fact) (t : Timed) → LifeRun v me life limits g t
+      → NodeRun v me limits life g t
+  restarts : (life : ℕ) (part rest : List Fact) (s t : Timed) → LifeRun v me life limits part s
+      → NodeRun v me limits (life + 1) rest t
+      → NodeRun v me limits life (part ++ plain me (Restarted (life + 1)) ∷ rest) t
+
 -- the same where g may begin with that Made
-pub record MadeRun (v : Serving) (me : ℕ) (limits : Limits) (g : List Fact) (t : Timed)
+pub record MadeRun (v : Serving) (me : ℕ) (limits : Limits) (first : ℕ) (g : List Fact) (t : Timed)
     : Type 0 where
   pub rest : List Fact
   pub made : (g ≡ rest) ⊎ (g ≡ plain me (Made limits.ring) ∷ rest)
-  pub run : NodeRun v me limits rest t
+  pub run : NodeRun v me limits first rest t

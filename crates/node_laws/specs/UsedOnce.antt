@@ -10,20 +10,20 @@ use Rattle.node_laws.specs.EndedCalls.{BeganAs}
 
 -- client session s is made
 abbrev pub makes_client : ℕ → Event → Bool
-makes_client s (PairedClient session peer other credits) = session == s
+makes_client s (PairedClient session peer other credits life) = session == s
 makes_client s (Opened session peer credits) = session == s
 makes_client s _ = false
 
 -- client session s gets its other end
 abbrev pub joins_client : ℕ → Event → Bool
-joins_client s (PairedClient session peer other credits) = session == s
-joins_client s (Connected session other) = session == s
+joins_client s (PairedClient session peer other credits life) = session == s
+joins_client s (Connected session other life) = session == s
 joins_client s _ = false
 
 -- server session t is made, for its other end
 abbrev pub makes_server : ℕ → Event → Bool
-makes_server t (PairedServer session peer other credits) = session == t
-makes_server t (Accepted session peer other credits) = session == t
+makes_server t (PairedServer session peer other credits life) = session == t
+makes_server t (Accepted session peer other credits life) = session == t
 makes_server t _ = false
 
 -- of the facts of one node

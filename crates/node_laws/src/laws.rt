@@ -1,4 +1,4 @@
-//! Laws of the runs of one node, each proved of the definitions in `specs/`.
+//! Laws of the runs of one node in one of its lives, each proved of the definitions in `specs/`.
 ghost use Rattle.node_laws.specs.Laws.{CreditBalances, DatagramsArePassedOver};
 ghost use Rattle.node_laws.specs.Laws.{EndedCallsAreNotQueued};
 ghost use Rattle.node_laws.specs.Laws.{EndedSessionsAreNotQueued, HappensAtMostOnce, InboxFits};
