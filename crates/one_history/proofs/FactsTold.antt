@@ -13,7 +13,7 @@ use Rattle.report_text.specs.Told.{IsTold, NoOthers}
 use Rattle.report_text.specs.declared.shape.Tail.{Tail}
 use Rattle.report_text.specs.declared.shape.Tail.TheVariants.{Nothing, First, Both}
 use Rattle.rpc_base.specs.declared.event.Event.{Event}
-use Rattle.rpc_base.specs.declared.event.Event.TheVariants.{Arrived, Bad, Broken, DonePeerLost}
+use Rattle.rpc_base.specs.declared.event.Event.TheVariants.{Arrived, Bad, Broken, DonePeerLost, Dropped}
 use Rattle.rpc_base.specs.declared.event.Event.TheVariants.{Ended, Flushed, Given, NcallTooLarge}
 use Rattle.rpc_base.specs.declared.event.Event.TheVariants.{Overflowed, Posted, Ran, Rated, Rolled}
 use Rattle.rpc_base.specs.declared.event.Event.TheVariants.{Took, Worked}
@@ -22,6 +22,7 @@ use Rattle.rpc_base.specs.declared.fact.Who.{Who}
 use Rattle.rpc_base.specs.declared.fact.Who.TheVariants.{Node, Net}
 use Rattle.rpc_base.specs.declared.owner.Owner.{Owner}
 use Rattle.rpc_base.specs.declared.owner.Owner.TheVariants.{Ask, Reply}
+use Rattle.rpc_base.specs.declared.state.DropReason.TheVariants.{StaleLife}
 use Rattle.rpc_base.specs.declared.state.SessionState.{SessionState}
 use Rattle.rpc_base.specs.declared.state.SessionState.TheVariants.{Connected}
 use Rattle.rpc_laws.specs.declared.rows.ClientRow.{ClientRow}
@@ -53,7 +54,7 @@ use Rattle.rpc_laws.specs.Front.{is_control, is_message}
 use Rattle.rpc_laws.specs.GoBackN.{call_facts, client_facts, flushes_of, progress_facts, row_facts, row_of}
 use Rattle.rpc_laws.specs.Groups.{ask_by_state, ask_fact, connect_by, state_of}
 use Rattle.rpc_laws.specs.Jobs.{are_full}
-use Rattle.rpc_laws.specs.PollOrder.{answer_posted, awaited, finished_facts, handling_by}
+use Rattle.rpc_laws.specs.PollOrder.{answer_posted, awaited, finished_facts, handled, handling_by}
 use Rattle.rpc_laws.specs.Queues.{flush_facts, numbers_of}
 use Rattle.rpc_laws.specs.Requests.{in_slot_of, is_server}
 use Rattle.rpc_laws.specs.ServerTable.{brings, flushes, flushes_older, is_last, makes_job}
@@ -179,7 +180,7 @@ told-reply me x h body (ClientDrops why) = (((refl, refl), tt), tt)
 told-reply me x h body ClientTakes = (((refl, refl), tt), told-ending me h body x)
 
 -- the front packet of the ring, by its kind
-pub told-handling : (kind : Kind) (mode : ℕ → Mode) (lacks : Bool) (answer : List ℕ) (s : Lists)
+told-handling : (kind : Kind) (mode : ℕ → Mode) (lacks : Bool) (answer : List ℕ) (s : Lists)
     (peer : ℕ) (h : MessageHeader) (body : List ℕ)
     → AllSound (handling_by mode lacks answer kind s peer h body)
 told-handling Request mode lacks answer s peer h body =
@@ -197,6 +198,14 @@ told-handling Response mode lacks answer s peer h body =
     told-reply s.me (find (is_client h.session) s.clients) h body
     (client_row s.queued (find (is_client h.session) s.clients) peer h (length body))
 
+-- and where it is for another life of the node
+pub told-handled : (mode : ℕ → Mode) (lacks : Bool) (answer : List ℕ) (s : Lists) (peer : ℕ)
+    (h : MessageHeader) (body : List ℕ) → AllSound (handled mode lacks answer s peer h body)
+told-handled mode lacks answer s peer h body =
+    told-if (h.to_life == s.life) (handling_by mode lacks answer h.kind s peer h body)
+    (plain s.me (Dropped StaleLife) ∷ []) (told-handling h.kind mode lacks answer s peer h body)
+    (one-plain s.me (Dropped StaleLife))
+
 -- a job that is finished
 told-posted : (me : ℕ) (job : Job) (o : Option ℕ) → AllSound (answer_posted me job o)
 told-posted me job None = tt
@@ -207,7 +216,7 @@ pub told-finished : (answer : List ℕ) (s : Lists) (job : Job)
 told-finished answer s job = ((tt, tt), told-posted s.me job (awaited job s.servers))
 
 -- the control rule
-told-session-end : (me : ℕ) (queued : List Queued) (o : Option Server)
+pub told-session-end : (me : ℕ) (queued : List Queued) (o : Option Server)
     → AllSound (session_end me queued o)
 told-session-end me queued None = tt
 told-session-end me queued (Some v) =
@@ -223,7 +232,8 @@ pub told-control : (s : Lists) (peer : ℕ) (h : ControlHeader) (r : ControlRow)
 told-control s peer h Declines = (((refl, refl), tt), tt)
 told-control s peer h Starves = (((refl, refl), tt), tt)
 told-control s peer h (Accepts t) = (((refl, refl), tt), tt)
-told-control s peer h Ends = told-session-end s.me s.queued (named_end peer h.client h.server s.servers)
+told-control s peer h Ends =
+    told-session-end s.me s.queued (named_end peer h.client h.from_life h.server s.servers)
 told-control s peer h (Connects t) = (((refl, refl), tt), tt)
 told-control s peer h Fails = (((refl, refl), tt), tt)
 told-control s peer h Closes = (((refl, refl), tt), tt)

@@ -1,5 +1,5 @@
 -- A poll whose worked jobs are finished in their order, and that sends all: from each state there is one.
-use Rattle.std.proofs.Common.{◌≡◌, ◌⊎◌, inl, inr, ◌≤◌, ℕ, Bool, true, cond, List, [], ◌∷◌}
+use Rattle.std.proofs.Common.{◌≡◌, ◌==◌, ◌⊎◌, inl, inr, ◌≤◌, ℕ, Bool, true, cond, List, [], ◌∷◌}
 use Rattle.std.proofs.Common.{◌++◌, length, Some, slice_get, sym, ap, ◌∙◌, subst, arith}
 use Rattle.std.specs.List.{find}
 use Rattle.packet_header.proofs.Heads.{one_head}
@@ -21,7 +21,7 @@ use Rattle.rpc_laws.specs.Jobs.{is_job}
 use Rattle.rpc_laws.specs.Packets.{outgoing}
 use Rattle.rpc_laws.specs.Pacing.{line}
 use Rattle.rpc_laws.specs.PollOrder.{Closes, Finishes, finished_facts, Handles, HandlesAll}
-use Rattle.rpc_laws.specs.PollOrder.{answer_posted, awaited, handling_by, NoMoreToHandle, PollBy}
+use Rattle.rpc_laws.specs.PollOrder.{answer_posted, awaited, handled, NoMoreToHandle, PollBy}
 use Rattle.rpc_laws.specs.PollOrder.{PostsAll, raised, Sends, SendsAll, Serves}
 use Rattle.rpc_laws.specs.Posting.{next_begun, next_posted}
 use Rattle.rpc_laws.specs.Queues.{is_due, replies}
@@ -31,7 +31,7 @@ use Rattle.rpc_outside.specs.Served.{Served}
 use Rattle.rpc_outside.specs.declared.service.Mode.{Mode}
 use Rattle.one_history.proofs.ControlOnce.{hears-once, some-same, times-once}
 use Rattle.one_history.proofs.Fine.{Fine}
-use Rattle.one_history.proofs.RowsOnce.{handling-same, ran-same}
+use Rattle.one_history.proofs.RowsOnce.{either-same, ran-same}
 use Rattle.one_history.proofs.StepsOnce.{Ends, goes-once, none-once, notes-once, Once, Same}
 use Rattle.one_history.proofs.StepsOnce.{then-both, then-once, until-once, visits-once}
 
@@ -82,7 +82,7 @@ record HandlesAs (mode : ℕ → Mode) (s : Lists) (front : Arrival) (header : M
     (x : List Fact) : Type 0 where
   lacks : Bool
   answer : List ℕ
-  facts : x ≡ handling_by mode lacks answer header.kind s front.peer header (body_of front.bytes)
+  facts : x ≡ handled mode lacks answer s front.peer header (body_of front.bytes)
 
 handles-of : (mode : ℕ → Mode) (s : Timed) (x : List Fact) (t : Timed) → (h : Handles mode s x t)
     → HandlesAs mode s.lists h.front h.header x
@@ -99,8 +99,8 @@ module _ (n : ℕ) where
   handled-same served mode s front header x y m a b f g =
       let one = subst (λ (z : List Fact). Fine n served z) a.facts f in
       let two = subst (λ (z : List Fact). Fine n served z) b.facts g in
-      a.facts ∙ (handling-same n header.kind served mode a.lacks b.lacks a.answer b.answer s
-      front.peer header (body_of front.bytes) m one two ∙ sym b.facts)
+      a.facts ∙ (either-same n (header.to_life == s.life) served mode a.lacks b.lacks a.answer
+      b.answer s front.peer header (body_of front.bytes) m one two ∙ sym b.facts)
 
   handles-same : (served : Served) (mode : ℕ → Mode) (s : Timed) (x y : List Fact) (t u : Timed)
       → s.lists.me ≡ n → Handles mode s x t → Handles mode s y u → Fine n served x → Fine n served y

@@ -14,15 +14,15 @@ use Rattle.packet_header.specs.declared.packet.ControlKind.TheVariants.{Disconne
 use Rattle.packet_header.specs.declared.packet.Kind.{Kind}
 use Rattle.packet_header.specs.declared.packet.Kind.TheVariants.{Request, Rfr, Cr, Response}
 use Rattle.packet_header.specs.declared.packet.MessageHeader.{MessageHeader}
-use Rattle.rpc_base.specs.declared.event.Event.TheVariants.{Given, Posted, Ran, Took}
+use Rattle.rpc_base.specs.declared.event.Event.TheVariants.{Dropped, Given, Posted, Ran, Took}
 use Rattle.rpc_base.specs.declared.fact.Fact.{Fact}
 use Rattle.rpc_base.specs.declared.fact.Who.TheVariants.{Node}
 use Rattle.rpc_base.specs.declared.owner.Owner.TheVariants.{Reply}
 use Rattle.rpc_base.specs.declared.state.DropReason.TheVariants.{NotFirst, Unserved, JobsFull}
 use Rattle.rpc_base.specs.declared.state.DropReason.TheVariants.{NoMemory, Mismatch, Ahead, Beyond}
-use Rattle.rpc_base.specs.declared.state.DropReason.TheVariants.{Old, WrongPeer, Working}
+use Rattle.rpc_base.specs.declared.state.DropReason.TheVariants.{Old, StaleLife, WrongPeer, Working}
 use Rattle.rpc_laws.specs.declared.rows.ControlRow.{ControlRow}
-use Rattle.rpc_laws.specs.declared.rows.ControlRow.TheVariants.{Declines, Starves}
+use Rattle.rpc_laws.specs.declared.rows.ControlRow.TheVariants.{Declines, Ignores, Starves}
 use Rattle.rpc_laws.specs.declared.rows.ServerRow.{ServerRow}
 use Rattle.rpc_laws.specs.declared.rows.ServerRow.TheVariants.{Begins, Drops, Repeats, Takes}
 use Rattle.rpc_laws.specs.declared.tables.Lists.{Lists}
@@ -30,7 +30,7 @@ use Rattle.rpc_laws.specs.declared.tables.Queued.{Queued}
 use Rattle.rpc_laws.specs.declared.tables.Served.{Served as ServedRequest}
 use Rattle.rpc_laws.specs.declared.tables.Server.{Server}
 use Rattle.rpc_laws.specs.AtMostOnce.{is_at}
-use Rattle.rpc_laws.specs.ControlTable.{confirm_row, control_facts, control_row, control_row_of, is_end_of}
+use Rattle.rpc_laws.specs.ControlTable.{confirm_row, control_facts, control_row, control_row_of, is_end_of, is_stale}
 use Rattle.rpc_laws.specs.Facts.{plain, with_two}
 use Rattle.rpc_laws.specs.Groups.{has_no_room, servers_spent}
 use Rattle.rpc_laws.specs.Jobs.{are_full}
@@ -111,6 +111,10 @@ row-whole mode me answer queued v h body r o w (inr e) =
     let no : true ≡ false =
     subst (λ (z : ServerRow). wants (served_facts mode me answer queued v h body z) ≡ false)
     e w in cc
+
+abbrev either : Bool → (ℕ → Mode) → Bool → List ℕ → Lists → ℕ → MessageHeader → List ℕ → List Fact
+either its mode lacks answer s peer h body =
+    cond its (handling_by mode lacks answer h.kind s peer h body) (plain s.me (Dropped StaleLife) ∷ [])
 
 module _ (n : ℕ) where
   -- a handler that runs at node n gives the plain service's answer
@@ -195,7 +199,7 @@ module _ (n : ℕ) where
       ∙ ap (λ (r : ServerRow). served_facts m s.me b s.queued v h body r) (sym two))
 
   -- the front packet of the ring, by its kind
-  pub handling-same : (kind : Kind) (served : Served) (mode : ℕ → Mode) (j l : Bool) (a b : List ℕ)
+  handling-same : (kind : Kind) (served : Served) (mode : ℕ → Mode) (j l : Bool) (a b : List ℕ)
       (s : Lists) (peer : ℕ) (h : MessageHeader) (body : List ℕ) → s.me ≡ n
       → Fine n served (handling_by mode j a kind s peer h body)
       → Fine n served (handling_by mode l b kind s peer h body)
@@ -204,6 +208,16 @@ module _ (n : ℕ) where
   handling-same Rfr served mode j l a b s peer h body e f g = asks-same served mode j l a b s peer h body e f g
   handling-same Cr served mode j l a b s peer h body e f g = refl
   handling-same Response served mode j l a b s peer h body e f g = refl
+
+  -- and first by whether it is for this life of the node
+  pub either-same : (its : Bool) (served : Served) (mode : ℕ → Mode) (j l : Bool) (a b : List ℕ)
+      (s : Lists) (peer : ℕ) (h : MessageHeader) (body : List ℕ) → s.me ≡ n
+      → Fine n served (either its mode j a s peer h body)
+      → Fine n served (either its mode l b s peer h body)
+      → either its mode j a s peer h body ≡ either its mode l b s peer h body
+  either-same true served mode j l a b s peer h body e f g =
+      handling-same h.kind served mode j l a b s peer h body e f g
+  either-same false served mode j l a b s peer h body e f g = refl
 
 -- the control rule with and without memory
 confirm-lacks : (h : ControlHeader) (s : Lists) (o : Option Server)
@@ -214,7 +228,9 @@ confirm-lacks h s (Some v) = inl refl
 control-lacks : (kind : ControlKind) (lacks : Bool) (peer : ℕ) (h : ControlHeader) (s : Lists)
     → Or Starves (control_row_of kind lacks peer h s) (control_row_of kind false peer h s)
 control-lacks kind false peer h s = inl refl
-control-lacks ConnectRequest true peer h s = confirm-lacks h s (find (is_end_of peer h.client) s.servers)
+control-lacks ConnectRequest true peer h s =
+    or-by Starves (is_stale peer h s) Ignores _ _
+    (confirm-lacks h s (find (is_end_of peer h.client h.from_life) s.servers))
 control-lacks ConnectReply true peer h s = inl refl
 control-lacks DisconnectRequest true peer h s = inl refl
 control-lacks DisconnectReply true peer h s = inl refl

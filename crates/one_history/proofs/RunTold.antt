@@ -1,19 +1,16 @@
 -- Each group of facts of a node has no other bytes than its lines show, whatever made it.
-use Rattle.std.proofs.Common.{◌≡◌, ℕ, List, [], ◌∷◌}
+use Rattle.std.proofs.Common.{ℕ, [], ◌∷◌}
 use Rattle.report_text.specs.Told.{IsTold}
 use Rattle.rpc_base.specs.declared.event.Event.{Event}
-use Rattle.rpc_base.specs.declared.fact.Fact.{Fact}
 use Rattle.rpc_base.proofs.FirstLemmas.{all-each}
-use Rattle.rpc_laws.specs.declared.tables.Timed.{Timed}
 use Rattle.rpc_laws.specs.Facts.{plain}
-use Rattle.rpc_laws.specs.Lives.{first_life}
 use Rattle.rpc_laws.specs.NodeLists.{new_node}
 use Rattle.rpc_laws.specs.PollOrder.{FinishesOne, FinishesSome, Sends, SendsSome}
 use Rattle.rpc_outside.specs.declared.service.Mode.{Mode}
 use Rattle.node_laws.specs.NodeRun.{asks, connects, delivers, disconnects, Group, misses, Notes}
 use Rattle.node_laws.specs.NodeRun.{pairs_client, pairs_server, polls, refuses, sets_rate, works}
 use Rattle.one_history.specs.RunsTold.{RunsTellTheirBytes}
-use Rattle.one_history.proofs.FactsTold.{AllSound, IsSound, one-plain}
+use Rattle.one_history.proofs.FactsTold.{IsSound, one-plain}
 use Rattle.one_history.proofs.ScriptTold.{Tells, tells-asks, tells-chain, tells-connects}
 use Rattle.one_history.proofs.ScriptTold.{tells-delivers, tells-disconnects, tells-finishes}
 use Rattle.one_history.proofs.ScriptTold.{tells-poll-by, tells-rates, tells-sends, told-by}
@@ -30,8 +27,8 @@ tells-sends-some : Tells SendsSome
 tells-sends-some s x t h = tells-chain Sends tells-sends s h
 
 tells-group : (mode : ℕ → Mode) → Tells (Group mode)
-tells-group mode s x t (pairs_client peer server credits may h) = tells-note _ s x t h
-tells-group mode s x t (pairs_server peer client credits may h) = tells-note _ s x t h
+tells-group mode s x t (pairs_client peer server credits life may h) = tells-note _ s x t h
+tells-group mode s x t (pairs_server peer client credits life may h) = tells-note _ s x t h
 tells-group mode s x t (refuses credits few e refused h) = tells-note e s x t h
 tells-group mode s x t (connects peer credits rate few h) = tells-connects peer credits rate s x t h
 tells-group mode s x t (disconnects session h) = tells-disconnects session s x t h
@@ -45,6 +42,6 @@ tells-group mode s x t (works session request out h) = tells-note _ s x t h
 tells-group mode s x t (misses i h) = tells-note _ s x t h
 
 pub runs-told : RunsTellTheirBytes
-runs-told p me limits g t r =
+runs-told p me life limits g t r =
     all-each IsSound IsTold g (λ f s. s.0)
-    (tells-chain (Group p.mode) (tells-group p.mode) (new_node me first_life limits) r.steps)
+    (tells-chain (Group p.mode) (tells-group p.mode) (new_node me life limits) r.steps)

@@ -1,6 +1,6 @@
 -- Each step of a node, and each command of a script, adds facts with no other bytes than their
 -- lines show, and none of the network but its own.
-use Rattle.std.proofs.Common.{◌≡◌, ℕ, zero, suc, nat_lt, Bool, true, false, List, [], ◌∷◌, ◌++◌}
+use Rattle.std.proofs.Common.{◌≡◌, ℕ, zero, suc, ◌+◌, nat_lt, Bool, true, false, List, [], ◌∷◌, ◌++◌}
 use Rattle.std.proofs.Common.{cond, length, map, Option, Some, None, slice_get, refl, sym, subst}
 use Rattle.std.specs.Bool.{MatchBool}
 use Rattle.std.specs.List.{find, list_all}
@@ -9,7 +9,8 @@ use Rattle.packet_header.specs.Reading.{body_of}
 use Rattle.packet_header.specs.declared.packet.ControlHeader.{ControlHeader}
 use Rattle.report_text.specs.Told.{AllTold, IsTold}
 use Rattle.rpc_base.specs.declared.event.Event.{Event}
-use Rattle.rpc_base.specs.declared.event.Event.TheVariants.{Carried, Heard, Lost, Made, Missed, Repeated, Ticked}
+use Rattle.rpc_base.specs.declared.event.Event.TheVariants.{Carried, Heard, Lost, Made, Missed, Repeated}
+use Rattle.rpc_base.specs.declared.event.Event.TheVariants.{Restarted, Ticked}
 use Rattle.rpc_base.specs.declared.fact.Fact.{Fact}
 use Rattle.rpc_laws.specs.declared.rows.RetryRow.{RetryRow}
 use Rattle.rpc_laws.specs.declared.rows.RetryRow.TheVariants.{Rests, Asks as AsksAgain, GivesUp}
@@ -17,10 +18,11 @@ use Rattle.rpc_laws.specs.declared.tables.Client.{Client}
 use Rattle.rpc_laws.specs.declared.tables.Lists.{Lists}
 use Rattle.rpc_laws.specs.declared.tables.Timed.{Timed}
 use Rattle.rpc_laws.specs.declared.tables.WorkedJob.{WorkedJob}
-use Rattle.rpc_laws.specs.ControlSteps.{control_fact, given_up, Hears, HearsAll, own_request}
+use Rattle.rpc_laws.specs.ControlSteps.{AnswersControl, control_fact, EndsAllOutdated, EndsOutdated}
+use Rattle.rpc_laws.specs.ControlSteps.{given_up, Hears, HearsAll, own_request}
 use Rattle.rpc_laws.specs.ControlSteps.{Retries, RetriesAs, RetriesBy, RetriesOf, retry_row, Speaks}
-use Rattle.rpc_laws.specs.ControlSteps.{SpeaksIf, TimesAll, TimesSession}
-use Rattle.rpc_laws.specs.ControlTable.{control_facts, control_reply, control_row}
+use Rattle.rpc_laws.specs.ControlSteps.{SpeaksIf, TakesControl, TimesAll, TimesSession}
+use Rattle.rpc_laws.specs.ControlTable.{control_facts, control_reply, control_row, outdated}
 use Rattle.rpc_laws.specs.Deliveries.{Delivers}
 use Rattle.rpc_laws.specs.Facts.{of_net, plain}
 use Rattle.rpc_laws.specs.GoBackN.{Each, numbers_in, Watches, WatchesSession}
@@ -40,7 +42,7 @@ use Rattle.script_grammar.specs.declared.line.Command.{Command}
 use Rattle.script_grammar.specs.declared.line.Command.TheVariants.{Node, Pair, Connect, Disconnect}
 use Rattle.script_grammar.specs.declared.line.Command.TheVariants.{Rate, Call, Poll as PollNode}
 use Rattle.script_grammar.specs.declared.line.Command.TheVariants.{Arrive, Lose, Repeat, Tick, Work}
-use Rattle.script_grammar.specs.declared.line.Command.TheVariants.{Settle}
+use Rattle.script_grammar.specs.declared.line.Command.TheVariants.{Restart, Settle}
 use Rattle.script_grammar.specs.declared.line.Line.{Line}
 use Rattle.sim_script.specs.FollowsScript.{ask_bytes, AtNode, Carries, Does, empty_stage, Follows}
 use Rattle.sim_script.specs.FollowsScript.{FollowsFrom, is_polled, Joins, OfNet, or_missed, PairsBy}
@@ -51,7 +53,7 @@ use Rattle.one_history.specs.NetFacts.{is_of_net}
 use Rattle.one_history.proofs.FactsTold.{AllSound, IsSound, one-plain, told-append, told-ask}
 use Rattle.one_history.proofs.FactsTold.{told-client, told-connect, told-control, told-delivery}
 use Rattle.one_history.proofs.FactsTold.{told-finished}
-use Rattle.one_history.proofs.FactsTold.{told-handling, told-map, told-net, told-plain, told-works}
+use Rattle.one_history.proofs.FactsTold.{told-handled, told-map, told-net, told-plain, told-session-end, told-works}
 
 -- each step of P adds such facts
 abbrev pub Tells : Rel → Type 0
@@ -102,18 +104,29 @@ told-speaks-if : (me peer : ℕ) (o : Option ControlHeader) (x : List Fact) → 
 told-speaks-if me peer None x e = told-by x [] e tt
 told-speaks-if me peer (Some h) x a = told-speaks me peer h x a
 
+tells-takes : Tells TakesControl
+tells-takes s x t h = told-by x (plain s.lists.me Heard ∷ []) h.facts (one-plain s.lists.me Heard)
+
+tells-ends : (peer : ℕ) (header : ControlHeader) → Tells (EndsAllOutdated peer header)
+tells-ends peer header =
+    tells-until (EndsOutdated peer header) (λ t. outdated peer header t.lists ≡ None)
+    (λ s x t h. told-by x _ h.facts (told-session-end s.lists.me s.lists.queued (Some h.server)))
+
+tells-answers : (peer : ℕ) (header : ControlHeader) → Tells (AnswersControl peer header)
+tells-answers peer header s x t h =
+    let row = control_row h.lacks peer header s.lists in
+    let facts = control_facts s.lists peer header row in
+    told-by x (facts ++ h.said) h.facts (told-append facts h.said
+    (told-control s.lists peer header row)
+    (told-speaks-if s.lists.me peer (control_reply s.lists.life header row) h.said h.speaks))
+
 tells-hears : Tells HearsAll
 tells-hears =
     tells-until Hears (λ t. t.lists.inbox ≡ []) (λ s x t h.
-    let row = control_row h.lacks h.front.peer h.header s.lists in
-    let facts = control_facts s.lists h.front.peer h.header row in
-    told-by x (plain s.lists.me Heard ∷ facts ++ h.said) h.facts (
-      told-plain s.lists.me Heard,
-      told-append facts h.said
-          (told-control s.lists h.front.peer h.header row)
-          (told-speaks-if s.lists.me h.front.peer (control_reply s.lists.life h.header row) h.said
-          h.speaks),
-    ))
+    let peer = h.front.peer in
+    tells-then TakesControl (Then (EndsAllOutdated peer h.header) (AnswersControl peer h.header))
+    tells-takes (tells-then (EndsAllOutdated peer h.header) (AnswersControl peer h.header)
+    (tells-ends peer h.header) (tells-answers peer h.header)) s x t h.steps)
 
 told-retries-by : (r : RetryRow) (me : ℕ) (c : Client) (h : ControlHeader) (x : List Fact)
     → RetriesBy r me c h x → AllSound x
@@ -152,8 +165,8 @@ tells-times s x t h =
 -- the other steps of a poll
 tells-handles : (mode : ℕ → Mode) → Tells (Handles mode)
 tells-handles mode s x t h =
-    told-by x _ h.facts (told-handling h.header.kind mode h.lacks h.answer s.lists h.front.peer
-    h.header (body_of h.front.bytes))
+    told-by x _ h.facts (told-handled mode h.lacks h.answer s.lists h.front.peer h.header
+    (body_of h.front.bytes))
 
 pub tells-finishes : (session request : ℕ) → Tells (Finishes session request)
 tells-finishes session request s x t h = told-by x _ h.facts (told-finished h.answer s.lists h.job)
@@ -336,6 +349,8 @@ tell-does (Work n i) =
     λ s x t h. told-by x _ h.step.facts (one-plain h.before.lists.me
     (work_of i (slice_get (waiting_of s.worked h.before.lists) i)))
 tell-does (Settle rounds) = tell-settles rounds
+tell-does (Restart n) =
+    λ s x t h. told-by x _ h.facts (one-plain h.before.lists.me (Restarted (h.before.lists.life + 1)))
 
 tell-follows : (lines : List Line) → AllTell (FollowsFrom lines)
 tell-follows [] s x t h = told-by x [] h.0 tt

@@ -1,21 +1,21 @@
 -- Each command of a script leads from a stage to one stage, by the same facts, and so does a whole script.
-use Rattle.std.proofs.Common.{◌≡◌, ℕ, zero, suc, nat_lt, Bool, true, false, List, [], ◌∷◌, ◌++◌}
+use Rattle.std.proofs.Common.{◌≡◌, ℕ, zero, suc, ◌+◌, nat_lt, Bool, true, false, List, [], ◌∷◌, ◌++◌}
 use Rattle.std.proofs.Common.{length, Option, Some, None, slice_get, refl, sym, ap₂, ◌∙◌, subst}
 use Rattle.std.specs.Bool.{MatchBool}
 use Rattle.std.specs.List.{list_all, remove, slice_set}
 use Rattle.network_model.specs.declared.stage.Stage.{Stage}
 use Rattle.rpc_base.specs.declared.event.Event.{Event}
-use Rattle.rpc_base.specs.declared.event.Event.TheVariants.{Carried, Lost, Missed, Repeated}
+use Rattle.rpc_base.specs.declared.event.Event.TheVariants.{Carried, Lost, Missed, Repeated, Restarted}
 use Rattle.rpc_base.specs.declared.fact.Fact.{Fact}
 use Rattle.rpc_laws.specs.declared.tables.InFlight.{InFlight}
 use Rattle.rpc_laws.specs.declared.tables.Timed.{Timed}
 use Rattle.rpc_laws.specs.declared.tables.WorkedJob.{WorkedJob}
 use Rattle.rpc_laws.specs.Deliveries.{Delivers}
-use Rattle.rpc_laws.specs.Facts.{of_net}
+use Rattle.rpc_laws.specs.Facts.{of_net, plain}
 use Rattle.rpc_laws.specs.Groups.{Asks, Connects, Disconnects, pair_refusal, SetsRate}
 use Rattle.rpc_laws.specs.InFlight.{flight_after_all}
 use Rattle.rpc_laws.specs.Lives.{first_life}
-use Rattle.rpc_laws.specs.NodeLists.{new_node}
+use Rattle.rpc_laws.specs.NodeLists.{new_node, restarted}
 use Rattle.rpc_laws.specs.PollOrder.{PollBy, SendsAll}
 use Rattle.rpc_laws.specs.Service.{Answers, plain_serving}
 use Rattle.rpc_laws.specs.Steps.{Rel}
@@ -27,12 +27,12 @@ use Rattle.script_grammar.specs.declared.line.Command.{Command}
 use Rattle.script_grammar.specs.declared.line.Command.TheVariants.{Node, Pair, Connect, Disconnect}
 use Rattle.script_grammar.specs.declared.line.Command.TheVariants.{Rate, Call, Poll as PollNode}
 use Rattle.script_grammar.specs.declared.line.Command.TheVariants.{Arrive, Lose, Repeat, Tick, Work}
-use Rattle.script_grammar.specs.declared.line.Command.TheVariants.{Settle}
+use Rattle.script_grammar.specs.declared.line.Command.TheVariants.{Restart, Settle}
 use Rattle.script_grammar.specs.declared.line.Line.{Line}
 use Rattle.sim_script.specs.FollowsScript.{ask_bytes, AtNode, Carries, Does, empty_stage}
 use Rattle.sim_script.specs.FollowsScript.{FollowsFrom, FollowsTo, is_polled, Joins, Makes, noted}
 use Rattle.sim_script.specs.FollowsScript.{OfNet, or_missed, Pairs, PairsBy, PairsEnds, PollsFirst}
-use Rattle.sim_script.specs.FollowsScript.{PollsNode, Round, Settles, Ticks, Times, Unless}
+use Rattle.sim_script.specs.FollowsScript.{PollsNode, Restarts, Round, Settles, Ticks, Times, Unless}
 use Rattle.sim_script.specs.FollowsScript.{WorksAndPolls, WorksFirst, WorksNode}
 use Rattle.one_history.specs.OneHistory.{HasOneHistory, LeavesOneStage}
 use Rattle.one_history.proofs.ControlOnce.{some-same}
@@ -217,6 +217,25 @@ one-net e served s x y t u m h k f g = alike-by x y _ t u _ h.facts k.facts h.le
 one-tick : (by : ℕ) → OneFrom (Ticks by)
 one-tick by served s x y t u m h k f g = alike-by x y _ t u _ h.facts k.facts h.left k.left m
 
+one-restarts : (n : ℕ) → OneFrom (Restarts n)
+one-restarts n served s x y t u m h k f g =
+    let before : k.before ≡ h.before = some-same (slice_get s.nodes n) k.before h.before k.is_node h.is_node in
+    let other : y ≡ plain h.before.lists.me (Restarted (h.before.lists.life + 1)) ∷ [] =
+    subst (λ (v : Timed). y ≡ plain v.lists.me (Restarted (v.lists.life + 1)) ∷ []) before k.facts in
+    let same : x ≡ y = h.facts ∙ sym other in
+    record {
+      facts = same;
+      left = h.left ∙ (ap₂ (λ (v : Timed) (z : List Fact).
+          record {
+            nodes = slice_set s.nodes n (restarted v);
+            flight = s.flight;
+            worked = worked_after_all s.worked z;
+            clock = s.clock;
+          }) (sym before) same ∙ sym k.left);
+      numbered = subst (λ (v : Stage). Numbered v.nodes) (sym h.left)
+          (set-all (λ j z. z.lists.me ≡ j) s.nodes n (restarted h.before) (m n h.before h.is_node) m);
+    }
+
 -- a pairing: both ends are the same
 one-ends : (a b credits : ℕ) (client server : Timed) (s : Stage) (x y : List Fact) (t u : Stage)
     → Numbered s.nodes → client.lists.me ≡ a → server.lists.me ≡ b
@@ -345,6 +364,7 @@ one-does (Repeat i) = λ served s. one-net (or_missed s.flight i (Repeated i)) s
 one-does (Tick by) = one-tick by
 one-does (Work n i) = one-work n i
 one-does (Settle rounds) = one-settles rounds
+one-does (Restart n) = one-restarts n
 
 one-follows : (lines : List Line) → OneFrom (FollowsFrom lines)
 one-follows [] served s x y t u m h k f g = alike-none s x y t u m h k

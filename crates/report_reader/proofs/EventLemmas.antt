@@ -18,7 +18,7 @@ use Rattle.rpc_base.specs.declared.event.Event.TheVariants.{Bad, Heard, Took, Ag
 use Rattle.rpc_base.specs.declared.event.Event.TheVariants.{Dropped, Given, Worked, Ran}
 use Rattle.rpc_base.specs.declared.event.Event.TheVariants.{Rolled, DoneOk, DoneTooSmall}
 use Rattle.rpc_base.specs.declared.event.Event.TheVariants.{DonePeerLost, Polled, Missed}
-use Rattle.rpc_base.specs.declared.event.Event.TheVariants.{Carried, Lost, Repeated, Ticked}
+use Rattle.rpc_base.specs.declared.event.Event.TheVariants.{Carried, Lost, Repeated, Ticked, Restarted}
 use Rattle.rpc_base.specs.declared.owner.Owner.{Owner}
 use Rattle.rpc_base.specs.declared.owner.Owner.TheVariants.{Ask, Reply, Control}
 use Rattle.report_text.proofs.EventWords.{event_words}
@@ -36,22 +36,24 @@ owner-fits Control h = tt
 
 pub event-fits : (event : Event) → EventInRange event → EventFits event
 event-fits (Made ring) h = omega (arith, h)
+event-fits (Restarted life) h = omega (arith, h)
 event-fits (Opened session peer credits) h =
     (omega (arith, h.0), omega (arith, h.1), omega (arith, h.2))
-event-fits (PairedClient session peer server credits) h =
-    (omega (arith, h.0), omega (arith, h.1), omega (arith, h.2), omega (arith, h.3))
-event-fits (PairedServer session peer client credits) h =
-    (omega (arith, h.0), omega (arith, h.1), omega (arith, h.2), omega (arith, h.3))
+event-fits (PairedClient session peer server credits life) h =
+    (omega (arith, h.0), omega (arith, h.1), omega (arith, h.2), omega (arith, h.3), omega (arith, h.4))
+event-fits (PairedServer session peer client credits life) h =
+    (omega (arith, h.0), omega (arith, h.1), omega (arith, h.2), omega (arith, h.3), omega (arith, h.4))
 event-fits (NconnectRing shares credits ring) h =
     (omega (arith, h.0), omega (arith, h.1), omega (arith, h.2))
 event-fits NconnectNumbers h = tt
-event-fits (Accepted session peer client credits) h =
-    (omega (arith, h.0), omega (arith, h.1), omega (arith, h.2), omega (arith, h.3))
+event-fits (Accepted session peer client credits life) h =
+    (omega (arith, h.0), omega (arith, h.1), omega (arith, h.2), omega (arith, h.3), omega (arith, h.4))
 event-fits (Declined peer client credits) h =
     (omega (arith, h.0), omega (arith, h.1), omega (arith, h.2))
 event-fits (Starved peer client credits) h =
     (omega (arith, h.0), omega (arith, h.1), omega (arith, h.2))
-event-fits (Connected session server) h = (omega (arith, h.0), omega (arith, h.1))
+event-fits (Connected session server life) h =
+    (omega (arith, h.0), omega (arith, h.1), omega (arith, h.2))
 event-fits (FailedNoRoom session) h = omega (arith, h)
 event-fits (FailedNoAnswer session) h = omega (arith, h)
 event-fits (Closing session) h = omega (arith, h)
@@ -106,18 +108,19 @@ pub bytes-back : (w : List ℕ) (event : Event) (first second : List ℕ) → Ar
     × (second_by (tail_of event) (place_of event) (w ∷ event_words event first second) ≡ Some second)
 unfolding first_in second_in
 bytes-back w (Made ring) first second a b none = no-bytes first second none
+bytes-back w (Restarted life) first second a b none = no-bytes first second none
 bytes-back w (Opened session peer credits) first second a b none = no-bytes first second none
-bytes-back w (PairedClient session peer server credits) first second a b none =
+bytes-back w (PairedClient session peer server credits life) first second a b none =
     no-bytes first second none
-bytes-back w (PairedServer session peer client credits) first second a b none =
+bytes-back w (PairedServer session peer client credits life) first second a b none =
     no-bytes first second none
 bytes-back w (NconnectRing shares credits ring) first second a b none = no-bytes first second none
 bytes-back w NconnectNumbers first second a b none = no-bytes first second none
-bytes-back w (Accepted session peer client credits) first second a b none =
+bytes-back w (Accepted session peer client credits life) first second a b none =
     no-bytes first second none
 bytes-back w (Declined peer client credits) first second a b none = no-bytes first second none
 bytes-back w (Starved peer client credits) first second a b none = no-bytes first second none
-bytes-back w (Connected session server) first second a b none = no-bytes first second none
+bytes-back w (Connected session server life) first second a b none = no-bytes first second none
 bytes-back w (FailedNoRoom session) first second a b none = no-bytes first second none
 bytes-back w (FailedNoAnswer session) first second a b none = no-bytes first second none
 bytes-back w (Closing session) first second a b none = no-bytes first second none

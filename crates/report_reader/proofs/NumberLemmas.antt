@@ -17,7 +17,7 @@ use Rattle.rpc_base.specs.declared.state.DropReason.TheVariants.{NoSession, Wron
 use Rattle.rpc_base.specs.declared.state.DropReason.TheVariants.{NotFirst, Working, Unserved}
 use Rattle.rpc_base.specs.declared.state.DropReason.TheVariants.{JobsFull, NoMemory, Mismatch}
 use Rattle.rpc_base.specs.declared.state.DropReason.TheVariants.{Ahead, Beyond, NoCall, Past}
-use Rattle.rpc_base.specs.declared.state.DropReason.TheVariants.{Queued}
+use Rattle.rpc_base.specs.declared.state.DropReason.TheVariants.{Queued, StaleLife}
 use Rattle.report_text.specs.Names.{state_text, reason_text}
 use Rattle.script_grammar.specs.Numbers.{value_of}
 use Rattle.report_reader.specs.Words.{is_word, number, state_named, reason_named}
@@ -80,6 +80,7 @@ not-toolarge Spent = refl
 
 pub reason-back : (reason : DropReason) → reason_named (reason_text reason) ≡ Some reason
 unfolding reason_named is_word
+reason-back StaleLife = refl
 reason-back NoSession = refl
 reason-back WrongPeer = refl
 reason-back Old = refl

@@ -17,7 +17,7 @@ use Rattle.rpc_base.specs.declared.event.Event.TheVariants.{Bad, Heard, Took, Ag
 use Rattle.rpc_base.specs.declared.event.Event.TheVariants.{Dropped, Given, Worked, Ran}
 use Rattle.rpc_base.specs.declared.event.Event.TheVariants.{Rolled, DoneOk, DoneTooSmall}
 use Rattle.rpc_base.specs.declared.event.Event.TheVariants.{DonePeerLost, Polled, Missed}
-use Rattle.rpc_base.specs.declared.event.Event.TheVariants.{Carried, Lost, Repeated, Ticked}
+use Rattle.rpc_base.specs.declared.event.Event.TheVariants.{Carried, Lost, Repeated, Ticked, Restarted}
 use Rattle.rpc_base.specs.declared.owner.Owner.TheVariants.{Ask, Reply, Control}
 use Rattle.report_text.proofs.EventWords.{event_words}
 use Rattle.report_reader.specs.Telling.{made_in, opened_in, paired_client_in}
@@ -33,7 +33,7 @@ use Rattle.report_reader.specs.Telling.{bad_in, took_in, again_in, dropped_in, g
 use Rattle.report_reader.specs.Telling.{worked_in, ran_in, rolled_in, done_ok_in}
 use Rattle.report_reader.specs.Telling.{done_too_small_in, done_peer_lost_in, polled_in}
 use Rattle.report_reader.specs.Telling.{missed_in, carried_in, lost_in, repeated_in}
-use Rattle.report_reader.specs.Telling.{ticked_in, paired_line, nconnect_line, failed_line}
+use Rattle.report_reader.specs.Telling.{restarted_in, ticked_in, paired_line, nconnect_line, failed_line}
 use Rattle.report_reader.specs.Telling.{nclose_line, closed_line, ncall_line, done_line}
 use Rattle.report_reader.specs.Telling.{names_1, names_2, names_3, names_4, name_of}
 use Rattle.report_reader.specs.Telling.{event_by, event_in}
@@ -44,27 +44,30 @@ use Rattle.report_reader.proofs.NumberLemmas.{not-toolarge}
 
 pub told-back : (w : List ℕ) (event : Event) (first second : List ℕ) → EventInRange event
     → event_in (w ∷ event_words event first second) ≡ Some event
-unfolding event_in event_by name_of names_1 names_2 names_3 names_4 is_word owner_at made_in opened_in paired_client_in paired_server_in nconnect_ring_in accepted_in declined_in starved_in connected_in failed_no_room_in failed_no_answer_in closing_in nclose_state_in nclose_busy_in closed_heard_in closed_unheard_in ended_in broken_in rated_in nrate_in asked_in ncall_too_large_in ncall_state_in begun_in posted_in flushed_in sent_in unsent_in arrived_in overflowed_in bad_in took_in again_in dropped_in given_in worked_in ran_in rolled_in done_ok_in done_too_small_in done_peer_lost_in polled_in missed_in carried_in lost_in repeated_in ticked_in paired_line nconnect_line failed_line nclose_line closed_line ncall_line done_line
+unfolding event_in event_by name_of names_1 names_2 names_3 names_4 is_word owner_at made_in restarted_in opened_in paired_client_in paired_server_in nconnect_ring_in accepted_in declined_in starved_in connected_in failed_no_room_in failed_no_answer_in closing_in nclose_state_in nclose_busy_in closed_heard_in closed_unheard_in ended_in broken_in rated_in nrate_in asked_in ncall_too_large_in ncall_state_in begun_in posted_in flushed_in sent_in unsent_in arrived_in overflowed_in bad_in took_in again_in dropped_in given_in worked_in ran_in rolled_in done_ok_in done_too_small_in done_peer_lost_in polled_in missed_in carried_in lost_in repeated_in ticked_in paired_line nconnect_line failed_line nclose_line closed_line ncall_line done_line
 told-back w (Made ring) first second h = rw (num-back 4294967295 ring (h) (omega arith)) refl
+told-back w (Restarted life) first second h = rw (num-back 4294967295 life (h) (omega arith)) refl
 told-back w (Opened session peer credits) first second h =
     rw (
       num-back 65535 session (h.0) (omega arith),
       num-back 255 peer (h.1) (omega arith),
       num-back 65535 credits (h.2) (omega arith),
     ) refl
-told-back w (PairedClient session peer server credits) first second h =
+told-back w (PairedClient session peer server credits life) first second h =
     rw (
       num-back 65535 session (h.0) (omega arith),
       num-back 255 peer (h.1) (omega arith),
       num-back 65535 server (h.2) (omega arith),
       num-back 65535 credits (h.3) (omega arith),
+      num-back 4294967295 life (h.4) (omega arith),
     ) refl
-told-back w (PairedServer session peer client credits) first second h =
+told-back w (PairedServer session peer client credits life) first second h =
     rw (
       num-back 65535 session (h.0) (omega arith),
       num-back 255 peer (h.1) (omega arith),
       num-back 65535 client (h.2) (omega arith),
       num-back 65535 credits (h.3) (omega arith),
+      num-back 4294967295 life (h.4) (omega arith),
     ) refl
 told-back w (NconnectRing shares credits ring) first second h =
     rw (
@@ -73,12 +76,13 @@ told-back w (NconnectRing shares credits ring) first second h =
       num-back 4294967295 ring (h.2) (omega arith),
     ) refl
 told-back w NconnectNumbers first second h = refl
-told-back w (Accepted session peer client credits) first second h =
+told-back w (Accepted session peer client credits life) first second h =
     rw (
       num-back 65535 session (h.0) (omega arith),
       num-back 255 peer (h.1) (omega arith),
       num-back 65535 client (h.2) (omega arith),
       num-back 65535 credits (h.3) (omega arith),
+      num-back 4294967295 life (h.4) (omega arith),
     ) refl
 told-back w (Declined peer client credits) first second h =
     rw (
@@ -92,8 +96,12 @@ told-back w (Starved peer client credits) first second h =
       num-back 65535 client (h.1) (omega arith),
       num-back 65535 credits (h.2) (omega arith),
     ) refl
-told-back w (Connected session server) first second h =
-    rw (num-back 65535 session (h.0) (omega arith), num-back 65535 server (h.1) (omega arith)) refl
+told-back w (Connected session server life) first second h =
+    rw (
+      num-back 65535 session (h.0) (omega arith),
+      num-back 65535 server (h.1) (omega arith),
+      num-back 4294967295 life (h.2) (omega arith),
+    ) refl
 told-back w (FailedNoRoom session) first second h =
     rw (num-back 65535 session (h) (omega arith)) refl
 told-back w (FailedNoAnswer session) first second h =

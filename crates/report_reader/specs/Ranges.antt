@@ -1,6 +1,5 @@
 -- What the types of the numbers of a fact say, and that its bytes are bytes: such facts are those
--- of the
--- histories that reports have.
+-- of the histories that reports have.
 use Rattle.std.specs.Prelude.{ℕ, ◌≤◌, ◌<◌, List}
 use Rattle.std.specs.List.{AllByRecursion}
 use Rattle.rpc_base.specs.declared.event.Event.{Event}
@@ -20,7 +19,7 @@ use Rattle.rpc_base.specs.declared.event.Event.TheVariants.{Bad, Heard, Took, Ag
 use Rattle.rpc_base.specs.declared.event.Event.TheVariants.{Dropped, Given, Worked, Ran}
 use Rattle.rpc_base.specs.declared.event.Event.TheVariants.{Rolled, DoneOk, DoneTooSmall}
 use Rattle.rpc_base.specs.declared.event.Event.TheVariants.{DonePeerLost, Polled, Missed}
-use Rattle.rpc_base.specs.declared.event.Event.TheVariants.{Carried, Lost, Repeated, Ticked}
+use Rattle.rpc_base.specs.declared.event.Event.TheVariants.{Carried, Lost, Repeated, Ticked, Restarted}
 use Rattle.rpc_base.specs.declared.fact.Fact.{Fact}
 use Rattle.rpc_base.specs.declared.fact.Who.{Who}
 use Rattle.rpc_base.specs.declared.fact.Who.TheVariants.{Node, Net}
@@ -38,19 +37,21 @@ OwnerInRange Control = Unit {0}
 
 abbrev pub EventInRange : Event → Type 0
 EventInRange (Made ring) = ring ≤ 4294967295
+EventInRange (Restarted life) = life ≤ 4294967295
 EventInRange (Opened session peer credits) = (session ≤ 65535) × (peer ≤ 255) × (credits ≤ 65535)
-EventInRange (PairedClient session peer server credits) =
-    (session ≤ 65535) × (peer ≤ 255) × (server ≤ 65535) × (credits ≤ 65535)
-EventInRange (PairedServer session peer client credits) =
-    (session ≤ 65535) × (peer ≤ 255) × (client ≤ 65535) × (credits ≤ 65535)
+EventInRange (PairedClient session peer server credits life) =
+    (session ≤ 65535) × (peer ≤ 255) × (server ≤ 65535) × (credits ≤ 65535) × (life ≤ 4294967295)
+EventInRange (PairedServer session peer client credits life) =
+    (session ≤ 65535) × (peer ≤ 255) × (client ≤ 65535) × (credits ≤ 65535) × (life ≤ 4294967295)
 EventInRange (NconnectRing shares credits ring) =
     (shares ≤ 4294967295) × (credits ≤ 4294967295) × (ring ≤ 4294967295)
 EventInRange NconnectNumbers = Unit {0}
-EventInRange (Accepted session peer client credits) =
-    (session ≤ 65535) × (peer ≤ 255) × (client ≤ 65535) × (credits ≤ 65535)
+EventInRange (Accepted session peer client credits life) =
+    (session ≤ 65535) × (peer ≤ 255) × (client ≤ 65535) × (credits ≤ 65535) × (life ≤ 4294967295)
 EventInRange (Declined peer client credits) = (peer ≤ 255) × (client ≤ 65535) × (credits ≤ 65535)
 EventInRange (Starved peer client credits) = (peer ≤ 255) × (client ≤ 65535) × (credits ≤ 65535)
-EventInRange (Connected session server) = (session ≤ 65535) × (server ≤ 65535)
+EventInRange (Connected session server life) =
+    (session ≤ 65535) × (server ≤ 65535) × (life ≤ 4294967295)
 EventInRange (FailedNoRoom session) = session ≤ 65535
 EventInRange (FailedNoAnswer session) = session ≤ 65535
 EventInRange (Closing session) = session ≤ 65535

@@ -1,6 +1,5 @@
 -- The event that the words of a line tell. Word 0 is where it happened, word 1 names it; the words
--- that
--- it reads are the first that differ from line to line, and the numbers.
+-- that it reads are the first that differ from line to line, and the numbers.
 use Rattle.std.specs.Prelude.{ℕ, List, codes, Option, Some, None, if◌then◌else◌}
 use Rattle.rpc_base.specs.declared.event.Event.{Event}
 use Rattle.rpc_base.specs.declared.event.Event.TheVariants.{Made, Opened, PairedClient}
@@ -19,7 +18,7 @@ use Rattle.rpc_base.specs.declared.event.Event.TheVariants.{Bad, Heard, Took, Ag
 use Rattle.rpc_base.specs.declared.event.Event.TheVariants.{Dropped, Given, Worked, Ran}
 use Rattle.rpc_base.specs.declared.event.Event.TheVariants.{Rolled, DoneOk, DoneTooSmall}
 use Rattle.rpc_base.specs.declared.event.Event.TheVariants.{DonePeerLost, Polled, Missed}
-use Rattle.rpc_base.specs.declared.event.Event.TheVariants.{Carried, Lost, Repeated, Ticked}
+use Rattle.rpc_base.specs.declared.event.Event.TheVariants.{Carried, Lost, Repeated, Ticked, Restarted}
 use Rattle.report_reader.specs.declared.name.Name.{Name}
 use Rattle.report_reader.specs.declared.name.Name.TheVariants as name
 use Rattle.report_reader.specs.Words.{◌>>=◌, is_word, num, owner_at, reason_at, state_at, word}
@@ -28,6 +27,11 @@ unfoldable pub made_in : List (List ℕ) → Option Event
 made_in ws = do
   ring ← num 4294967295 3 ws
   Some (Made ring)
+
+unfoldable pub restarted_in : List (List ℕ) → Option Event
+restarted_in ws = do
+  life ← num 4294967295 2 ws
+  Some (Restarted life)
 
 unfoldable pub opened_in : List (List ℕ) → Option Event
 opened_in ws = do
@@ -42,7 +46,8 @@ paired_client_in ws = do
   peer ← num 255 5 ws
   server ← num 65535 7 ws
   credits ← num 65535 9 ws
-  Some (PairedClient session peer server credits)
+  life ← num 4294967295 11 ws
+  Some (PairedClient session peer server credits life)
 
 unfoldable pub paired_server_in : List (List ℕ) → Option Event
 paired_server_in ws = do
@@ -50,7 +55,8 @@ paired_server_in ws = do
   peer ← num 255 5 ws
   client ← num 65535 7 ws
   credits ← num 65535 9 ws
-  Some (PairedServer session peer client credits)
+  life ← num 4294967295 11 ws
+  Some (PairedServer session peer client credits life)
 
 unfoldable pub nconnect_ring_in : List (List ℕ) → Option Event
 nconnect_ring_in ws = do
@@ -65,7 +71,8 @@ accepted_in ws = do
   peer ← num 255 4 ws
   client ← num 65535 6 ws
   credits ← num 65535 8 ws
-  Some (Accepted session peer client credits)
+  life ← num 4294967295 10 ws
+  Some (Accepted session peer client credits life)
 
 unfoldable pub declined_in : List (List ℕ) → Option Event
 declined_in ws = do
@@ -85,7 +92,8 @@ unfoldable pub connected_in : List (List ℕ) → Option Event
 connected_in ws = do
   session ← num 65535 2 ws
   server ← num 65535 4 ws
-  Some (Connected session server)
+  life ← num 4294967295 6 ws
+  Some (Connected session server life)
 
 unfoldable pub failed_no_room_in : List (List ℕ) → Option Event
 failed_no_room_in ws = do
@@ -348,7 +356,8 @@ names_4 w =
     else (if is_word w (codes "lost") then Some name.Lost
     else (if is_word w (codes "repeated") then Some name.Repeated
     else (if is_word w (codes "ticked") then Some name.Ticked
-    else None)))))))))
+    else (if is_word w (codes "restarted") then Some name.Restarted
+    else None))))))))))
 
 unfoldable pub names_3 : List ℕ → Option Name
 names_3 w =
@@ -439,6 +448,7 @@ event_by name.Carried ws = carried_in ws
 event_by name.Lost ws = lost_in ws
 event_by name.Repeated ws = repeated_in ws
 event_by name.Ticked ws = ticked_in ws
+event_by name.Restarted ws = restarted_in ws
 
 -- the event of a line
 unfoldable pub event_in : List (List ℕ) → Option Event

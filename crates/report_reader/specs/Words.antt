@@ -14,7 +14,7 @@ use Rattle.rpc_base.specs.declared.state.DropReason.TheVariants.{NoSession, Wron
 use Rattle.rpc_base.specs.declared.state.DropReason.TheVariants.{NotFirst, Working, Unserved}
 use Rattle.rpc_base.specs.declared.state.DropReason.TheVariants.{JobsFull, NoMemory, Mismatch}
 use Rattle.rpc_base.specs.declared.state.DropReason.TheVariants.{Ahead, Beyond, NoCall, Past}
-use Rattle.rpc_base.specs.declared.state.DropReason.TheVariants.{Queued}
+use Rattle.rpc_base.specs.declared.state.DropReason.TheVariants.{Queued, StaleLife}
 use Rattle.script_grammar.specs.Numbers.{value_of}
 
 -- what follows, where something was found before
@@ -73,7 +73,8 @@ state_at i ws = state_named (word i ws)
 
 unfoldable pub reason_named : List ℕ → Option DropReason
 reason_named w =
-    if is_word w (codes "nosession") then Some NoSession
+    if is_word w (codes "stalelife") then Some StaleLife
+    else (if is_word w (codes "nosession") then Some NoSession
     else (if is_word w (codes "wrongpeer") then Some WrongPeer
     else (if is_word w (codes "old") then Some Old
     else (if is_word w (codes "notfirst") then Some NotFirst
@@ -86,7 +87,8 @@ reason_named w =
     else (if is_word w (codes "beyond") then Some Beyond
     else (if is_word w (codes "nocall") then Some NoCall
     else (if is_word w (codes "past") then Some Past
-    else (if is_word w (codes "queued") then Some Queued else None)))))))))))))
+    else (if is_word w (codes "queued") then Some Queued
+    else None))))))))))))))
 
 abbrev pub reason_at : ℕ → List (List ℕ) → Option DropReason
 reason_at i ws = reason_named (word i ws)

@@ -16,7 +16,7 @@ ghost use Rattle.report_reader.specs.Telling.{again_in, dropped_in, given_in, wo
 ghost use Rattle.report_reader.specs.Telling.{ran_in, rolled_in, done_ok_in};
 ghost use Rattle.report_reader.specs.Telling.{done_too_small_in, done_peer_lost_in};
 ghost use Rattle.report_reader.specs.Telling.{polled_in, missed_in, carried_in, lost_in};
-ghost use Rattle.report_reader.specs.Telling.{repeated_in, ticked_in};
+ghost use Rattle.report_reader.specs.Telling.{repeated_in, restarted_in, ticked_in};
 ghost use Rattle.report_reader.specs.Words.{words_of};
 
 use crate::numbers::{
@@ -35,6 +35,15 @@ pub fn made(line: &[u8]) -> Option<Event>
     Some(Event::Made { ring })
 }
 
+/// `restarted life`.
+#[tactic(auto, unfolding(crate::specs::Telling::restarted_in))]
+pub fn restarted(line: &[u8]) -> Option<Event>
+    ensures { result ≡ restarted_in (words_of line.now) }
+{
+    let life = word_number_at(line, 2)?;
+    Some(Event::Restarted { life })
+}
+
 /// `opened session peer peer credits credits`.
 #[tactic(auto, unfolding(crate::specs::Telling::opened_in))]
 pub fn opened(line: &[u8]) -> Option<Event>
@@ -50,7 +59,7 @@ pub fn opened(line: &[u8]) -> Option<Event>
     })
 }
 
-/// `paired client session peer peer with server credits credits`.
+/// `paired client session peer peer with server credits credits life life`.
 #[tactic(auto, unfolding(crate::specs::Telling::paired_client_in))]
 pub fn paired_client(line: &[u8]) -> Option<Event>
     ensures { result ≡ paired_client_in (words_of line.now) }
@@ -59,15 +68,17 @@ pub fn paired_client(line: &[u8]) -> Option<Event>
     let peer = peer_at(line, 5)?;
     let server = session_at(line, 7)?;
     let credits = half_at(line, 9)?;
+    let life = word_number_at(line, 11)?;
     Some(Event::PairedClient {
         session,
         peer,
         server,
         credits,
+        life,
     })
 }
 
-/// `paired server session peer peer with client credits credits`.
+/// `paired server session peer peer with client credits credits life life`.
 #[tactic(auto, unfolding(crate::specs::Telling::paired_server_in))]
 pub fn paired_server(line: &[u8]) -> Option<Event>
     ensures { result ≡ paired_server_in (words_of line.now) }
@@ -76,11 +87,13 @@ pub fn paired_server(line: &[u8]) -> Option<Event>
     let peer = peer_at(line, 5)?;
     let client = session_at(line, 7)?;
     let credits = half_at(line, 9)?;
+    let life = word_number_at(line, 11)?;
     Some(Event::PairedServer {
         session,
         peer,
         client,
         credits,
+        life,
     })
 }
 
@@ -99,7 +112,7 @@ pub fn nconnect_ring(line: &[u8]) -> Option<Event>
     })
 }
 
-/// `accepted session peer peer for client credits credits`.
+/// `accepted session peer peer for client credits credits life life`.
 #[tactic(auto, unfolding(crate::specs::Telling::accepted_in))]
 pub fn accepted(line: &[u8]) -> Option<Event>
     ensures { result ≡ accepted_in (words_of line.now) }
@@ -108,11 +121,13 @@ pub fn accepted(line: &[u8]) -> Option<Event>
     let peer = peer_at(line, 4)?;
     let client = session_at(line, 6)?;
     let credits = half_at(line, 8)?;
+    let life = word_number_at(line, 10)?;
     Some(Event::Accepted {
         session,
         peer,
         client,
         credits,
+        life,
     })
 }
 
@@ -146,14 +161,19 @@ pub fn starved(line: &[u8]) -> Option<Event>
     })
 }
 
-/// `connected session with server`.
+/// `connected session with server life life`.
 #[tactic(auto, unfolding(crate::specs::Telling::connected_in))]
 pub fn connected(line: &[u8]) -> Option<Event>
     ensures { result ≡ connected_in (words_of line.now) }
 {
     let session = session_at(line, 2)?;
     let server = session_at(line, 4)?;
-    Some(Event::Connected { session, server })
+    let life = word_number_at(line, 6)?;
+    Some(Event::Connected {
+        session,
+        server,
+        life,
+    })
 }
 
 /// `failed session noroom`.

@@ -84,7 +84,8 @@ fn shown_by(event: &Event) -> Shown
         | Event::Carried { .. }
         | Event::Lost { .. }
         | Event::Repeated { .. }
-        | Event::Ticked { .. } => Shown::NoWord,
+        | Event::Ticked { .. }
+        | Event::Restarted { .. } => Shown::NoWord,
     }
 }
 

@@ -48,6 +48,7 @@ pub enum Name {
     Lost,
     Repeated,
     Ticked,
+    Restarted,
 }
 
 #[tactic(auto, unfolding(crate::specs::Telling::names_4))]
@@ -74,6 +75,8 @@ fn names_4(word: &[u8]) -> Option<Name>
         Some(Name::Repeated)
     } else if is_word(word, b"ticked") {
         Some(Name::Ticked)
+    } else if is_word(word, b"restarted") {
+        Some(Name::Restarted)
     } else {
         None
     }

@@ -10,8 +10,8 @@ use crate::events::{
     closing, connected, declined, done_ok, done_peer_lost, done_too_small, dropped, ended,
     failed_no_answer, failed_no_room, flushed, given, lost, made, missed, ncall_state,
     ncall_too_large, nclose_busy, nclose_state, nconnect_ring, nrate, opened, overflowed,
-    paired_client, paired_server, polled, posted, ran, rated, repeated, rolled, sent, starved,
-    ticked, took, unsent, worked,
+    paired_client, paired_server, polled, posted, ran, rated, repeated, restarted, rolled, sent,
+    starved, ticked, took, unsent, worked,
 };
 use crate::name::{Name, name_of};
 use crate::words::{is_word, word_at};
@@ -142,6 +142,7 @@ fn event_by(name: Name, line: &[u8]) -> Option<Event>
         Name::Lost => lost(line),
         Name::Repeated => repeated(line),
         Name::Ticked => ticked(line),
+        Name::Restarted => restarted(line),
     }
 }
 

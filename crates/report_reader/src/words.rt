@@ -78,7 +78,9 @@ pub fn state_at(line: &[u8], i: usize) -> Option<SessionState>
 fn reason_named(word: &[u8]) -> Option<DropReason>
     ensures { result ≡ reason_named word.now }
 {
-    if is_word(word, b"nosession") {
+    if is_word(word, b"stalelife") {
+        Some(DropReason::StaleLife)
+    } else if is_word(word, b"nosession") {
         Some(DropReason::NoSession)
     } else if is_word(word, b"wrongpeer") {
         Some(DropReason::WrongPeer)

@@ -15,7 +15,7 @@ use Rattle.rpc_base.specs.declared.event.Event.TheVariants.{Overflowed, Bad, Hea
 use Rattle.rpc_base.specs.declared.event.Event.TheVariants.{Dropped, Given, Worked, Ran, Rolled}
 use Rattle.rpc_base.specs.declared.event.Event.TheVariants.{DoneOk, DoneTooSmall, DonePeerLost}
 use Rattle.rpc_base.specs.declared.event.Event.TheVariants.{Polled, Missed, Carried, Lost, Repeated}
-use Rattle.rpc_base.specs.declared.event.Event.TheVariants.{Ticked}
+use Rattle.rpc_base.specs.declared.event.Event.TheVariants.{Ticked, Restarted}
 use Rattle.rpc_base.specs.declared.owner.Owner.{Owner}
 use Rattle.rpc_base.specs.declared.owner.Owner.TheVariants.{Ask, Reply, Control}
 use Rattle.report_text.specs.Names.{owner_text, state_text, reason_text, bytes_text}
@@ -31,29 +31,31 @@ use Rattle.report_text.proofs.WordsBack.{not-toolarge, reason_of, reason-word, r
 -- the words of the line of an event
 abbrev pub event_words : Event → List ℕ → List ℕ → List (List ℕ)
 event_words (Made ring) first second = codes "made" ∷ codes "ring" ∷ decimal ring ∷ []
+event_words (Restarted life) first second = codes "restarted" ∷ decimal life ∷ []
 event_words (Opened session peer credits) first second =
     codes "opened" ∷ decimal session ∷ codes "peer" ∷ decimal peer ∷ codes "credits"
     ∷ decimal credits ∷ []
-event_words (PairedClient session peer server credits) first second =
+event_words (PairedClient session peer server credits life) first second =
     codes "paired" ∷ codes "client" ∷ decimal session ∷ codes "peer" ∷ decimal peer ∷ codes "with"
-    ∷ decimal server ∷ codes "credits" ∷ decimal credits ∷ []
-event_words (PairedServer session peer client credits) first second =
+    ∷ decimal server ∷ codes "credits" ∷ decimal credits ∷ codes "life" ∷ decimal life ∷ []
+event_words (PairedServer session peer client credits life) first second =
     codes "paired" ∷ codes "server" ∷ decimal session ∷ codes "peer" ∷ decimal peer ∷ codes "with"
-    ∷ decimal client ∷ codes "credits" ∷ decimal credits ∷ []
+    ∷ decimal client ∷ codes "credits" ∷ decimal credits ∷ codes "life" ∷ decimal life ∷ []
 event_words (NconnectRing shares credits ring) first second =
     codes "nconnect" ∷ codes "ring" ∷ decimal shares ∷ decimal credits ∷ decimal ring ∷ []
 event_words NconnectNumbers first second = codes "nconnect" ∷ codes "numbers" ∷ []
-event_words (Accepted session peer client credits) first second =
+event_words (Accepted session peer client credits life) first second =
     codes "accepted" ∷ decimal session ∷ codes "peer" ∷ decimal peer ∷ codes "for" ∷ decimal client
-    ∷ codes "credits" ∷ decimal credits ∷ []
+    ∷ codes "credits" ∷ decimal credits ∷ codes "life" ∷ decimal life ∷ []
 event_words (Declined peer client credits) first second =
     codes "declined" ∷ codes "peer" ∷ decimal peer ∷ codes "for" ∷ decimal client ∷ codes "credits"
     ∷ decimal credits ∷ []
 event_words (Starved peer client credits) first second =
     codes "starved" ∷ codes "peer" ∷ decimal peer ∷ codes "for" ∷ decimal client ∷ codes "credits"
     ∷ decimal credits ∷ []
-event_words (Connected session server) first second =
-    codes "connected" ∷ decimal session ∷ codes "with" ∷ decimal server ∷ []
+event_words (Connected session server life) first second =
+    codes "connected" ∷ decimal session ∷ codes "with" ∷ decimal server ∷ codes "life"
+    ∷ decimal life ∷ []
 event_words (FailedNoRoom session) first second = codes "failed" ∷ decimal session ∷ codes "noroom" ∷ []
 event_words (FailedNoAnswer session) first second = codes "failed" ∷ decimal session ∷ codes "noanswer" ∷ []
 event_words (Closing session) first second = codes "closing" ∷ decimal session ∷ []
@@ -141,15 +143,16 @@ pub words-text : (event : Event) (first second : List ℕ)
     → event_text event first second ≡ joined (event_words event first second)
 unfolding event_text
 words-text (Made ring) first second = refl
+words-text (Restarted life) first second = refl
 words-text (Opened session peer credits) first second = simp append_assoc refl
-words-text (PairedClient session peer server credits) first second = simp append_assoc refl
-words-text (PairedServer session peer client credits) first second = simp append_assoc refl
+words-text (PairedClient session peer server credits life) first second = simp append_assoc refl
+words-text (PairedServer session peer client credits life) first second = simp append_assoc refl
 words-text (NconnectRing shares credits ring) first second = simp append_assoc refl
 words-text NconnectNumbers first second = refl
-words-text (Accepted session peer client credits) first second = simp append_assoc refl
+words-text (Accepted session peer client credits life) first second = simp append_assoc refl
 words-text (Declined peer client credits) first second = simp append_assoc refl
 words-text (Starved peer client credits) first second = simp append_assoc refl
-words-text (Connected session server) first second = simp append_assoc refl
+words-text (Connected session server life) first second = simp append_assoc refl
 words-text (FailedNoRoom session) first second = simp append_assoc refl
 words-text (FailedNoAnswer session) first second = simp append_assoc refl
 words-text (Closing session) first second = refl
@@ -212,6 +215,7 @@ words-text (Ticked by) first second = refl
 pub words-words : (event : Event) (first second : List ℕ) → EventFits event
     → AllWords (event_words event first second)
 words-words (Made ring) first second h = ((refl, refl), ((refl, refl), (number-word ring h, tt)))
+words-words (Restarted life) first second h = ((refl, refl), (number-word life h, tt))
 words-words (Opened session peer credits) first second h = (
   (refl, refl),
   (
@@ -222,7 +226,7 @@ words-words (Opened session peer credits) first second h = (
     ),
   ),
 )
-words-words (PairedClient session peer server credits) first second h = (
+words-words (PairedClient session peer server credits life) first second h = (
   (refl, refl),
   (
     (refl, refl),
@@ -234,14 +238,14 @@ words-words (PairedClient session peer server credits) first second h = (
           number-word peer h.1,
           (
             (refl, refl),
-            (number-word server h.2, ((refl, refl), (number-word credits h.3, tt))),
+            (number-word server h.2, ((refl, refl), (number-word credits h.3, ((refl, refl), (number-word life h.4, tt))))),
           ),
         ),
       ),
     ),
   ),
 )
-words-words (PairedServer session peer client credits) first second h = (
+words-words (PairedServer session peer client credits life) first second h = (
   (refl, refl),
   (
     (refl, refl),
@@ -253,7 +257,7 @@ words-words (PairedServer session peer client credits) first second h = (
           number-word peer h.1,
           (
             (refl, refl),
-            (number-word client h.2, ((refl, refl), (number-word credits h.3, tt))),
+            (number-word client h.2, ((refl, refl), (number-word credits h.3, ((refl, refl), (number-word life h.4, tt))))),
           ),
         ),
       ),
@@ -271,7 +275,7 @@ words-words (NconnectRing shares credits ring) first second h = (
   ),
 )
 words-words NconnectNumbers first second h = ((refl, refl), ((refl, refl), tt))
-words-words (Accepted session peer client credits) first second h = (
+words-words (Accepted session peer client credits life) first second h = (
   (refl, refl),
   (
     number-word session h.0,
@@ -283,7 +287,7 @@ words-words (Accepted session peer client credits) first second h = (
           (refl, refl),
           (
             number-word client h.2,
-            ((refl, refl), (number-word credits h.3, tt)),
+            ((refl, refl), (number-word credits h.3, ((refl, refl), (number-word life h.4, tt)))),
           ),
         ),
       ),
@@ -310,8 +314,19 @@ words-words (Starved peer client credits) first second h = (
     ),
   ),
 )
-words-words (Connected session server) first second h =
-    ((refl, refl), (number-word session h.0, ((refl, refl), (number-word server h.1, tt))))
+words-words (Connected session server life) first second h = (
+  (refl, refl),
+  (
+    number-word session h.0,
+    (
+      (refl, refl),
+      (
+        number-word server h.1,
+        ((refl, refl), (number-word life h.2, tt)),
+      ),
+    ),
+  ),
+)
 words-words (FailedNoRoom session) first second h = ((refl, refl), (number-word session h, ((refl, refl), tt)))
 words-words (FailedNoAnswer session) first second h = ((refl, refl), (number-word session h, ((refl, refl), tt)))
 words-words (Closing session) first second h = ((refl, refl), (number-word session h, tt))
@@ -540,16 +555,17 @@ owner_at i ws = cond (same (word i ws) (codes "c")) (Ask (num (i + 1) ws) (num (
 -- the event that such words tell
 abbrev told_by : List ℕ → List (List ℕ) → Tale
 told_by w ws = cond (same w (codes "made")) (bare (Made (num 2 ws)))
+    (cond (same w (codes "restarted")) (bare (Restarted (num 1 ws)))
     (cond (same w (codes "opened")) (bare (Opened (num 1 ws) (num 3 ws) (num 5 ws)))
     (cond (same w (codes "paired")) (cond (same (word 1 ws) (codes "client"))
-    (bare (PairedClient (num 2 ws) (num 4 ws) (num 6 ws) (num 8 ws)))
-    (bare (PairedServer (num 2 ws) (num 4 ws) (num 6 ws) (num 8 ws))))
+    (bare (PairedClient (num 2 ws) (num 4 ws) (num 6 ws) (num 8 ws) (num 10 ws)))
+    (bare (PairedServer (num 2 ws) (num 4 ws) (num 6 ws) (num 8 ws) (num 10 ws))))
     (cond (same w (codes "nconnect")) (cond (same (word 1 ws) (codes "ring"))
     (bare (NconnectRing (num 2 ws) (num 3 ws) (num 4 ws))) (bare NconnectNumbers))
-    (cond (same w (codes "accepted")) (bare (Accepted (num 1 ws) (num 3 ws) (num 5 ws) (num 7 ws)))
+    (cond (same w (codes "accepted")) (bare (Accepted (num 1 ws) (num 3 ws) (num 5 ws) (num 7 ws) (num 9 ws)))
     (cond (same w (codes "declined")) (bare (Declined (num 2 ws) (num 4 ws) (num 6 ws)))
     (cond (same w (codes "starved")) (bare (Starved (num 2 ws) (num 4 ws) (num 6 ws)))
-    (cond (same w (codes "connected")) (bare (Connected (num 1 ws) (num 3 ws)))
+    (cond (same w (codes "connected")) (bare (Connected (num 1 ws) (num 3 ws) (num 5 ws)))
     (cond (same w (codes "failed")) (cond (same (word 2 ws) (codes "noroom"))
     (bare (FailedNoRoom (num 1 ws))) (bare (FailedNoAnswer (num 1 ws))))
     (cond (same w (codes "closing")) (bare (Closing (num 1 ws)))
@@ -595,7 +611,7 @@ told_by w ws = cond (same w (codes "made")) (bare (Made (num 2 ws)))
     (cond (same w (codes "lost")) (bare (Lost (num 1 ws)))
     (cond (same w (codes "repeated")) (bare (Repeated (num 1 ws)))
     (cond (same w (codes "ticked")) (bare (Ticked (num 1 ws)))
-    (bare Heard))))))))))))))))))))))))))))))))))))))))
+    (bare Heard)))))))))))))))))))))))))))))))))))))))))
 
 abbrev pub told_of : List (List ℕ) → Tale
 told_of ws = told_by (word 0 ws) ws
@@ -617,36 +633,43 @@ with_4 : {A : Type 0} (f : ℕ → ℕ → ℕ → ℕ → A) (a a' : ℕ) (b b'
     → (b' ≡ b) → (c' ≡ c) → (d' ≡ d) → f a' b' c' d' ≡ f a b c d
 with_4 f a a' b b' c c' d d' ea eb ec ed = rw (ea, eb, ec, ed) refl
 
+with_5 : {A : Type 0} (f : ℕ → ℕ → ℕ → ℕ → ℕ → A) (a a' : ℕ) (b b' : ℕ) (c c' : ℕ) (d d' : ℕ) (e e' : ℕ)
+    → (a' ≡ a) → (b' ≡ b) → (c' ≡ c) → (d' ≡ d) → (e' ≡ e) → f a' b' c' d' e' ≡ f a b c d e
+with_5 f a a' b b' c c' d d' e e' ea eb ec ed ee = rw (ea, eb, ec, ed, ee) refl
+
 pub told-back : (event : Event) (first second : List ℕ) → EventFits event
     → NoOthers (tail_of event) first second
     → told_of (event_words event first second) ≡ (event, first, second)
 told-back (Made ring) first second h none =
     with_1 (λ ring. bare (Made ring)) ring _ (number-back ring h)
     ∙ nothing (Made ring) first second none
+told-back (Restarted life) first second h none =
+    with_1 (λ life. bare (Restarted life)) life _ (number-back life h)
+    ∙ nothing (Restarted life) first second none
 told-back (Opened session peer credits) first second h none =
     with_3 (λ session peer credits. bare (Opened session peer credits)) session _ peer _ credits _
     (number-back session h.0) (number-back peer h.1) (number-back credits h.2)
     ∙ nothing (Opened session peer credits) first second none
-told-back (PairedClient session peer server credits) first second h none =
-    with_4 (λ session peer server credits. bare (PairedClient session peer server credits)) session
-    _ peer _ server _ credits _ (number-back session h.0) (number-back peer h.1)
-    (number-back server h.2) (number-back credits h.3)
-    ∙ nothing (PairedClient session peer server credits) first second none
-told-back (PairedServer session peer client credits) first second h none =
-    with_4 (λ session peer client credits. bare (PairedServer session peer client credits)) session
-    _ peer _ client _ credits _ (number-back session h.0) (number-back peer h.1)
-    (number-back client h.2) (number-back credits h.3)
-    ∙ nothing (PairedServer session peer client credits) first second none
+told-back (PairedClient session peer server credits life) first second h none =
+    with_5 (λ session peer server credits life. bare (PairedClient session peer server credits life))
+    session _ peer _ server _ credits _ life _ (number-back session h.0) (number-back peer h.1)
+    (number-back server h.2) (number-back credits h.3) (number-back life h.4)
+    ∙ nothing (PairedClient session peer server credits life) first second none
+told-back (PairedServer session peer client credits life) first second h none =
+    with_5 (λ session peer client credits life. bare (PairedServer session peer client credits life))
+    session _ peer _ client _ credits _ life _ (number-back session h.0) (number-back peer h.1)
+    (number-back client h.2) (number-back credits h.3) (number-back life h.4)
+    ∙ nothing (PairedServer session peer client credits life) first second none
 told-back (NconnectRing shares credits ring) first second h none =
     with_3 (λ shares credits ring. bare (NconnectRing shares credits ring)) shares _ credits _ ring
     _ (number-back shares h.0) (number-back credits h.1) (number-back ring h.2)
     ∙ nothing (NconnectRing shares credits ring) first second none
 told-back NconnectNumbers first second h none = nothing (NconnectNumbers) first second none
-told-back (Accepted session peer client credits) first second h none =
-    with_4 (λ session peer client credits. bare (Accepted session peer client credits)) session _
-    peer _ client _ credits _ (number-back session h.0) (number-back peer h.1)
-    (number-back client h.2) (number-back credits h.3)
-    ∙ nothing (Accepted session peer client credits) first second none
+told-back (Accepted session peer client credits life) first second h none =
+    with_5 (λ session peer client credits life. bare (Accepted session peer client credits life))
+    session _ peer _ client _ credits _ life _ (number-back session h.0) (number-back peer h.1)
+    (number-back client h.2) (number-back credits h.3) (number-back life h.4)
+    ∙ nothing (Accepted session peer client credits life) first second none
 told-back (Declined peer client credits) first second h none =
     with_3 (λ peer client credits. bare (Declined peer client credits)) peer _ client _ credits _
     (number-back peer h.0) (number-back client h.1) (number-back credits h.2)
@@ -655,10 +678,10 @@ told-back (Starved peer client credits) first second h none =
     with_3 (λ peer client credits. bare (Starved peer client credits)) peer _ client _ credits _
     (number-back peer h.0) (number-back client h.1) (number-back credits h.2)
     ∙ nothing (Starved peer client credits) first second none
-told-back (Connected session server) first second h none =
-    with_2 (λ session server. bare (Connected session server)) session _ server _
-    (number-back session h.0) (number-back server h.1)
-    ∙ nothing (Connected session server) first second none
+told-back (Connected session server life) first second h none =
+    with_3 (λ session server life. bare (Connected session server life)) session _ server _ life _
+    (number-back session h.0) (number-back server h.1) (number-back life h.2)
+    ∙ nothing (Connected session server life) first second none
 told-back (FailedNoRoom session) first second h none =
     with_1 (λ session. bare (FailedNoRoom session)) session _ (number-back session h)
     ∙ nothing (FailedNoRoom session) first second none

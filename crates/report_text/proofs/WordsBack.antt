@@ -10,7 +10,7 @@ use Rattle.rpc_base.specs.declared.state.SessionState.TheVariants.{Unknown, Conn
 use Rattle.rpc_base.specs.declared.state.SessionState.TheVariants.{Closing, Closed, Failed, Broken}
 use Rattle.rpc_base.specs.declared.state.SessionState.TheVariants.{Spent}
 use Rattle.rpc_base.specs.declared.state.DropReason.{DropReason}
-use Rattle.rpc_base.specs.declared.state.DropReason.TheVariants.{NoSession, WrongPeer, Old}
+use Rattle.rpc_base.specs.declared.state.DropReason.TheVariants.{StaleLife, NoSession, WrongPeer, Old}
 use Rattle.rpc_base.specs.declared.state.DropReason.TheVariants.{NotFirst, Working, Unserved}
 use Rattle.rpc_base.specs.declared.state.DropReason.TheVariants.{JobsFull, NoMemory, Mismatch}
 use Rattle.rpc_base.specs.declared.state.DropReason.TheVariants.{Ahead, Beyond, NoCall, Past}
@@ -133,6 +133,7 @@ not-toolarge Spent = refl
 -- the reason that a word names
 abbrev pub reason_of : List ℕ → DropReason
 reason_of w =
+    cond (same w (codes "stalelife")) StaleLife (
     cond (same w (codes "nosession")) NoSession (
     cond (same w (codes "wrongpeer")) WrongPeer (
     cond (same w (codes "old")) Old (
@@ -146,9 +147,10 @@ reason_of w =
     cond (same w (codes "beyond")) Beyond (
     cond (same w (codes "nocall")) NoCall (
     cond (same w (codes "past")) Past (
-    Queued)))))))))))))
+    Queued))))))))))))))
 
 pub reason-word : (reason : DropReason) → IsWord (reason_text reason)
+reason-word StaleLife = (refl, refl)
 reason-word NoSession = (refl, refl)
 reason-word WrongPeer = (refl, refl)
 reason-word Old = (refl, refl)
@@ -165,6 +167,7 @@ reason-word Past = (refl, refl)
 reason-word Queued = (refl, refl)
 
 pub reason-back : (reason : DropReason) → reason_of (reason_text reason) ≡ reason
+reason-back StaleLife = refl
 reason-back NoSession = refl
 reason-back WrongPeer = refl
 reason-back Old = refl

@@ -7,7 +7,7 @@ use Rattle.rpc_base.specs.declared.state.SessionState.TheVariants.{Unknown, Conn
 use Rattle.rpc_base.specs.declared.state.SessionState.TheVariants.{Closing, Closed, Failed, Broken}
 use Rattle.rpc_base.specs.declared.state.SessionState.TheVariants.{Spent}
 use Rattle.rpc_base.specs.declared.state.DropReason.{DropReason}
-use Rattle.rpc_base.specs.declared.state.DropReason.TheVariants.{NoSession, WrongPeer, Old}
+use Rattle.rpc_base.specs.declared.state.DropReason.TheVariants.{StaleLife, NoSession, WrongPeer, Old}
 use Rattle.rpc_base.specs.declared.state.DropReason.TheVariants.{NotFirst, Working, Unserved}
 use Rattle.rpc_base.specs.declared.state.DropReason.TheVariants.{JobsFull, NoMemory, Mismatch}
 use Rattle.rpc_base.specs.declared.state.DropReason.TheVariants.{Ahead, Beyond, NoCall, Past}
@@ -32,6 +32,7 @@ state_text Spent = codes "spent"
 
 -- a reason is its name in lower case
 abbrev pub reason_text : DropReason → List ℕ
+reason_text StaleLife = codes "stalelife"
 reason_text NoSession = codes "nosession"
 reason_text WrongPeer = codes "wrongpeer"
 reason_text Old = codes "old"

@@ -14,7 +14,7 @@ use Rattle.rpc_base.specs.declared.event.Event.TheVariants.{Overflowed, Bad, Hea
 use Rattle.rpc_base.specs.declared.event.Event.TheVariants.{Dropped, Given, Worked, Ran, Rolled}
 use Rattle.rpc_base.specs.declared.event.Event.TheVariants.{DoneOk, DoneTooSmall, DonePeerLost}
 use Rattle.rpc_base.specs.declared.event.Event.TheVariants.{Polled, Missed, Carried, Lost, Repeated}
-use Rattle.rpc_base.specs.declared.event.Event.TheVariants.{Ticked}
+use Rattle.rpc_base.specs.declared.event.Event.TheVariants.{Ticked, Restarted}
 use Rattle.rpc_base.specs.declared.fact.Fact.{Fact}
 use Rattle.rpc_base.specs.declared.fact.Who.{Who}
 use Rattle.rpc_base.specs.declared.fact.Who.TheVariants.{Node, Net}
@@ -32,19 +32,24 @@ OwnerFits Control = Unit {0}
 
 abbrev pub EventFits : Event → Type 0
 EventFits (Made ring) = ring < 2 ^ 64
+EventFits (Restarted life) = life < 2 ^ 64
 EventFits (Opened session peer credits) = (session < 2 ^ 64) × (peer < 2 ^ 64) × (credits < 2 ^ 64)
-EventFits (PairedClient session peer server credits) =
+EventFits (PairedClient session peer server credits life) =
     (session < 2 ^ 64) × (peer < 2 ^ 64) × (server < 2 ^ 64) × (credits < 2 ^ 64)
-EventFits (PairedServer session peer client credits) =
+    × (life < 2 ^ 64)
+EventFits (PairedServer session peer client credits life) =
     (session < 2 ^ 64) × (peer < 2 ^ 64) × (client < 2 ^ 64) × (credits < 2 ^ 64)
+    × (life < 2 ^ 64)
 EventFits (NconnectRing shares credits ring) =
     (shares < 2 ^ 64) × (credits < 2 ^ 64) × (ring < 2 ^ 64)
 EventFits NconnectNumbers = Unit {0}
-EventFits (Accepted session peer client credits) =
+EventFits (Accepted session peer client credits life) =
     (session < 2 ^ 64) × (peer < 2 ^ 64) × (client < 2 ^ 64) × (credits < 2 ^ 64)
+    × (life < 2 ^ 64)
 EventFits (Declined peer client credits) = (peer < 2 ^ 64) × (client < 2 ^ 64) × (credits < 2 ^ 64)
 EventFits (Starved peer client credits) = (peer < 2 ^ 64) × (client < 2 ^ 64) × (credits < 2 ^ 64)
-EventFits (Connected session server) = (session < 2 ^ 64) × (server < 2 ^ 64)
+EventFits (Connected session server life) =
+    (session < 2 ^ 64) × (server < 2 ^ 64) × (life < 2 ^ 64)
 EventFits (FailedNoRoom session) = session < 2 ^ 64
 EventFits (FailedNoAnswer session) = session < 2 ^ 64
 EventFits (Closing session) = session < 2 ^ 64

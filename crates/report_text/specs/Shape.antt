@@ -4,8 +4,8 @@ use Rattle.rpc_base.specs.declared.event.Event.{Event}
 use Rattle.rpc_base.specs.declared.event.Event.TheVariants.{Asked, Sent, Unsent, Arrived}
 use Rattle.rpc_base.specs.declared.event.Event.TheVariants.{Overflowed, Bad, Ran, DoneOk}
 use Rattle.report_text.specs.declared.shape.Shape.{Shape}
-use Rattle.report_text.specs.declared.shape.Shape.TheVariants.{Word, One, Two, Three, Four, Ending}
-use Rattle.report_text.specs.declared.shape.Shape.TheVariants.{State, Reason, Entry, Datagram}
+use Rattle.report_text.specs.declared.shape.Shape.TheVariants.{Word, One, Two, Three, Four, Five}
+use Rattle.report_text.specs.declared.shape.Shape.TheVariants.{Ending, State, Reason, Entry, Datagram}
 use Rattle.report_text.specs.declared.shape.Tail.{Tail}
 use Rattle.report_text.specs.declared.shape.Tail.TheVariants.{Nothing, First, Both}
 use Rattle.report_text.specs.Names.{owner_text, state_text, reason_text, bytes_text}
@@ -20,6 +20,9 @@ shape_text (Three a b c) =
 shape_text (Four a b c d) =
     a.0.now ++ decimal a.1 ++ b.0.now ++ decimal b.1 ++ c.0.now ++ decimal c.1 ++ d.0.now
     ++ decimal d.1
+shape_text (Five a b c d e) =
+    a.0.now ++ decimal a.1 ++ b.0.now ++ decimal b.1 ++ c.0.now ++ decimal c.1 ++ d.0.now
+    ++ decimal d.1 ++ e.0.now ++ decimal e.1
 shape_text (Ending a word) = a.0.now ++ decimal a.1 ++ word.now
 shape_text (State a state) = a.0.now ++ decimal a.1 ++ codes " " ++ state_text state
 shape_text (Reason reason) = codes "dropped " ++ reason_text reason

@@ -15,7 +15,7 @@ use Rattle.rpc_base.specs.declared.event.Event.TheVariants.{Overflowed, Bad, Hea
 use Rattle.rpc_base.specs.declared.event.Event.TheVariants.{Dropped, Given, Worked, Ran, Rolled}
 use Rattle.rpc_base.specs.declared.event.Event.TheVariants.{DoneOk, DoneTooSmall, DonePeerLost}
 use Rattle.rpc_base.specs.declared.event.Event.TheVariants.{Polled, Missed, Carried, Lost, Repeated}
-use Rattle.rpc_base.specs.declared.event.Event.TheVariants.{Ticked}
+use Rattle.rpc_base.specs.declared.event.Event.TheVariants.{Ticked, Restarted}
 use Rattle.rpc_base.specs.declared.fact.Fact.{Fact}
 use Rattle.rpc_base.specs.declared.fact.Who.{Who}
 use Rattle.rpc_base.specs.declared.fact.Who.TheVariants.{Node, Net}
@@ -29,30 +29,32 @@ who_text Net = codes "net"
 -- what happened, with the bytes of the fact where the event has any
 unfoldable pub event_text : Event → List ℕ → List ℕ → List ℕ
 event_text (Made ring) first second = codes "made ring " ++ decimal ring
+event_text (Restarted life) first second = codes "restarted " ++ decimal life
 event_text (Opened session peer credits) first second =
     codes "opened " ++ decimal session ++ codes " peer " ++ decimal peer ++ codes " credits "
     ++ decimal credits
-event_text (PairedClient session peer server credits) first second =
+event_text (PairedClient session peer server credits life) first second =
     codes "paired client " ++ decimal session ++ codes " peer " ++ decimal peer ++ codes " with "
-    ++ decimal server ++ codes " credits " ++ decimal credits
-event_text (PairedServer session peer client credits) first second =
+    ++ decimal server ++ codes " credits " ++ decimal credits ++ codes " life " ++ decimal life
+event_text (PairedServer session peer client credits life) first second =
     codes "paired server " ++ decimal session ++ codes " peer " ++ decimal peer ++ codes " with "
-    ++ decimal client ++ codes " credits " ++ decimal credits
+    ++ decimal client ++ codes " credits " ++ decimal credits ++ codes " life " ++ decimal life
 event_text (NconnectRing shares credits ring) first second =
     codes "nconnect ring " ++ decimal shares ++ codes " " ++ decimal credits ++ codes " "
     ++ decimal ring
 event_text NconnectNumbers first second = codes "nconnect numbers"
-event_text (Accepted session peer client credits) first second =
+event_text (Accepted session peer client credits life) first second =
     codes "accepted " ++ decimal session ++ codes " peer " ++ decimal peer ++ codes " for "
-    ++ decimal client ++ codes " credits " ++ decimal credits
+    ++ decimal client ++ codes " credits " ++ decimal credits ++ codes " life " ++ decimal life
 event_text (Declined peer client credits) first second =
     codes "declined peer " ++ decimal peer ++ codes " for " ++ decimal client ++ codes " credits "
     ++ decimal credits
 event_text (Starved peer client credits) first second =
     codes "starved peer " ++ decimal peer ++ codes " for " ++ decimal client ++ codes " credits "
     ++ decimal credits
-event_text (Connected session server) first second =
-    codes "connected " ++ decimal session ++ codes " with " ++ decimal server
+event_text (Connected session server life) first second =
+    codes "connected " ++ decimal session ++ codes " with " ++ decimal server ++ codes " life "
+    ++ decimal life
 event_text (FailedNoRoom session) first second =
     codes "failed " ++ decimal session ++ codes " noroom"
 event_text (FailedNoAnswer session) first second =

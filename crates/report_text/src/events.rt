@@ -4,7 +4,7 @@ ghost use Rattle.report_text.specs.Shape.{shape_text, tail_of, with_tail};
 ghost use Rattle.report_text.specs.Text.{event_text};
 
 use crate::shape::Shape::{
-    self, Datagram, Ending, Entry, Four, One, Reason, State, Three, Two, Word,
+    self, Datagram, Ending, Entry, Five, Four, One, Reason, State, Three, Two, Word,
 };
 use crate::shape::Tail;
 use rpc_base::Event;
@@ -22,6 +22,7 @@ pub fn tail_for(event: Event) -> Tail
         | Event::DoneOk { .. } => Tail::First,
         Event::Sent { .. } | Event::Ran { .. } => Tail::Both,
         Event::Made { .. }
+        | Event::Restarted { .. }
         | Event::Opened { .. }
         | Event::PairedClient { .. }
         | Event::PairedServer { .. }
@@ -73,6 +74,7 @@ pub fn shape_for(event: Event) -> Shape
 {
     match event {
         Event::Made { ring } => One(("made ring ", u64::from(ring))),
+        Event::Restarted { life } => One(("restarted ", u64::from(life))),
         Event::Opened {
             session,
             peer,
@@ -87,22 +89,26 @@ pub fn shape_for(event: Event) -> Shape
             peer,
             server,
             credits,
-        } => Four(
+            life,
+        } => Five(
             ("paired client ", u64::from(session.0)),
             (" peer ", u64::from(peer.0)),
             (" with ", u64::from(server.0)),
             (" credits ", u64::from(credits)),
+            (" life ", u64::from(life)),
         ),
         Event::PairedServer {
             session,
             peer,
             client,
             credits,
-        } => Four(
+            life,
+        } => Five(
             ("paired server ", u64::from(session.0)),
             (" peer ", u64::from(peer.0)),
             (" with ", u64::from(client.0)),
             (" credits ", u64::from(credits)),
+            (" life ", u64::from(life)),
         ),
         Event::NconnectRing {
             shares,
@@ -119,11 +125,13 @@ pub fn shape_for(event: Event) -> Shape
             peer,
             client,
             credits,
-        } => Four(
+            life,
+        } => Five(
             ("accepted ", u64::from(session.0)),
             (" peer ", u64::from(peer.0)),
             (" for ", u64::from(client.0)),
             (" credits ", u64::from(credits)),
+            (" life ", u64::from(life)),
         ),
         Event::Declined {
             peer,
@@ -143,9 +151,14 @@ pub fn shape_for(event: Event) -> Shape
             (" for ", u64::from(client.0)),
             (" credits ", u64::from(credits)),
         ),
-        Event::Connected { session, server } => Two(
+        Event::Connected {
+            session,
+            server,
+            life,
+        } => Three(
             ("connected ", u64::from(session.0)),
             (" with ", u64::from(server.0)),
+            (" life ", u64::from(life)),
         ),
         Event::FailedNoRoom { session } => { Ending(("failed ", u64::from(session.0)), " noroom") }
         Event::FailedNoAnswer { session } => {

@@ -9,8 +9,8 @@ use crate::events::{shape_for, tail_for};
 use crate::octets::put_more_bytes;
 use crate::page::Page;
 use crate::pieces::{
-    put_datagram, put_ending, put_entry, put_four, put_last, put_number, put_pair, put_reason,
-    put_state, put_three, put_two, put_word,
+    put_datagram, put_ending, put_entry, put_five, put_four, put_last, put_number, put_pair,
+    put_reason, put_state, put_three, put_two, put_word,
 };
 use crate::shape::{Shape, Tail};
 use rpc_base::{Fact, Who};
@@ -27,6 +27,7 @@ fn put_shape<K: Sink>(sink: &mut K, page: &mut Page, shape: &Shape) -> Result<()
         Shape::Two(a, b) => put_two(sink, page, a, b),
         Shape::Three(a, b, c) => put_three(sink, page, a, b, c),
         Shape::Four(a, b, c, d) => put_four(sink, page, a, b, c, d),
+        Shape::Five(a, b, c, d, e) => put_five(sink, page, a, b, c, d, e),
         Shape::Ending(a, word) => put_ending(sink, page, a, word),
         Shape::State(a, state) => put_state(sink, page, a, *state),
         Shape::Reason(reason) => put_reason(sink, page, *reason),

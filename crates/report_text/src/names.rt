@@ -25,6 +25,7 @@ pub fn reason_word(reason: DropReason) -> &'static str
     ensures { result.now ≡ reason_text reason }
 {
     match reason {
+        DropReason::StaleLife => "stalelife",
         DropReason::NoSession => "nosession",
         DropReason::WrongPeer => "wrongpeer",
         DropReason::Old => "old",

@@ -85,6 +85,25 @@ pub fn put_four<K: Sink>(
     put_pair(sink, page, d)
 }
 
+/// Puts five words and numbers.
+pub fn put_five<K: Sink>(
+    sink: &mut K,
+    page: &mut Page,
+    a: &Pair,
+    b: &Pair,
+    c: &Pair,
+    d: &Pair,
+    e: &Pair,
+) -> Result<(), Failed>
+    ensures { Fills K.page sink.old sink.new page.old page.new result
+        (a.now.0.now ++ decimal a.now.1 ++ b.now.0.now ++ decimal b.now.1
+        ++ c.now.0.now ++ decimal c.now.1 ++ d.now.0.now ++ decimal d.now.1
+        ++ e.now.0.now ++ decimal e.now.1) }
+{
+    put_four(sink, page, a, b, c, d)?;
+    put_pair(sink, page, e)
+}
+
 /// Puts a word, a number and a word.
 pub fn put_ending<K: Sink>(
     sink: &mut K,

@@ -12,6 +12,7 @@ pub enum Shape {
     Two(Pair, Pair),
     Three(Pair, Pair, Pair),
     Four(Pair, Pair, Pair, Pair),
+    Five(Pair, Pair, Pair, Pair, Pair),
     /// A word ends the line.
     Ending(Pair, &'static str),
     /// The state of a session ends the line.

@@ -12,7 +12,7 @@ use Rattle.script_grammar.specs.declared.before.Before.{Before}
 use Rattle.script_grammar.specs.declared.line.Command.{Command}
 use Rattle.script_grammar.specs.declared.line.Command.TheVariants.{Node, Pair, Connect, Disconnect}
 use Rattle.script_grammar.specs.declared.line.Command.TheVariants.{Rate, Call, Poll, Arrive, Lose}
-use Rattle.script_grammar.specs.declared.line.Command.TheVariants.{Repeat, Tick, Work, Settle}
+use Rattle.script_grammar.specs.declared.line.Command.TheVariants.{Repeat, Tick, Work, Settle, Restart}
 use Rattle.script_grammar.specs.declared.line.Line.{Line}
 use Rattle.script_grammar.specs.Commands.{command_in}
 use Rattle.script_grammar.specs.Conditions.{IsInRange, IsNode, IsAmong, IsRising, IsScript}
@@ -84,6 +84,7 @@ admitted_back before after (Repeat copy) h = let o = other_back before after _ h
 admitted_back before after (Tick by) h = let o = other_back before after _ h in inr (tt, o.enough, o.next)
 admitted_back before after (Work node job) h = let o = other_back before after _ h in inr (below node before.nodes o.right, o.enough, o.next)
 admitted_back before after (Settle rounds) h = let o = other_back before after _ h in inr (tt, o.enough, o.next)
+admitted_back before after (Restart node) h = let o = other_back before after _ h in inr (below node before.nodes o.right, o.enough, o.next)
 
 -- a line, read backwards
 

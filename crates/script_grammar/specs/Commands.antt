@@ -127,6 +127,9 @@ plain_in verb.Work words = do
 plain_in verb.Settle words = do
   rounds ← only_number_in LEAST_ROUNDS MOST_ROUNDS words
   Ok (command.Settle rounds)
+plain_in verb.Restart words = do
+  node ← only_node_in words
+  Ok (command.Restart node)
 
 -- what follows the word `call`
 unfoldable pub call_in : List (List ℕ) → Result Command BadWhy
@@ -150,7 +153,8 @@ verb_of word =
     else (if is_word word (codes "tick") then Some verb.Tick
     else (if is_word word (codes "work") then Some verb.Work
     else (if is_word word (codes "settle") then Some verb.Settle
-    else None)))))))))))
+    else (if is_word word (codes "restart") then Some verb.Restart
+    else None))))))))))))
 
 -- a command from the words of its line
 unfoldable pub command_in : List (List ℕ) → Result Command BadWhy

@@ -11,7 +11,7 @@ use Rattle.script_grammar.specs.declared.line.AskBytes.TheVariants.{Given, Count
 use Rattle.script_grammar.specs.declared.line.Command.{Command}
 use Rattle.script_grammar.specs.declared.line.Command.TheVariants.{Node, Pair, Connect, Disconnect}
 use Rattle.script_grammar.specs.declared.line.Command.TheVariants.{Rate, Call, Poll, Arrive, Lose}
-use Rattle.script_grammar.specs.declared.line.Command.TheVariants.{Repeat, Tick, Work, Settle}
+use Rattle.script_grammar.specs.declared.line.Command.TheVariants.{Repeat, Tick, Work, Settle, Restart}
 use Rattle.script_grammar.specs.declared.line.Line.{Line}
 
 -- a call sends at most 2,097,152 bytes
@@ -35,6 +35,7 @@ IsInRange (Repeat copy) = Unit {0}
 IsInRange (Tick by) = by ≤ MOST_TICK
 IsInRange (Work node job) = Unit {0}
 IsInRange (Settle rounds) = (LEAST_ROUNDS ≤ rounds) × (rounds ≤ MOST_ROUNDS)
+IsInRange (Restart node) = Unit {0}
 
 -- a `node` command
 abbrev pub IsNode : Command → Type 0
@@ -57,6 +58,7 @@ IsAmong nodes (Repeat copy) = Unit {0}
 IsAmong nodes (Tick by) = Unit {0}
 IsAmong nodes (Work node job) = node < nodes
 IsAmong nodes (Settle rounds) = Unit {0}
+IsAmong nodes (Restart node) = node < nodes
 
 -- the numbers of the lines rise, from at least `least` to at most 100,000
 abbrev pub IsRising : ℕ → List Line → Type 0

@@ -7,7 +7,7 @@ use Rattle.script_grammar.specs.declared.before.Before.{Before}
 use Rattle.script_grammar.specs.declared.line.Command.{Command}
 use Rattle.script_grammar.specs.declared.line.Command.TheVariants.{Node, Pair, Connect, Disconnect}
 use Rattle.script_grammar.specs.declared.line.Command.TheVariants.{Rate, Call, Poll, Arrive, Lose}
-use Rattle.script_grammar.specs.declared.line.Command.TheVariants.{Repeat, Tick, Work, Settle}
+use Rattle.script_grammar.specs.declared.line.Command.TheVariants.{Repeat, Tick, Work, Settle, Restart}
 
 -- a node that a command names has to be declared: below the count of nodes
 unfoldable pub names_one : ℕ → ℕ → Option BadWhy
@@ -34,6 +34,7 @@ misnamed nodes (Repeat copy) = None
 misnamed nodes (Tick by) = None
 misnamed nodes (Work node job) = names_one nodes node
 misnamed nodes (Settle rounds) = None
+misnamed nodes (Restart node) = names_one nodes node
 
 -- a node line comes before the other commands, and makes at most the eighth node
 unfoldable pub node_admitted : Before → Result Before BadWhy

@@ -53,6 +53,7 @@ fn misnamed(nodes: u8, command: &Command) -> Option<BadWhy>
         | Command::Rate { node, .. }
         | Command::Call { node, .. }
         | Command::Poll { node }
+        | Command::Restart { node }
         | Command::Work { node, .. } => names_one(nodes, *node),
         Command::Node { .. }
         | Command::Arrive { .. }

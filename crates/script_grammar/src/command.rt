@@ -191,6 +191,9 @@ pub fn plain(verb: Verb, words: Words) -> Result<Command, BadWhy>
         Verb::Settle => Command::Settle {
             rounds: only_number(words, LEAST_ROUNDS, MOST_ROUNDS)?,
         },
+        Verb::Restart => Command::Restart {
+            node: only_node(words)?,
+        },
     })
 }
 

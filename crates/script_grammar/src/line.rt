@@ -79,6 +79,10 @@ pub enum Command {
     Settle {
         rounds: u32,
     },
+    /// Makes a node's endpoint anew, in its next life.
+    Restart {
+        node: NodeId,
+    },
 }
 
 /// A command and the line on which it stands, lines being counted from 1.

@@ -19,6 +19,7 @@ pub enum Verb {
     Tick,
     Work,
     Settle,
+    Restart,
 }
 
 /// The command that a word begins, if one does.
@@ -50,6 +51,8 @@ pub fn verb_of(word: &[u8]) -> Option<Verb>
         Some(Verb::Work)
     } else if is_word(word, b"settle") {
         Some(Verb::Settle)
+    } else if is_word(word, b"restart") {
+        Some(Verb::Restart)
     } else {
         None
     }

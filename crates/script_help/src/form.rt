@@ -76,7 +76,7 @@ const ANY: Field = Field::Number {
 };
 
 /// The commands, in the order of the table.
-pub const FORMS: [Form; 13] = [
+pub const FORMS: [Form; 14] = [
     Form {
         name: "node",
         usage: "node ring=R",
@@ -141,6 +141,11 @@ pub const FORMS: [Form; 13] = [
         name: "settle",
         usage: "settle K",
         fields: &[ROUNDS],
+    },
+    Form {
+        name: "restart",
+        usage: "restart A",
+        fields: &[Field::Node],
     },
 ];
 

@@ -4,7 +4,7 @@ use Rattle.std.specs.Prelude.{None, List, [], ◌∷◌, ◌++◌, length, map, 
 use Rattle.std.specs.Bool.{MatchBool}
 use Rattle.std.specs.List.{filter, list_all, list_any, remove, range_with_len, slice_set}
 use Rattle.rpc_base.specs.declared.event.Event.{Event}
-use Rattle.rpc_base.specs.declared.event.Event.TheVariants.{Made, PairedClient, PairedServer}
+use Rattle.rpc_base.specs.declared.event.Event.TheVariants.{Made, PairedClient, PairedServer, Restarted}
 use Rattle.rpc_base.specs.declared.event.Event.TheVariants.{Dropped, Starved, Unsent, Missed}
 use Rattle.rpc_base.specs.declared.event.Event.TheVariants.{Carried, Lost, Polled, Repeated, Ticked}
 use Rattle.rpc_base.specs.declared.fact.Fact.{Fact}
@@ -19,7 +19,7 @@ use Rattle.rpc_laws.specs.Facts.{plain, of_net}
 use Rattle.rpc_laws.specs.Groups.{Asks, Connects, Disconnects, SetsRate, pair_refusal}
 use Rattle.rpc_laws.specs.InFlight.{flight_after_all, flight_after_net}
 use Rattle.rpc_laws.specs.Lives.{first_life}
-use Rattle.rpc_laws.specs.NodeLists.{after, new_node}
+use Rattle.rpc_laws.specs.NodeLists.{after, new_node, restarted}
 use Rattle.rpc_laws.specs.PollOrder.{PollBy, SendsAll}
 use Rattle.rpc_laws.specs.Service.{Answers, plain_serving}
 use Rattle.rpc_laws.specs.Steps.{Rel}
@@ -31,7 +31,7 @@ use Rattle.script_grammar.specs.declared.line.Command.{Command}
 use Rattle.script_grammar.specs.declared.line.Command.TheVariants.{Node, Pair, Connect, Disconnect}
 use Rattle.script_grammar.specs.declared.line.Command.TheVariants.{Rate, Call, Poll as PollNode}
 use Rattle.script_grammar.specs.declared.line.Command.TheVariants.{Arrive, Lose, Repeat, Tick, Work}
-use Rattle.script_grammar.specs.declared.line.Command.TheVariants.{Settle}
+use Rattle.script_grammar.specs.declared.line.Command.TheVariants.{Restart, Settle}
 use Rattle.script_grammar.specs.declared.line.Line.{Line}
 
 -- the bytes that a call sends: those given, or so many of which byte j is j mod 256
@@ -52,7 +52,8 @@ pub record AtNode (P : Rel) (n : ℕ) (s : Stage) (x : List Fact) (t : Stage) : 
     clock = s.clock;
   }
 
--- node R: the next node is made, with a ring of R places, 64 jobs and a timeout of 5,000
+-- node R: the next node is made in its first life, with a ring of R places, 64 jobs and a timeout of
+-- 5,000
 pub record Makes (ring : ℕ) (s : Stage) (x : List Fact) (t : Stage) : Type 0 where
   pub facts : x ≡ plain (length s.nodes) (Made ring) ∷ []
   pub left : t ≡ record s {
@@ -69,9 +70,11 @@ pub record PairsEnds (a b credits : ℕ) (client server : Timed) (s : Stage) (x 
   pub at_client : Fact
   pub at_server : Fact
   pub for_client : at_client ≡ plain client.lists.me
-      (PairedClient (length client.lists.clients) b server.lists.server_numbers credits)
+      (PairedClient (length client.lists.clients) b server.lists.server_numbers credits
+      server.lists.life)
   pub for_server : at_server ≡ plain server.lists.me
-      (PairedServer server.lists.server_numbers a (length client.lists.clients) credits)
+      (PairedServer server.lists.server_numbers a (length client.lists.clients) credits
+      client.lists.life)
   pub facts : x ≡ at_client ∷ at_server ∷ []
   pub left : t ≡ record s {
     nodes = slice_set (slice_set s.nodes a (noted client at_client)) b
@@ -116,6 +119,18 @@ pub record Carries (i : ℕ) (s : Stage) (x : List Fact) (t : Stage) : Type 0 wh
 -- arrive I
 abbrev pub Arrives : ℕ → Stage → List Fact → Stage → Type 0
 Arrives i s x t = MatchBool (nat_lt i (length s.flight)) (Carries i s x t) (OfNet (Missed i) s x t)
+
+-- restart A: node A is made anew, with its ring and its next life. What it sent stays in flight
+pub record Restarts (n : ℕ) (s : Stage) (x : List Fact) (t : Stage) : Type 0 where
+  pub before : Timed
+  pub is_node : slice_get s.nodes n ≡ Some before
+  pub facts : x ≡ plain before.lists.me (Restarted (before.lists.life + 1)) ∷ []
+  pub left : t ≡ record {
+    nodes = slice_set s.nodes n (restarted before);
+    flight = s.flight;
+    worked = worked_after_all s.worked x;
+    clock = s.clock;
+  }
 
 -- tick T: the world's clock goes on
 pub record Ticks (by : ℕ) (s : Stage) (x : List Fact) (t : Stage) : Type 0 where
@@ -204,6 +219,7 @@ Does (Repeat i) s x t = OfNet (or_missed s.flight i (Repeated i)) s x t
 Does (Tick by) s x t = Ticks by s x t
 Does (Work n i) s x t = AtNode (Works s.worked i) n s x t
 Does (Settle rounds) s x t = Settles rounds s x t
+Does (Restart n) s x t = Restarts n s x t
 
 -- from s, h follows the lines and leaves t
 abbrev pub FollowsFrom : List Line → Stage → List Fact → Stage → Type 0
