@@ -7,14 +7,14 @@ use Rattle.packet_header.specs.Header.{AreBytes, HasHead, InRange, Spells}
 use Rattle.packet_header.specs.Parts.{packet_count}
 use Rattle.packet_header.specs.declared.packet.ControlHeader.{ControlHeader}
 use Rattle.packet_header.specs.declared.packet.ControlKind.{ControlKind}
-use Rattle.packet_header.specs.declared.packet.ControlKind.TheVariants.{ConnectReply}
+use Rattle.packet_header.specs.declared.packet.ControlKind.TheVariants.{ConnectReply, ConnectRequest}
 use Rattle.packet_header.specs.declared.packet.ControlKind.TheVariants.{DisconnectRequest}
 use Rattle.packet_header.specs.declared.packet.Kind.{Kind}
 use Rattle.packet_header.specs.declared.packet.Kind.TheVariants.{Request, Rfr, Cr, Response}
 use Rattle.packet_header.specs.declared.packet.MessageHeader.{MessageHeader}
 use Rattle.packet_header.specs.declared.packet.Packet.TheVariants.{Control as ControlPacket}
 use Rattle.rpc_base.specs.declared.event.Event.{Event}
-use Rattle.rpc_base.specs.declared.event.Event.TheVariants.{Made, Opened, PairedClient}
+use Rattle.rpc_base.specs.declared.event.Event.TheVariants.{Made, Opened, PairedClient, Restarted}
 use Rattle.rpc_base.specs.declared.event.Event.TheVariants.{PairedServer, Accepted, Connected}
 use Rattle.rpc_base.specs.declared.event.Event.TheVariants.{Ended}
 use Rattle.rpc_base.specs.declared.event.Event.TheVariants.{Asked, Begun, Posted, Sent, Arrived}
@@ -79,10 +79,11 @@ pub record MaySend (l : Lists) (peer : ℕ) (owner : Owner) (k : ℕ) (head body
   pub bytes : AreBytes head
   pub whole : body ≡ out.body
 
--- the front of the ring is a message
+-- the front of the ring is a message, for the present life of the node
 pub record Fronts (l : Lists) (front : Arrival) (h : MessageHeader) : Type 0 where
   pub is_front : slice_get l.ring 0 ≡ Some front
   pub reads : front_header l.ring ≡ Some h
+  pub for_us : h.to_life ≡ l.life
 
 -- the front of the ring is the reply that an active call wants next
 pub record MayTakeReply (l : Lists) (session r : ℕ) : Type 0 where
@@ -253,10 +254,12 @@ pub record Hearing (hand : Option InFlight) (l : Lists) (kind : ControlKind) : T
   pub reads : control_of bytes ≡ Some header
   pub of_kind : header.kind ≡ kind
 
--- a session that is Connecting is connected by a reply of its peer that names server session t,
--- with its credits
-pub record MayConnect (hand : Option InFlight) (l : Lists) (s t : ℕ) : Type 0 where
+-- a session that is Connecting is connected by a reply of its peer, to this life of the node, that
+-- names server session t of this life of the peer, with its credits
+pub record MayConnect (hand : Option InFlight) (l : Lists) (s t life : ℕ) : Type 0 where
   pub hears : Hearing hand l ConnectReply
+  pub for_us : hears.header.to_life ≡ Some l.life
+  pub of_life : hears.header.from_life ≡ life
   pub of_client : hears.header.client ≡ s
   pub names : hears.header.server ≡ Some t
   pub client : Client
@@ -268,11 +271,21 @@ pub record MayConnect (hand : Option InFlight) (l : Lists) (s t : ℕ) : Type 0 
 -- a server session ends by a request of its peer that names it
 pub record MayLeave (hand : Option InFlight) (l : Lists) (t : ℕ) : Type 0 where
   pub hears : Hearing hand l DisconnectRequest
+  pub for_us : hears.header.to_life ≡ Some l.life
   pub names : hears.header.server ≡ Some t
   pub server : Server
   pub found : find (is_server t) l.servers ≡ Some server
   pub of_peer : server.way.peer ≡ hears.peer
   pub of_client : server.way.other ≡ hears.header.client
+  pub of_life : server.way.life ≡ hears.header.from_life
+
+-- or by a connect request of its peer in a newer life
+pub record MayOutdate (hand : Option InFlight) (l : Lists) (t : ℕ) : Type 0 where
+  pub hears : Hearing hand l ConnectRequest
+  pub server : Server
+  pub found : find (is_server t) l.servers ≡ Some server
+  pub of_peer : server.way.peer ≡ hears.peer
+  pub older : server.way.life < hears.header.from_life
 
 -- a client session at some place has this request of its own, for its peer
 pub record AsksAt (l : Lists) (peer : ℕ) (h : ControlHeader) : Type 0 where
@@ -295,14 +308,15 @@ pub record MaySay (l : Lists) (peer k : ℕ) (head body : List ℕ) : Type 0 whe
 -- another way
 abbrev pub May : Option InFlight → Lists → Event → List ℕ → List ℕ → Type 0
 May hand l (Made ring) first second = ⊥
-May hand l (PairedClient s peer t credits) first second = ⊥
-May hand l (PairedServer t peer s credits) first second = ⊥
+May hand l (Restarted life) first second = ⊥
+May hand l (PairedClient s peer t credits life) first second = ⊥
+May hand l (PairedServer t peer s credits life) first second = ⊥
 May hand l (Opened s peer credits) first second = (s ≡ length l.clients) × (first ≡ [])
     × (second ≡ [])
-May hand l (Accepted t peer s credits) first second = (t ≡ l.server_numbers) × (first ≡ [])
+May hand l (Accepted t peer s credits life) first second = (t ≡ l.server_numbers) × (first ≡ [])
     × (second ≡ [])
-May hand l (Connected s t) first second = MayConnect hand l s t × (first ≡ []) × (second ≡ [])
-May hand l (Ended t) first second = MayLeave hand l t
+May hand l (Connected s t life) first second = MayConnect hand l s t life × (first ≡ []) × (second ≡ [])
+May hand l (Ended t) first second = MayLeave hand l t ⊎ MayOutdate hand l t
 May hand l (Asked c s req_type room) first second = (c ≡ l.asked) × (second ≡ [])
 May hand l (Begun c r) first second = MayBegin l c r × (first ≡ []) × (second ≡ [])
 May hand l (Posted owner k) first second = MayPost l owner k

@@ -11,14 +11,12 @@ use Rattle.packet_header.proofs.PartsLemmas.{packet_count_above}
 use Rattle.rpc_base.specs.Tables.{at_first}
 use Rattle.rpc_base.proofs.TakingLemmas.{find-passes}
 use Rattle.rpc_base.specs.declared.event.Event.TheVariants.{Asked, Begun}
-use Rattle.rpc_base.specs.declared.fact.Fact.{Fact}
 use Rattle.rpc_laws.specs.declared.tables.Asking.{Asking}
 use Rattle.rpc_laws.specs.declared.tables.Call.{Call}
 use Rattle.rpc_laws.specs.declared.tables.Client.{Client}
 use Rattle.rpc_laws.specs.declared.tables.Lists.{Lists}
 use Rattle.rpc_laws.specs.declared.tables.Way.{Way}
 use Rattle.rpc_laws.specs.Calls.{is_call, is_waiting, begun}
-use Rattle.rpc_laws.specs.Facts.{plain, with_bytes}
 use Rattle.rpc_laws.specs.NodeLists.{after}
 use Rattle.rpc_laws.specs.Posting.{next_turn}
 use Rattle.rpc_laws.specs.Sessions.{is_client, has_call, turned, begins, asks}
@@ -39,24 +37,26 @@ use Rattle.node_laws.proofs.JoinLemmas.{length-first}
 use Rattle.end_laws.proofs.ListLemmas.{Placed, first-each, set-first, set-placed}
 use Rattle.end_laws.proofs.ListLemmas.{length-slice_set, all-first, all-add, all-found}
 use Rattle.end_laws.proofs.SlotLemmas.{find-any}
+use Rattle.rpc_laws.specs.Endpoints.{Endpoint, Lived, noted, noted_with}
+use Rattle.end_laws.specs.TwoEnds.{peer_of}
 
 -- a call as it is asked
 abbrev pub asking_of : ℕ → ℕ → ℕ → List ℕ → Asking
 asking_of c y room ask = record { number = c; req_type = y; room = room; ask = ask }
 
 -- a call is asked
-abbrev pub with_ask : Known → (n c s y room : ℕ) → List ℕ → Known
+abbrev pub with_ask : Known → (n : Endpoint) (c s y room : ℕ) → List ℕ → Known
 with_ask k n c s y room ask = record {
-  past = with_bytes n (Asked c s y room) ask ∷ k.past;
+  past = noted_with n (Asked c s y room) ask ∷ k.past;
   ends = k.ends;
   asks = added k.asks n c 0 (record { session = s; what = asking_of c y room ask });
   starts = k.starts;
   runs = k.runs;
 }
 
-module _ (k : Known) (n c s y room : ℕ) (ask : List ℕ) where
-  abbrev asked_fact : Fact
-  asked_fact = with_bytes n (Asked c s y room) ask
+module _ (k : Known) (n : Endpoint) (c s y room : ℕ) (ask : List ℕ) where
+  abbrev asked_fact : Lived
+  asked_fact = noted_with n (Asked c s y room) ask
 
   abbrev asked_call : Asking
   asked_call = asking_of c y room ask
@@ -76,7 +76,7 @@ module _ (k : Known) (n c s y room : ℕ) (ask : List ℕ) where
     runs = λ i j m x h. h;
   }
 
-  pub ask-same : (j : ℕ) → (j ≡ n → ⊥) → SameAt k knows j
+  pub ask-same : (j : Endpoint) → (j ≡ n → ⊥) → SameAt k knows j
   ask-same j ne = record {
     asks = λ d h. added-none k.asks n c 0 entry j d 0 (λ e x z. ne e) h;
     ends = λ t h. h;
@@ -116,7 +116,7 @@ module _ (k : Known) (n c s y room : ℕ) (ask : List ℕ) where
       }
 
   pub ask-node : (clock : ℕ) (l : Lists) → c ≡ l.asked → Valid l → MayAsk l c s → GoodNode k n l
-      → GoodNode knows n (after clock l asked_fact)
+      → GoodNode knows n (after clock l asked_fact.fact)
   ask-node clock l new valid may g =
       let later = later-ask (g.no_asks c (omega arith)) in
       let count = length-first (is_client s) (asks asked_call) l.clients in
@@ -135,8 +135,8 @@ module _ (k : Known) (n c s y room : ℕ) (ask : List ℕ) where
             (g.no_asks d (omega arith));
         no_ends = λ t le. g.no_ends t le;
         no_starts = λ t r le. g.no_starts t r (omega arith);
-        begun = λ j r b is. starts-stay l asked_fact valid may clock j b (g.begun j r b is);
-        no_runs = λ t r some. g.no_runs t r (run-left l asked_fact valid may clock t r some);
+        begun = λ j r b is. starts-stay l asked_fact.fact valid may clock j b (g.begun j r b is);
+        no_runs = λ t r some. g.no_runs t r (run-left l asked_fact.fact valid may clock t r some);
         jobs = jobs-later k knows later n l.jobs.out g.jobs;
       }
 
@@ -158,19 +158,19 @@ turned-by turns slot other false t lt =
     omega arith
 
 -- a call begins
-abbrev pub with_begin : Known → (n i c r : ℕ) → Begin → Known
+abbrev pub with_begin : Known → (n : Endpoint) (i c r : ℕ) → Begin → Known
 with_begin k n i c r b =
     record {
-      past = plain n (Begun c r) ∷ k.past;
+      past = noted n (Begun c r) ∷ k.past;
       ends = k.ends;
       asks = k.asks;
       starts = added k.starts n i r b;
       runs = k.runs;
     }
 
-module _ (k : Known) (n c r : ℕ) (l : Lists) (m : MayBegin l c r) (g : GoodNode k n l) where
-  abbrev begun_fact : Fact
-  begun_fact = plain n (Begun c r)
+module _ (k : Known) (n : Endpoint) (c r : ℕ) (l : Lists) (m : MayBegin l c r) (g : GoodNode k n l) where
+  abbrev begun_fact : Lived
+  begun_fact = noted n (Begun c r)
 
   abbrev begin : Begin
   begin = record { way = m.client.way; what = m.call.what }
@@ -216,7 +216,7 @@ module _ (k : Known) (n c r : ℕ) (l : Lists) (m : MayBegin l c r) (g : GoodNod
     runs = λ i j d x h. h;
   }
 
-  pub begin-same : (j : ℕ) → (j ≡ n → ⊥) → SameAt k begins_known j
+  pub begin-same : (j : Endpoint) → (j ≡ n → ⊥) → SameAt k begins_known j
   begin-same j ne = record {
     asks = λ d h. h;
     ends = λ t h. h;
@@ -228,22 +228,22 @@ module _ (k : Known) (n c r : ℕ) (l : Lists) (m : MayBegin l c r) (g : GoodNod
   pub true-begin : IsTrue k → IsTrue begins_known
   true-begin t =
       let number : m.client.way.number ≡ m.session = good-client.number in
-      let ends : AreEnds k.past n m.session m.client.way.peer m.client.way.other = record {
+      let ends : AreEnds k.past n m.session (peer_of m.client.way) m.client.way.other = record {
         client = joined-way.client;
-        server = t.ends m.client.way.peer m.client.way.other 0 _ joined-way.end;
+        server = t.ends (peer_of m.client.way) m.client.way.other 0 _ joined-way.end;
       } in
       let asked = t.asks n m.call.what.number 0 _ good-call.logged in
-      let there : Contains k.past (with_bytes n
+      let there : Contains k.past (noted_with n
       (Asked m.call.what.number m.session m.call.what.req_type m.call.what.room)
       m.call.what.ask) = subst (λ (s : ℕ). Contains k.past
-      (with_bytes n (Asked m.call.what.number s m.call.what.req_type m.call.what.room)
+      (noted_with n (Asked m.call.what.number s m.call.what.req_type m.call.what.room)
       m.call.what.ask)) number asked.asked in
-      let own : begun_fact ≡ plain n (Begun m.call.what.number r) = ap (λ (d : ℕ). plain n (Begun d r)) m.number in
+      let own : begun_fact ≡ noted n (Begun m.call.what.number r) = ap (λ (d : ℕ). noted n (Begun d r)) m.number in
       let new : TrueStart (begun_fact ∷ k.past) n m.session r begin = record {
         number = number;
-        ends = ends-more begun_fact k.past n m.session m.client.way.peer m.client.way.other ends;
+        ends = ends-more begun_fact k.past n m.session (peer_of m.client.way) m.client.way.other ends;
         asked = contains-more begun_fact _ k.past there;
-        begun = subst (λ (f : Fact). Contains (begun_fact ∷ k.past) f) own (contains-here begun_fact k.past);
+        begun = subst (λ (f : Lived). Contains (begun_fact ∷ k.past) f) own (contains-here begun_fact k.past);
       } in
       record {
         ends = λ i j d x h. server-more-end begun_fact k.past x.home x.client i j
@@ -362,7 +362,7 @@ module _ (k : Known) (n c r : ℕ) (l : Lists) (m : MayBegin l c r) (g : GoodNod
       client-more k begins_known later-begin n j z
       (λ q none. added-none k.starts n m.session r begin n j q (λ x e y. ne e) none) h
 
-  abbrev BegunAt : ℕ → ℕ → ℕ → ℕ → Begin → Type 0
+  abbrev BegunAt : Endpoint → Endpoint → ℕ → ℕ → Begin → Type 0
   BegunAt node i j q b = i ≡ node → StartOf l.clients j b
 
   own-start : BegunAt n n m.session r begin
@@ -374,7 +374,7 @@ module _ (k : Known) (n c r : ℕ) (l : Lists) (m : MayBegin l c r) (g : GoodNod
   }
 
   pub begin-node : (clock : ℕ) → Valid l → Lawful l (Begun c r)
-      → GoodNode begins_known n (after clock l begun_fact)
+      → GoodNode begins_known n (after clock l begun_fact.fact)
   begin-node clock valid lawful =
       let has : has_call c m.client ≡ true = has-by m.client.calls m.call m.waits is-begun in
       let one : at_first (has_call c) (begins c r) l.clients
@@ -395,10 +395,10 @@ module _ (k : Known) (n c r : ℕ) (l : Lists) (m : MayBegin l c r) (g : GoodNod
         no_ends = λ t le. g.no_ends t le;
         no_starts = λ s q le. added-none k.starts n m.session r begin n s q
             (λ x e y. absurd (omega arith)) (g.no_starts s q (omega arith));
-        begun = λ j q b is. starts-stay l begun_fact valid lawful clock j b
+        begun = λ j q b is. starts-stay l begun_fact.fact valid lawful clock j b
             (added-case k.starts n m.session r begin (BegunAt n) own-start
-            (λ i j q b is same. g.begun j q b (sym (ap (λ (z : ℕ). k.starts z j q) same) ∙ is))
+            (λ i j q b is same. g.begun j q b (sym (ap (λ (z : Endpoint). k.starts z j q) same) ∙ is))
             n j q b is refl);
-        no_runs = λ t q some. g.no_runs t q (run-left l begun_fact valid lawful clock t q some);
+        no_runs = λ t q some. g.no_runs t q (run-left l begun_fact.fact valid lawful clock t q some);
         jobs = jobs-later k begins_known later-begin n l.jobs.out g.jobs;
       }

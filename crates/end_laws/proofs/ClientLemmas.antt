@@ -48,14 +48,16 @@ use Rattle.end_laws.proofs.Allowed.{Fronts, MayTakeReply, MayBreak, May}
 use Rattle.end_laws.proofs.Known.{Known, HasRun, Says, Speaks, GoodAnswer, GoodProgress, GoodCall}
 use Rattle.end_laws.proofs.Known.{is_joined, IsJoined, Tied, GoodClient, Begin, Run}
 use Rattle.end_laws.proofs.ListLemmas.{Placed, first-each, find-at, all-first, all-without}
+use Rattle.rpc_laws.specs.Endpoints.{Endpoint, told}
+use Rattle.end_laws.specs.TwoEnds.{peer_of}
 
 -- facts that add nothing to the logs
 abbrev pub is_quiet : Event → Bool
-is_quiet (PairedClient s peer t credits) = false
-is_quiet (PairedServer t peer s credits) = false
+is_quiet (PairedClient s peer t credits life) = false
+is_quiet (PairedServer t peer s credits life) = false
 is_quiet (Opened s peer credits) = false
-is_quiet (Accepted t peer s credits) = false
-is_quiet (Connected s t) = false
+is_quiet (Accepted t peer s credits life) = false
+is_quiet (Connected s t life) = false
 is_quiet (Asked c s y room) = false
 is_quiet (Begun c r) = false
 is_quiet (Ran t r y) = false
@@ -94,7 +96,7 @@ connected-joined Connecting e = cc
 connected-joined Failed e = cc
 connected-joined _ e = refl
 
-module _ (k : Known) (n : ℕ) where
+module _ (k : Known) (n : Endpoint) where
   leaves-progress : (change : Progress → Progress) (way : Way) (a : Asking) (p : Progress)
       → Leaves change → GoodProgress k n way a p → GoodProgress k n way a (change p)
   leaves-progress change way a p l h = record {
@@ -216,7 +218,7 @@ module _ (k : Known) (n : ℕ) where
   joined-parts m q parts body e f = rw (e, f) (part-front q m)
 
   -- the answer of a run is one
-  same-answer : (node session request : ℕ) (a : Asking) (one other : List ℕ)
+  same-answer : (node : Endpoint) (session request : ℕ) (a : Asking) (one other : List ℕ)
       → HasRun k node session request a one → HasRun k node session request a other → one ≡ other
   same-answer node session request a one other h g =
       run-answer (record { req_type = a.req_type; ask = a.ask; answer = one })
@@ -226,7 +228,7 @@ module _ (k : Known) (n : ℕ) where
       run-answer x y e = let same : x ≡ y = cc in ap (λ (z : Run). z.answer) same
 
   response-answer : (way : Way) (a : Asking) (request got size : ℕ) (parts body whole : List ℕ)
-      (answer : Option ℕ) → asked_packets a ≤ got + 1 → HasRun k way.peer way.other request a whole
+      (answer : Option ℕ) → asked_packets a ≤ got + 1 → HasRun k (peer_of way) way.other request a whole
       → size ≡ length whole → body ≡ part whole (got + 1 - asked_packets a)
       → GoodAnswer k way a request got parts answer
       → GoodAnswer k way a request (got + 1) (parts ++ body) (Some size)
@@ -246,7 +248,7 @@ module _ (k : Known) (n : ℕ) where
       }
   response-answer way a request got size parts body whole (Some told) le ran sized piece h =
       let next : got + 1 + 1 - asked_packets a ≡ (got + 1 - asked_packets a) + 1 = omega arith in
-      let same : h.answer ≡ whole = same-answer way.peer way.other request a h.answer whole h.ran ran in
+      let same : h.answer ≡ whole = same-answer (peer_of way) way.other request a h.answer whole h.ran ran in
       let taken : parts ≡ take (1024 * (got + 1 - asked_packets a)) whole =
       subst (λ (x : List ℕ). parts ≡ take (1024 * (got + 1 - asked_packets a)) x) same
       h.taken in
@@ -266,6 +268,7 @@ module _ (k : Known) (n : ℕ) where
     pub peer : from ≡ way.peer
     pub session : way.number ≡ h.session
     pub request : p.request ≡ h.request
+    pub life : h.to_life ≡ n.life
     pub in_turn : h.number ≡ p.got
 
   reply-cr : (b : Bool) (a : Asking) (h : MessageHeader)
@@ -285,7 +288,7 @@ module _ (k : Known) (n : ℕ) where
   reply-none false e = cc
 
   by-kind : (kind : Kind) (way : Way) (a : Asking) (p : Progress) (h : MessageHeader) (from : ℕ)
-      (body : List ℕ) (len clock : ℕ) → Answering way a p h from body → Says kind k from n h body
+      (body : List ℕ) (len clock : ℕ) → Answering way a p h from body → Says kind k from n.node h body
       → cond (nat_lt (h.number + 1) (asked_packets a)) (is_cr kind)
       (is_response kind && (h.req_type == a.req_type) && is_same_size p.answer h.size
       && (len == part_size h.size (h.number + 1 - asked_packets a))) ≡ true
@@ -306,14 +309,16 @@ module _ (k : Known) (n : ℕ) where
       let next : asked_packets a ≤ p.got + 1 = omega arith in
       let mine : k.starts n h.session h.request ≡ Some (record { way = way; what = a }) =
       rw (← t.session, ← t.request) (t.good.begun) in
-      let told = s.begun in
+      let us : record { node = n.node; life = h.to_life } ≡ n =
+      ap (λ (w : ℕ). record { node = n.node; life = w }) t.life in
+      let told : k.starts n h.session h.request ≡ Some s.start =
+      subst (λ (m : Endpoint). k.starts m h.session h.request ≡ Some s.start) us s.begun in
       let same : s.start ≡ record { way = way; what = a } = cc in
-      let run : HasRun k from way.other h.request a s.answer =
-      subst (λ (b : Begin). HasRun k from b.way.other h.request b.what s.answer) same
+      let run : HasRun k (peer_of way) way.other h.request a s.answer =
+      subst (λ (b : Begin). HasRun k (peer_of b.way) b.way.other h.request b.what s.answer) same
       s.ran in
-      let ran : HasRun k way.peer way.other p.request a s.answer =
-      subst (λ (m : ℕ). HasRun k m way.other p.request a s.answer) t.peer
-      (subst (λ (r : ℕ). HasRun k from way.other r a s.answer) (sym t.request) run) in
+      let ran : HasRun k (peer_of way) way.other p.request a s.answer =
+      subst (λ (r : ℕ). HasRun k (peer_of way) way.other r a s.answer) (sym t.request) run in
       let piece : body ≡ part s.answer (p.got + 1 - asked_packets a) =
       s.piece ∙ (ap (λ (b : Begin). part s.answer (h.number + 1 - asked_packets b.what))
       same ∙ ap (λ (m : ℕ). part s.answer (m + 1 - asked_packets a)) in_turn) in
@@ -327,7 +332,7 @@ module _ (k : Known) (n : ℕ) where
   takes-some : (clock : ℕ) (head : Option MessageHeader) (body : List ℕ) (way : Way) (c : Call)
       (p : Progress) (progress : Option Progress) (h : MessageHeader) (from : ℕ)
       → c.progress ≡ progress → progress ≡ Some p → head ≡ Some h
-      → Answering way c.what p h from body → Says h.kind k from n h body
+      → Answering way c.what p h from body → Says h.kind k from n.node h body
       → is_of_turn (asked_packets c.what) c.what.req_type p.answer h (length body) ≡ true
       → IfSome (option_map (took_reply clock head body) progress) (GoodProgress k n way c.what)
   takes-some clock head body way c p None h from is at e t s turn = cc
@@ -345,20 +350,20 @@ module _ (k : Known) (n : ℕ) where
   front-bytes (d ∷ ds) front h = let same : d ≡ front = cc in ap (λ (a : Arrival). a.bytes) same
 
   some-says : (from : ℕ) (bytes : List ℕ) (o : Option MessageHeader) (h : MessageHeader)
-      → o ≡ Some h → IfSome o (λ h. Says h.kind k from n h (body_of bytes))
-      → Says h.kind k from n h (body_of bytes)
+      → o ≡ Some h → IfSome o (λ h. Says h.kind k from n.node h (body_of bytes))
+      → Says h.kind k from n.node h (body_of bytes)
   some-says from bytes None h e s = cc
-  some-says from bytes (Some g) h e s = let same : g ≡ h = cc in subst (λ (z : MessageHeader). Says z.kind k from n z (body_of bytes)) same s
+  some-says from bytes (Some g) h e s = let same : g ≡ h = cc in subst (λ (z : MessageHeader). Says z.kind k from n.node z (body_of bytes)) same s
 
   -- what the front of the ring says
   pub front-says : (l : Lists) (front : Arrival) (h : MessageHeader) → Fronts l front h
-      → AllByRecursion (λ a. Speaks k a.peer n a.bytes) l.ring
-      → Says h.kind k front.peer n h (front_body l.ring)
+      → AllByRecursion (λ a. Speaks k a.peer n.node a.bytes) l.ring
+      → Says h.kind k front.peer n.node h (front_body l.ring)
   front-says l front h f ring =
       let bytes = front-bytes l.ring front f.is_front in
-      let speaks = all-at (λ a. Speaks k a.peer n a.bytes) l.ring 0 front ring f.is_front in
+      let speaks = all-at (λ a. Speaks k a.peer n.node a.bytes) l.ring 0 front ring f.is_front in
       let reads : message_of front.bytes ≡ Some h = ap message_of (sym bytes) ∙ f.reads in
-      subst (λ (b : List ℕ). Says h.kind k front.peer n h (body_of b)) (sym bytes)
+      subst (λ (b : List ℕ). Says h.kind k front.peer n.node h (body_of b)) (sym bytes)
       (some-says front.peer front.bytes _ h reads speaks.0)
 
   pub if-progress : (way : Way) (a : Asking) (progress : Option Progress) (p : Progress)
@@ -366,11 +371,11 @@ module _ (k : Known) (n : ℕ) where
   if-progress way a None p e h = cc
   if-progress way a (Some q) p e h = let same : q ≡ p = cc in subst (GoodProgress k n way a) same h
 
-  takes-good : (clock : ℕ) (l : Lists) (s r : ℕ) (m : MayTakeReply l s r) (i : ℕ)
-      → AllByRecursion (λ a. Speaks k a.peer n a.bytes) l.ring → m.client.way.number ≡ s
+  takes-good : (clock : ℕ) (l : Lists) → l.life ≡ n.life → (s r : ℕ) (m : MayTakeReply l s r) (i : ℕ)
+      → AllByRecursion (λ a. Speaks k a.peer n.node a.bytes) l.ring → m.client.way.number ≡ s
       → GoodClient k n i m.client
       → GoodClient k n i (takes clock r (front_header l.ring) (front_body l.ring) m.client)
-  takes-good clock l s r m i ring number h =
+  takes-good clock l now s r m i ring number h =
       let x = m.client in
       let calls : AllByRecursion (GoodCall k n x.way)
       (at_first (is_active r) (moved (took_reply clock (front_header l.ring)
@@ -394,6 +399,7 @@ module _ (k : Known) (n : ℕ) where
         peer = m.of_peer;
         session = number ∙ m.of_session;
         request = eqb-true m.progress.request r request ∙ m.of_request;
+        life = m.is_front.for_us ∙ now;
         in_turn =
             m.in_turn;
       } in
@@ -451,7 +457,7 @@ module _ (k : Known) (n : ℕ) where
   told-good clock None xs g = g
   told-good clock (Some h) xs g =
       any-first (is_client h.client) (requests clock h) xs
-      (λ i x. requests-by clock (is_request_of h.kind h.server x.state x.way.other) i x) g
+      (λ i x. requests-by clock (is_request_of h.kind h.server h.to_life x.state x.way) i x) g
 
   -- a session that breaks has a call
   breaks-joined : (l : Lists) (s : ℕ) → MayBreak l s → Placed (GoodClient k n) l.clients → (i : ℕ)
@@ -465,50 +471,50 @@ module _ (k : Known) (n : ℕ) where
       (subst (λ (z : Client). find (is_call m.number) z.calls ≡ Some m.call) same m.found)
 
   pub clients-quiet : (hand : Option InFlight) (clock : ℕ) (l : Lists) (e : Event)
-      (first second : List ℕ) → is_quiet e ≡ true → May hand l e first second → Lawful l e
-      → AllByRecursion (λ a. Speaks k a.peer n a.bytes) l.ring → Placed (GoodClient k n) l.clients
+      (first second : List ℕ) → is_quiet e ≡ true → l.life ≡ n.life → May hand l e first second → Lawful l e
+      → AllByRecursion (λ a. Speaks k a.peer n.node a.bytes) l.ring → Placed (GoodClient k n) l.clients
       → Placed (GoodClient k n) (clients_after clock e first (front_header l.ring)
       (front_body l.ring) l.clients)
-  clients-quiet hand clock l (PairedClient s peer t credits) first second q m v ring g = absurd (cc)
-  clients-quiet hand clock l (Opened s peer credits) first second q m v ring g = absurd (cc)
-  clients-quiet hand clock l (Connected s t) first second q m v ring g = absurd (cc)
-  clients-quiet hand clock l (FailedNoRoom s) first second q m v ring g =
+  clients-quiet hand clock l (PairedClient s peer t credits life) first second q now m v ring g = absurd (cc)
+  clients-quiet hand clock l (Opened s peer credits) first second q now m v ring g = absurd (cc)
+  clients-quiet hand clock l (Connected s t life) first second q now m v ring g = absurd (cc)
+  clients-quiet hand clock l (FailedNoRoom s) first second q now m v ring g =
       comes-first Failed Connecting s l.clients refl v.client v.found v.stands g
-  clients-quiet hand clock l (FailedNoAnswer s) first second q m v ring g =
+  clients-quiet hand clock l (FailedNoAnswer s) first second q now m v ring g =
       comes-first Failed Connecting s l.clients refl v.client v.found v.stands g
-  clients-quiet hand clock l (BeginsClosing s) first second q m v ring g =
+  clients-quiet hand clock l (BeginsClosing s) first second q now m v ring g =
       found-first s (comes_to Closing) l.clients v.client v.found
       (λ i. comes-good Closing i v.client (sym (connected-joined v.client.state v.connected))) g
-  clients-quiet hand clock l (ClosedHeard s) first second q m v ring g =
+  clients-quiet hand clock l (ClosedHeard s) first second q now m v ring g =
       comes-first Closed Closing s l.clients refl v.client v.found v.stands g
-  clients-quiet hand clock l (ClosedUnheard s) first second q m v ring g =
+  clients-quiet hand clock l (ClosedUnheard s) first second q now m v ring g =
       comes-first Closed Closing s l.clients refl v.client v.found v.stands g
-  clients-quiet hand clock l (Asked c s y room) first second q m v ring g = absurd (cc)
-  clients-quiet hand clock l (Begun c r) first second q m v ring g = absurd (cc)
-  clients-quiet hand clock l (Posted (Ask s r) j) first second q m v ring g =
+  clients-quiet hand clock l (Asked c s y room) first second q now m v ring g = absurd (cc)
+  clients-quiet hand clock l (Begun c r) first second q now m v ring g = absurd (cc)
+  clients-quiet hand clock l (Posted (Ask s r) j) first second q now m v ring g =
       any-first (is_client s) (posts r j) l.clients (posts-good r j) g
-  clients-quiet hand clock l (Posted (Reply t r) j) first second q m v ring g = g
-  clients-quiet hand clock l (Posted Control j) first second q m v ring g = g
-  clients-quiet hand clock l (Sent peer (Ask s r) j) first second q m v ring g =
+  clients-quiet hand clock l (Posted (Reply t r) j) first second q now m v ring g = g
+  clients-quiet hand clock l (Posted Control j) first second q now m v ring g = g
+  clients-quiet hand clock l (Sent peer (Ask s r) j) first second q now m v ring g =
       any-first (is_client s) (sends clock r j) l.clients (sends-good clock r j) g
-  clients-quiet hand clock l (Sent peer (Reply t r) j) first second q m v ring g = g
-  clients-quiet hand clock l (Sent peer Control j) first second q m v ring g =
+  clients-quiet hand clock l (Sent peer (Reply t r) j) first second q now m v ring g = g
+  clients-quiet hand clock l (Sent peer Control j) first second q now m v ring g =
       told-good clock (control_of first) l.clients g
-  clients-quiet hand clock l (Took (Ask s r) j) first second q m v ring g =
+  clients-quiet hand clock l (Took (Ask s r) j) first second q now m v ring g =
       found-first s (takes clock r (front_header l.ring) (front_body l.ring)) l.clients m.client
-      m.found (λ i. takes-good clock l s r m i ring
+      m.found (λ i. takes-good clock l now s r m i ring
       ((client-at l.clients s m.client g m.found).1)) g
-  clients-quiet hand clock l (Took (Reply t r) j) first second q m v ring g = g
-  clients-quiet hand clock l (Took Control j) first second q m v ring g = g
-  clients-quiet hand clock l (Rolled c posted got) first second q m v ring g =
+  clients-quiet hand clock l (Took (Reply t r) j) first second q now m v ring g = g
+  clients-quiet hand clock l (Took Control j) first second q now m v ring g = g
+  clients-quiet hand clock l (Rolled c posted got) first second q now m v ring g =
       any-first (has_call c) (rolls c posted got) l.clients (rolls-good c posted got) g
-  clients-quiet hand clock l (Broken s) first second q m v ring g =
+  clients-quiet hand clock l (Broken s) first second q now m v ring g =
       found-first s breaks l.clients v.client v.found
       (λ i h. breaks-good i v.client (breaks-joined l s m g i v.client v.found h) h) g
-  clients-quiet hand clock l (DoneOk c) first second q m v ring g =
+  clients-quiet hand clock l (DoneOk c) first second q now m v ring g =
       any-first (has_call c) (ends c) l.clients (ends-good c) g
-  clients-quiet hand clock l (DoneTooSmall c size) first second q m v ring g =
+  clients-quiet hand clock l (DoneTooSmall c size) first second q now m v ring g =
       any-first (has_call c) (ends c) l.clients (ends-good c) g
-  clients-quiet hand clock l (DonePeerLost c) first second q m v ring g =
+  clients-quiet hand clock l (DonePeerLost c) first second q now m v ring g =
       any-first (has_call c) (ends c) l.clients (ends-good c) g
-  clients-quiet hand clock l _ first second q m v ring g = g
+  clients-quiet hand clock l _ first second q now m v ring g = g

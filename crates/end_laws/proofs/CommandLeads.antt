@@ -1,28 +1,32 @@
 -- Each command leads from a moment that fits the stage to one that fits the next.
-use Rattle.std.proofs.Common.{◌≡◌, ◌≤◌, ◌+◌, ℕ, zero, suc, max, nat_lt, Bool, true, false, cond}
+use Rattle.std.proofs.Common.{◌≡◌, ◌<◌, ◌≤◌, ◌+◌, ◌==◌, ◌&&◌, ℕ, zero, suc, max, nat_lt, Bool, true, false, cond}
 use Rattle.std.proofs.Common.{List, [], ◌∷◌, ◌++◌, length, Option, Some, None, slice_get, refl, sym}
 use Rattle.std.proofs.Common.{ap, ◌∙◌, subst, arith}
 use Rattle.std.specs.Bool.{MatchBool}
 use Rattle.std.specs.Prelude.{map}
-use Rattle.std.specs.List.{find, list_all, remove}
+use Rattle.std.specs.List.{find, list_all, remove, slice_set}
+use Rattle.std.proofs.lemmas.Bool.{eqb-true, eq-eqb}
 use Rattle.std.proofs.lemmas.List.{length-append}
 use Rattle.rpc_base.specs.declared.event.Event.{Event}
-use Rattle.rpc_base.specs.declared.event.Event.TheVariants.{Made, NcallTooLarge, Missed, Worked}
+use Rattle.rpc_base.specs.declared.event.Event.TheVariants.{Made, NcallTooLarge, Missed, Restarted, Worked}
 use Rattle.rpc_base.specs.declared.event.Event.TheVariants.{Carried, Lost, Repeated, Ticked}
 use Rattle.rpc_base.specs.declared.fact.Fact.{Fact}
 use Rattle.rpc_base.specs.declared.state.SessionState.{SessionState}
 use Rattle.rpc_base.specs.declared.state.SessionState.TheVariants.{Connected}
+use Rattle.rpc_base.proofs.PlaceLemmas.{set-here, set-other}
 use Rattle.network_model.specs.declared.stage.Stage.{Stage}
 use Rattle.rpc_laws.specs.declared.tables.InFlight.{InFlight}
 use Rattle.rpc_laws.specs.declared.tables.Lists.{Lists}
 use Rattle.rpc_laws.specs.declared.tables.Timed.{Timed}
 use Rattle.rpc_laws.specs.Facts.{plain, with_bytes, of_net}
+use Rattle.rpc_laws.specs.BufferSafety.{anew}
 use Rattle.rpc_laws.specs.Deliveries.{inbox_room}
+use Rattle.rpc_laws.specs.Endpoints.{Lived, life_by, told}
 use Rattle.rpc_laws.specs.Front.{is_message, is_control}
 use Rattle.rpc_laws.specs.Groups.{Asks, Connects, Disconnects, SetsRate, ask_fact, ask_by_state, state_of}
 use Rattle.rpc_laws.specs.InFlight.{flight_after_net}
 use Rattle.rpc_laws.specs.Lives.{first_life}
-use Rattle.rpc_laws.specs.NodeLists.{after, after_all, new_lists, new_node}
+use Rattle.rpc_laws.specs.NodeLists.{after, after_all, limits_of, new_lists, new_node, restarted, restarted_lists}
 use Rattle.rpc_laws.specs.PollOrder.{PollBy, SendsAll}
 use Rattle.rpc_outside.specs.PlainAnswer.{plain_mode}
 use Rattle.rpc_laws.specs.UsualLimits.{with_ring}
@@ -35,7 +39,7 @@ use Rattle.rpc_laws.proofs.PollLemmas.{poll-within}
 use Rattle.sim_script.specs.FollowsScript.{AtNode as StageNode, Makes, OfNet, or_missed, Carries}
 use Rattle.sim_script.specs.FollowsScript.{Arrives, Ticks, PollsNode, Joins, Times, PollsFirst}
 use Rattle.sim_script.specs.FollowsScript.{WorksNode, WorksFirst, WorksAndPolls, Round, Unless}
-use Rattle.sim_script.specs.FollowsScript.{Settles, is_polled}
+use Rattle.sim_script.specs.FollowsScript.{Restarts, Settles, is_polled}
 use Rattle.node_laws.specs.Valid.{Valid}
 use Rattle.node_laws.proofs.Allowed.{AllAllowed as AllLawful, AllowedBy}
 use Rattle.node_laws.proofs.LeadsLemmas.{Lawful, lawful-goes}
@@ -45,9 +49,9 @@ use Rattle.node_laws.proofs.ValidLemmas.{valid_new}
 use Rattle.end_laws.specs.Moments.{Moment, moved}
 use Rattle.end_laws.proofs.Allowed.{WalksFrom, Walks, walks-from}
 use Rattle.end_laws.proofs.CallSteps.{free-walks, delivery_by, asks-fine, delivers-fine}
-use Rattle.end_laws.proofs.Courses.{latest, over, in_net, made}
-use Rattle.end_laws.proofs.Leads.{NodeFits, Fits, Leads, Leading, NodeStep, leads-none, leads-append, step-leads}
-use Rattle.end_laws.proofs.ListLemmas.{Placed, add-placed, add-keeps, add-last}
+use Rattle.end_laws.proofs.Courses.{latest, over, in_net, made, restarts}
+use Rattle.end_laws.proofs.Leads.{NodeFits, Fits, Leads, Leading, NodeStep, leads-none, leads-append, life-kept, step-leads}
+use Rattle.end_laws.proofs.ListLemmas.{Placed, add-placed, add-keeps, add-last, length-slice_set, set-placed}
 use Rattle.end_laws.proofs.QueueLemmas.{RightNode}
 use Rattle.end_laws.proofs.ReplySteps.{poll-fine}
 use Rattle.end_laws.proofs.SendsLaw.{right-stays, right-new}
@@ -74,7 +78,8 @@ net-leads s w e clock flight f c g le =
         clock = c;
         flight = g;
         size = f.size;
-        nodes = λ j z is. let k = f.nodes j z is in record { is_node = k.is_node; me = k.me; late = (let late = k.late in omega arith); right = k.right; valid = k.valid };
+        unborn = f.unborn;
+        nodes = λ j z is. let k = f.nodes j z is in record { is_node = k.is_node; me = k.me; life = k.life; late = (let late = k.late in omega arith); right = k.right; valid = k.valid };
       };
     }
 
@@ -124,19 +129,22 @@ made-leads ring s w x t f h =
     h.left ∙ ap (λ n. record s { nodes = s.nodes ++ new_node n first_life (with_ring ring) ∷ [] })
     (sym me) in
     let now : List Lists = w.nodes ++ new_lists (length w.nodes) first_life (with_ring ring) ∷ [] in
-    let new : NodeFits s.clock now (length s.nodes)
+    let made_here : Lived = told w.past (plain (length w.nodes) (Made ring)) in
+    let kept : (j : ℕ) → life_by j u.past ≡ life_by j w.past = λ j. life-kept j made_here w.past refl in
+    let new : NodeFits s.clock now u.past (length s.nodes)
     (new_node (length w.nodes) first_life (with_ring ring)) =
     record {
       is_node = ap (slice_get now) (sym me)
           ∙ add-last w.nodes (new_lists (length w.nodes) first_life (with_ring ring));
       me = me;
+      life = sym (kept (length s.nodes) ∙ f.unborn (length s.nodes) (self-le (length s.nodes)));
       late =
           omega arith;
-      right = right-new (length w.nodes) (with_ring ring);
+      right = right-new (length w.nodes) first_life (with_ring ring);
       valid =
-          valid_new (length w.nodes) (with_ring ring);
+          valid_new (length w.nodes) first_life (with_ring ring);
     } in
-    let nodes : Placed (NodeFits s.clock now) (s.nodes ++ new_node (length w.nodes) first_life (with_ring ring) ∷ []) = add-placed (NodeFits s.clock now) s.nodes (new_node (length w.nodes) first_life (with_ring ring)) new (λ j z is. let k = f.nodes j z is in record { is_node = add-keeps w.nodes _ j z.lists k.is_node; me = k.me; late = k.late; right = k.right; valid = k.valid }) in
+    let nodes : Placed (NodeFits s.clock now u.past) (s.nodes ++ new_node (length w.nodes) first_life (with_ring ring) ∷ []) = add-placed (NodeFits s.clock now u.past) s.nodes (new_node (length w.nodes) first_life (with_ring ring)) new (λ j z is. let k = f.nodes j z is in record { is_node = add-keeps w.nodes _ j z.lists k.is_node; me = k.me; life = k.life ∙ sym (kept j); late = k.late; right = k.right; valid = k.valid }) in
     rw (facts, left) (record {
       end = u;
       course = made w ring [] u (over u);
@@ -147,6 +155,68 @@ made-leads ring s w x t f h =
             ∙ (ap (λ n. n + 1) me ∙ sym (length-append s.nodes
             (new_node (length w.nodes) first_life (with_ring ring) ∷ [])));
         nodes = nodes;
+        unborn = λ j le. kept j ∙ f.unborn j
+            (let more = length-append s.nodes (new_node (length w.nodes) first_life (with_ring ring) ∷ []) in
+            omega arith);
+      };
+    })
+
+-- a place that is there is below the length
+there-below : {A : Type 0} (xs : List A) (i : ℕ) (x : A) → slice_get xs i ≡ Some x → i < length xs
+there-below [] i x h = cc
+there-below (z ∷ zs) zero x h = omega arith
+there-below (z ∷ zs) (suc i) x h = let k = there-below zs i x h in omega arith
+
+-- a node is restarted
+life-here : (n life : ℕ) (past : List Lived)
+    → life_by n (told past (plain n (Restarted life)) ∷ past) ≡ life_by n past + 1
+life-here n life past = rw (eq-eqb n n refl) refl
+
+life-other : (j n life : ℕ) (past : List Lived) → (j ≡ n → ⊥)
+    → life_by j (told past (plain n (Restarted life)) ∷ past) ≡ life_by j past
+life-other j n life past ne = by (n == j) refl
+  where
+    by : (b : Bool) → (n == j) ≡ b → cond (b && true) (life_by j past + 1) (life_by j past) ≡ life_by j past
+    by true e = absurd (ne (sym (eqb-true n j e)))
+    by false e = refl
+
+pub restart-leads : (n : ℕ) → Leading (Restarts n)
+restart-leads n s w x t f h =
+    let fit = f.nodes n h.before h.is_node in
+    let l = h.before.lists in
+    let fact : Fact = plain n (Restarted (l.life + 1)) in
+    let u = moved w fact in
+    let new = restarted h.before in
+    let facts : x ≡ fact ∷ [] =
+    h.facts ∙ ap (λ (m : ℕ). plain m (Restarted (l.life + 1)) ∷ []) fit.me in
+    let now : List Lists = slice_set w.nodes n (restarted_lists l) in
+    let all : u.nodes ≡ now = ap (λ (o : Option Lists). anew o n w.nodes) fit.is_node in
+    let here : NodeFits s.clock now u.past n new = record {
+      is_node = set-here w.nodes n l (restarted_lists l) fit.is_node;
+      me = fit.me;
+      life = ap (λ (k : ℕ). k + 1) fit.life ∙ sym (life-here n (l.life + 1) w.past);
+      late = omega arith;
+      right = right-new l.me (l.life + 1) (limits_of l);
+      valid = valid_new l.me (l.life + 1) (limits_of l);
+    } in
+    let others : (j : ℕ) (z : Timed) → (j ≡ n → ⊥) → slice_get s.nodes j ≡ Some z → NodeFits s.clock now u.past j z = λ j z ne is. let k = f.nodes j z is in record { is_node = set-other w.nodes n j (restarted_lists l) ne ∙ k.is_node; me = k.me; life = k.life ∙ sym (life-other j n (l.life + 1) w.past ne); late = k.late; right = k.right; valid = k.valid } in
+    let placed : Placed (NodeFits s.clock now u.past) (slice_set s.nodes n new) =
+    set-placed (NodeFits s.clock now u.past) s.nodes n h.before new h.is_node here others in
+    let below : n < length s.nodes = there-below s.nodes n h.before h.is_node in
+    rw (h.left, facts) (record {
+      end = u;
+      course = restarts w n l [] u fit.is_node fit.me fit.life (over u);
+      fits = record {
+        clock = f.clock;
+        flight = f.flight;
+        size = ap length all ∙ (length-slice_set w.nodes n (restarted_lists l)
+            ∙ (f.size ∙ sym (length-slice_set s.nodes n new)));
+        nodes = subst (λ (ns : List Lists). Placed (NodeFits s.clock ns u.past) (slice_set s.nodes n new))
+            (sym all) placed;
+        unborn = λ j le.
+            (let least : length s.nodes ≤ j =
+            subst (λ (k : ℕ). k ≤ j) (length-slice_set s.nodes n new) le in
+            life-other j n (l.life + 1) w.past (λ e. omega arith) ∙ f.unborn j least);
       };
     })
 
@@ -346,7 +416,8 @@ carry-net s w i f = record {
   clock = f.clock;
   flight = ap (λ (c : List InFlight). remove c i) f.flight;
   size = f.size;
-  nodes = λ j z is. let k = f.nodes j z is in record { is_node = k.is_node; me = k.me; late = k.late; right = k.right; valid = k.valid };
+  unborn = f.unborn;
+  nodes = λ j z is. let k = f.nodes j z is in record { is_node = k.is_node; me = k.me; life = k.life; late = k.late; right = k.right; valid = k.valid };
 }
 
 pub carry-leads : (i : ℕ) → Leading (Carries i)

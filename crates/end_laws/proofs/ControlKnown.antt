@@ -10,11 +10,9 @@ use Rattle.packet_header.specs.declared.packet.ControlKind.{ControlKind}
 use Rattle.packet_header.specs.declared.packet.ControlKind.TheVariants.{ConnectReply}
 use Rattle.rpc_base.specs.Tables.{at_first}
 use Rattle.rpc_base.specs.declared.event.Event.TheVariants.{Accepted, Connected, Opened}
-use Rattle.rpc_base.specs.declared.fact.Fact.{Fact}
 use Rattle.rpc_laws.specs.declared.tables.Client.{Client}
 use Rattle.rpc_laws.specs.declared.tables.InFlight.{InFlight}
 use Rattle.rpc_laws.specs.declared.tables.Lists.{Lists}
-use Rattle.rpc_laws.specs.Facts.{plain}
 use Rattle.rpc_laws.specs.Front.{control_of}
 use Rattle.rpc_laws.specs.NodeLists.{after}
 use Rattle.rpc_laws.specs.OwnAnswer.{IsClientEnd, IsServerEnd}
@@ -41,18 +39,19 @@ use Rattle.end_laws.proofs.KnownLemmas.{run-more, servers-later, jobs-later, ser
 use Rattle.end_laws.proofs.KnownLemmas.{ask-more}
 use Rattle.node_laws.proofs.JoinLemmas.{length-first}
 use Rattle.end_laws.proofs.ListLemmas.{Placed, add-placed, all-add, first-each}
+use Rattle.rpc_laws.specs.Endpoints.{Endpoint, Lived, noted}
 
 -- a session is opened
-module _ (k : Known) (n peer credits clock : ℕ) (l : Lists) (valid : Valid l)
+module _ (k : Known) (n : Endpoint) (peer credits clock : ℕ) (l : Lists) (valid : Valid l)
     (g : GoodNode k n l) where
   abbrev s : ℕ
   s = length l.clients
 
-  abbrev opens : Fact
-  opens = plain n (Opened s peer credits)
+  abbrev opens : Lived
+  opens = noted n (Opened s peer credits)
 
   pub open-node : Lawful l (Opened s peer credits)
-      → GoodNode (noting k opens) n (after clock l opens)
+      → GoodNode (noting k opens) n (after clock l opens.fact)
   open-node lawful =
       let k2 = noting k opens in
       let later = later-noting k opens in
@@ -73,26 +72,26 @@ module _ (k : Known) (n peer credits clock : ℕ) (l : Lists) (valid : Valid l)
         no_asks = g.no_asks;
         no_ends = g.no_ends;
         no_starts = λ i r le. g.no_starts i r (omega arith);
-        begun = λ i r b is. starts-stay l opens valid lawful clock i b (g.begun i r b is);
-        no_runs = λ t r some. g.no_runs t r (run-left l opens valid lawful clock t r some);
+        begun = λ i r b is. starts-stay l opens.fact valid lawful clock i b (g.begun i r b is);
+        no_runs = λ t r some. g.no_runs t r (run-left l opens.fact valid lawful clock t r some);
       }
 
 -- a session is accepted
-abbrev pub with_end : Known → (n t peer s credits : ℕ) → Known
+abbrev pub with_end : Known → (n : Endpoint) (t : ℕ) (peer : Endpoint) (s credits : ℕ) → Known
 with_end k n t peer s credits = record {
-  past = plain n (Accepted t peer s credits) ∷ k.past;
+  past = noted n (Accepted t peer.node s credits peer.life) ∷ k.past;
   ends = added k.ends n t 0 (record { home = peer; client = s; credits = credits });
   asks = k.asks;
   starts = k.starts;
   runs = k.runs;
 }
 
-module _ (k : Known) (n peer client credits : ℕ) (l : Lists) (g : GoodNode k n l) where
+module _ (k : Known) (n peer : Endpoint) (client credits : ℕ) (l : Lists) (g : GoodNode k n l) where
   abbrev t : ℕ
   t = l.server_numbers
 
-  abbrev accepts : Fact
-  accepts = plain n (Accepted t peer client credits)
+  abbrev accepts : Lived
+  accepts = noted n (Accepted t peer.node client credits peer.life)
 
   abbrev entry : End
   entry = record { home = peer; client = client; credits = credits }
@@ -112,7 +111,7 @@ module _ (k : Known) (n peer client credits : ℕ) (l : Lists) (g : GoodNode k n
     runs = λ a b c x h. h;
   }
 
-  pub accept-same : (j : ℕ) → (j ≡ n → ⊥) → SameAt k knows j
+  pub accept-same : (j : Endpoint) → (j ≡ n → ⊥) → SameAt k knows j
   accept-same j ne = record {
     asks = λ c h. h;
     ends = λ d h. added-none k.ends n t 0 entry j d 0 (λ x y z. ne x) h;
@@ -132,30 +131,30 @@ module _ (k : Known) (n peer client credits : ℕ) (l : Lists) (g : GoodNode k n
   }
 
   -- which ends are known then
-  pub accept-ends : Alone l.server_numbers l.servers → (i d : ℕ) (e : End) → knows.ends i d 0
+  pub accept-ends : Alone l.server_numbers l.servers → (i : Endpoint) (d : ℕ) (e : End) → knows.ends i d 0
       ≡ Some e
       → (k.ends i d 0 ≡ Some e)
       ⊎ ((i ≡ n) × ((v : Server) × (find (is_server d)
-      (l.servers ++ server_end t peer client credits ∷ []) ≡ Some v)))
+      (l.servers ++ server_end t peer.node client credits peer.life ∷ []) ≡ Some v)))
   accept-ends alone i d e is =
       added-case k.ends n t 0 entry
       (λ a b c x. (k.ends a b c ≡ Some x) ⊎ ((a ≡ n) × ((v : Server)
-      × (find (is_server b) (l.servers ++ server_end t peer client credits ∷ []) ≡ Some v))))
+      × (find (is_server b) (l.servers ++ server_end t peer.node client credits peer.life ∷ []) ≡ Some v))))
       (inr (
         refl,
         (
-          server_end t peer client credits,
+          server_end t peer.node client credits peer.life,
           add-new (is_server t) l.servers
-              (server_end t peer client credits) (eq-eqb t t refl)
+              (server_end t peer.node client credits peer.life) (eq-eqb t t refl)
               (none-made t t l.servers alone (omega arith)),
         ),
       ))
       (λ a b c x h. inl h) i d 0 e is
 
-  pub accept-node : (clock : ℕ) → Valid l → Lawful l (Accepted t peer client credits)
-      → GoodNode knows n (after clock l accepts)
+  pub accept-node : (clock : ℕ) → Valid l → Lawful l (Accepted t peer.node client credits peer.life)
+      → GoodNode knows n (after clock l accepts.fact)
   accept-node clock valid lawful =
-      let new : GoodServer knows n (server_end t peer client credits) = record {
+      let new : GoodServer knows n (server_end t peer.node client credits peer.life) = record {
         session = record {
           end = added-here k.ends n t 0 entry;
           made = IsMade.accepted (contains-here accepts k.past);
@@ -164,23 +163,23 @@ module _ (k : Known) (n peer client credits : ℕ) (l : Lists) (g : GoodNode k n
       } in
       record {
         clients = λ i x is. client-more k knows later-accept n i x (λ r h. h) (g.clients i x is);
-        servers = all-add (GoodServer knows n) l.servers (server_end t peer client credits)
+        servers = all-add (GoodServer knows n) l.servers (server_end t peer.node client credits peer.life)
             (servers-later k knows later-accept n l.servers g.servers) new;
         jobs = jobs-later k knows later-accept n l.jobs.out g.jobs;
         no_asks = g.no_asks;
         no_ends = λ d le. added-none k.ends n t 0 entry n d 0 (λ x y z. absurd (omega arith))
             (g.no_ends d (omega arith));
         no_starts = g.no_starts;
-        begun = λ i r b is. starts-stay l accepts valid lawful clock i b (g.begun i r b is);
-        no_runs = λ d r some. g.no_runs d r (run-left l accepts valid lawful clock d r some);
+        begun = λ i r b is. starts-stay l accepts.fact valid lawful clock i b (g.begun i r b is);
+        no_runs = λ d r some. g.no_runs d r (run-left l accepts.fact valid lawful clock d r some);
       }
 
 -- a session is connected: what the reply says is so
-module _ (k : Known) (n s t : ℕ) (hand : Option InFlight) (l : Lists) (m : MayConnect hand l s t)
-    (me : l.me ≡ n) (speaks : IfSome hand (λ c. Speaks k c.from c.to c.bytes))
+module _ (k : Known) (n : Endpoint) (s t life : ℕ) (hand : Option InFlight) (l : Lists)
+    (m : MayConnect hand l s t life) (me : l.me ≡ n.node) (now : l.life ≡ n.life) (speaks : IfSome hand (λ c. Speaks k c.from c.to c.bytes))
     (g : GoodNode k n l) where
-  abbrev connected_fact : Fact
-  connected_fact = plain n (Connected s t)
+  abbrev connected_fact : Lived
+  connected_fact = noted n (Connected s t life)
 
   abbrev known : Known
   known = noting k connected_fact
@@ -199,15 +198,18 @@ module _ (k : Known) (n s t : ℕ) (hand : Option InFlight) (l : Lists) (m : May
 
   reply-of : (kind : ControlKind) (h : ControlHeader) (from to : ℕ) → kind ≡ ConnectReply
       → Tells kind k from to h
-      → RepliesBy h.server k from to h.client h.credits h.status
+      → RepliesBy h.server h.to_life k (record { node = from; life = h.from_life }) to h.client
+      h.credits h.status
   reply-of kind h from to e s = subst (λ (z : ControlKind). Tells z k from to h) e s
 
-  names-of : (o : Option ℕ) (from to client credits status : ℕ) → o ≡ Some t
-      → RepliesBy o k from to client credits status → IsSession k from t to client credits
-  names-of o from to client credits status e r =
-      subst (λ (z : Option ℕ). RepliesBy z k from to client credits status) e r
+  names-of : (o us : Option ℕ) (from : Endpoint) (to own client credits status : ℕ) → o ≡ Some t
+      → us ≡ Some own → RepliesBy o us k from to client credits status
+      → IsSession k from t (record { node = to; life = own }) client credits
+  names-of o us from to own client credits status e f r =
+      subst (λ (z : Option ℕ). RepliesBy (Some t) z k from to client credits status) f
+      (subst (λ (z : Option ℕ). RepliesBy z us k from to client credits status) e r)
 
-  session-of : IsSession k m.client.way.peer t n s m.client.limit
+  session-of : IsSession k (record { node = m.client.way.peer; life = life }) t n s m.client.limit
   session-of =
       let h = m.hears.header in
       let says = in-hand hand (record { from = m.hears.peer; to = l.me; bytes = m.hears.bytes })
@@ -215,23 +217,27 @@ module _ (k : Known) (n s t : ℕ) (hand : Option InFlight) (l : Lists) (m : May
       let tells = tells-of (control_of m.hears.bytes) h m.hears.peer l.me m.hears.reads says.1 in
       let replies = reply-of h.kind h m.hears.peer l.me m.hears.of_kind tells in
       let session =
-      names-of h.server m.hears.peer l.me h.client h.credits h.status m.names replies in
-      rw (m.of_peer, ← me, ← m.of_client, ← m.credits) session
+      names-of h.server h.to_life (record { node = m.hears.peer; life = h.from_life }) l.me l.life
+      h.client h.credits h.status m.names m.for_us replies in
+      let us : record { node = l.me; life = l.life } ≡ n =
+      ap (λ (z : ℕ). record { node = z; life = l.life }) me
+      ∙ ap (λ (z : ℕ). record { node = n.node; life = z }) now in
+      rw (m.of_peer, ← us, ← m.of_client, ← m.of_life, ← m.credits) session
 
   opened-by : (b : Bool) (i : ℕ) (x : Client) → Tied b k n i x → b ≡ false → IsUnjoined k n i x
   opened-by true i x h e = cc
   opened-by false i x h e = h
 
   connects-good : (i : ℕ) → m.client.way.number ≡ s → GoodClient k n i m.client
-      → GoodClient known n i (connects t m.client)
+      → GoodClient known n i (connects t life m.client)
   connects-good i number c =
       let x = m.client in
       let later = later-noting k connected_fact in
       let was = opened-by (is_joined x.state) i x c.tied (ap is_joined m.connecting) in
       let same : s ≡ i = sym number ∙ c.number in
-      let session : IsSession k x.way.peer t n i x.limit = rw (← same) session-of in
-      let there : Contains known.past (plain n (Connected i t)) =
-      subst (λ (z : ℕ). Contains known.past (plain n (Connected z t))) same
+      let session : IsSession k (record { node = x.way.peer; life = life }) t n i x.limit = rw (← same) session-of in
+      let there : Contains known.past (noted n (Connected i t life)) =
+      subst (λ (z : ℕ). Contains known.past (noted n (Connected z t life))) same
       (contains-here connected_fact k.past) in
       record {
         number = c.number;
@@ -245,12 +251,12 @@ module _ (k : Known) (n s t : ℕ) (hand : Option InFlight) (l : Lists) (m : May
         calls = rw was.idle tt;
       }
 
-  pub connect-node : (clock : ℕ) → Valid l → Lawful l (Connected s t)
-      → GoodNode known n (after clock l connected_fact)
+  pub connect-node : (clock : ℕ) → Valid l → Lawful l (Connected s t life)
+      → GoodNode known n (after clock l connected_fact.fact)
   connect-node clock valid lawful =
       let later = later-noting k connected_fact in
       let at = client-at k n l.clients s m.client g.clients m.found in
-      let count = length-first (is_client s) (connects t) l.clients in
+      let count = length-first (is_client s) (connects t life) l.clients in
       record {
         clients = connected-first l.clients g.clients m.found at.1;
         servers = servers-later k known later n l.servers g.servers;
@@ -258,19 +264,19 @@ module _ (k : Known) (n s t : ℕ) (hand : Option InFlight) (l : Lists) (m : May
         no_asks = g.no_asks;
         no_ends = g.no_ends;
         no_starts = λ i r le. g.no_starts i r (omega arith);
-        begun = λ i r b is. starts-stay l connected_fact valid lawful clock i b (g.begun i r b is);
-        no_runs = λ d r some. g.no_runs d r (run-left l connected_fact valid lawful clock d r some);
+        begun = λ i r b is. starts-stay l connected_fact.fact valid lawful clock i b (g.begun i r b is);
+        no_runs = λ d r some. g.no_runs d r (run-left l connected_fact.fact valid lawful clock d r some);
       }
     where
       connected-first : (xs : List Client) → Placed (GoodClient k n) xs
           → find (is_client s) xs ≡ Some m.client → m.client.way.number ≡ s
-          → Placed (GoodClient known n) (at_first (is_client s) (connects t) xs)
+          → Placed (GoodClient known n) (at_first (is_client s) (connects t life) xs)
       connected-first xs all found number =
-          first-each (is_client s) (connects t)
+          first-each (is_client s) (connects t life)
           (λ i z. GoodClient k n i z × (slice_get xs i ≡ Some z))
           (GoodClient known n) xs
           (λ i z h p. let same = found-same k n xs s m.client all found i z h.1 p in
-          subst (λ (y : Client). GoodClient k n i y → GoodClient known n i (connects t y))
+          subst (λ (y : Client). GoodClient k n i y → GoodClient known n i (connects t life y))
           (sym same)
           (connects-good i number) h.0)
           (λ i z h. client-more k known (later-noting k connected_fact) n i z (λ r h. h) h.0)

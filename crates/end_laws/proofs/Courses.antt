@@ -5,12 +5,14 @@ use Rattle.std.proofs.Common.{None, slice_get, refl, ap, ◌∙◌, ◌≤◌, �
 use Rattle.std.specs.List.{slice_set}
 use Rattle.rpc_base.specs.declared.event.Event.{Event}
 use Rattle.rpc_base.specs.declared.event.Event.TheVariants.{Made, PairedClient, PairedServer}
+use Rattle.rpc_base.specs.declared.event.Event.TheVariants.{Restarted}
 use Rattle.rpc_base.specs.declared.fact.Fact.{Fact}
 use Rattle.rpc_base.specs.declared.fact.Who.{Who}
 use Rattle.rpc_base.specs.declared.fact.Who.TheVariants.{Node, Net}
 use Rattle.rpc_laws.specs.declared.tables.InFlight.{InFlight}
 use Rattle.rpc_laws.specs.declared.tables.Lists.{Lists}
 use Rattle.rpc_laws.specs.BufferSafety.{changed, node_after, nodes_at, clock_after}
+use Rattle.rpc_laws.specs.Endpoints.{Lived, life_by, told}
 use Rattle.rpc_laws.specs.Facts.{plain}
 use Rattle.rpc_laws.specs.Groups.{shares}
 use Rattle.rpc_laws.specs.InFlight.{flight_after}
@@ -21,14 +23,15 @@ use Rattle.end_laws.specs.Moments.{Moment, moved, hand_after, hand_noted, inbox_
 use Rattle.end_laws.proofs.Allowed.{May, IsAllowed, Linked}
 
 -- the latest of the facts so far
-abbrev pub latest : List Fact → Option Fact
+abbrev pub latest : List Lived → Option Fact
 latest [] = None
-latest (f ∷ past) = Some f
+latest (f ∷ past) = Some f.fact
 
 -- a fact that node n may note
 pub record AtNode (w : Moment) (n : ℕ) (l : Lists) (f : Fact) : Type 0 where
   pub is_node : slice_get w.nodes n ≡ Some l
   pub me : l.me ≡ n
+  pub life : l.life ≡ life_by n w.past
   pub allowed : IsAllowed w.hand l f
   pub lawful : Lawful l f.event
   pub linked : Linked (latest w.past) l f.event f.first
@@ -38,16 +41,18 @@ pub record Ends (w : Moment) (n m credits : ℕ) (client server : Lists) : Type 
   pub is_client : slice_get w.nodes n ≡ Some client
   pub is_server : slice_get w.nodes m ≡ Some server
   pub two : n ≡ m → ⊥
+  pub client_life : client.life ≡ life_by n w.past
+  pub server_life : server.life ≡ life_by m w.past
   pub fits_client : shares client + credits ≤ client.room
   pub fits_server : shares server + credits ≤ server.room
 
 abbrev pub client_fact : ℕ → ℕ → ℕ → Lists → Lists → Fact
 client_fact n m credits client server =
-    plain n (PairedClient (length client.clients) m server.server_numbers credits)
+    plain n (PairedClient (length client.clients) m server.server_numbers credits server.life)
 
 abbrev pub server_fact : ℕ → ℕ → ℕ → Lists → Lists → Fact
 server_fact n m credits client server =
-    plain m (PairedServer server.server_numbers n (length client.clients) credits)
+    plain m (PairedServer server.server_numbers n (length client.clients) credits client.life)
 
 abbrev pub paired : Moment → ℕ → ℕ → ℕ → Lists → Lists → Moment
 paired w n m credits client server =
@@ -64,7 +69,7 @@ made_at w limits = record {
   nodes = w.nodes ++ new_lists (length w.nodes) first_life limits ∷ [];
   flight = w.flight;
   hand = w.hand;
-  past = plain (length w.nodes) (Made limits.ring) ∷ w.past;
+  past = told w.past (plain (length w.nodes) (Made limits.ring)) ∷ w.past;
 }
 
 -- from a moment by these facts to a moment. Where it is free, the next fact may happen at any clock,
@@ -78,6 +83,10 @@ pub data Course (free : Bool) : Moment → List Fact → Moment → Type 0 where
       → Course free w (plain (length w.nodes) (Made ring) ∷ h) u
   at_node : (w : Moment) (n : ℕ) (l : Lists) (f : Fact) (h : List Fact) (u : Moment)
       → AtNode w n l f → Course free (moved w f) h u → Course free w (f ∷ h) u
+  restarts : (w : Moment) (n : ℕ) (l : Lists) (h : List Fact) (u : Moment)
+      → slice_get w.nodes n ≡ Some l → l.me ≡ n → l.life ≡ life_by n w.past
+      → Course free (moved w (plain n (Restarted (l.life + 1)))) h u
+      → Course free w (plain n (Restarted (l.life + 1)) ∷ h) u
   pairs : (w : Moment) (n m credits : ℕ) (client server : Lists) (h : List Fact) (u : Moment)
       → Ends w n m credits client server → Course free (paired w n m credits client server) h u
       → Course free w (client_fact n m credits client server ∷ server_fact n m credits client server ∷ h)
@@ -94,6 +103,8 @@ course-append _ _ _ y v (in_net w f h u who c) k = in_net w f (h ++ y) v who (co
 course-append _ _ _ y v (made w ring h u c) k = made w ring (h ++ y) v (course-append _ h u y v c k)
 course-append _ _ _ y v (at_node w n l f h u a c) k =
     at_node w n l f (h ++ y) v a (course-append (moved w f) h u y v c k)
+course-append _ _ _ y v (restarts w n l h u is me life c) k =
+    restarts w n l (h ++ y) v is me life (course-append _ h u y v c k)
 course-append _ _ _ y v (pairs w n m credits client server h u a c) k =
     pairs w n m credits client server (h ++ y) v a (course-append _ h u y v c k)
 course-append _ _ _ y v (made_as w limits h u is c) k =
@@ -101,19 +112,22 @@ course-append _ _ _ y v (made_as w limits h u is c) k =
 course-append _ _ _ y v (resets w clock h u is c) k =
     resets w clock (h ++ y) v is (course-append (clocked w clock) h u y v c k)
 
--- no node notes that it was made
+-- no node notes that it was made or restarted
 abbrev pub is_made : Event → Bool
 is_made (Made ring) = true
+is_made (Restarted life) = true
 is_made _ = false
 
 pub may-unmade : (hand : Option InFlight) (l : Lists) (e : Event) (first second : List ℕ)
     → May hand l e first second → is_made e ≡ false
 may-unmade hand l (Made ring) first second m = absurd m
+may-unmade hand l (Restarted life) first second m = absurd m
 may-unmade hand l _ first second m = refl
 
 node-unmade : (clock n : ℕ) (e : Event) (nodes : List Lists) (f : Fact) → is_made e ≡ false
     → node_after clock n e nodes f ≡ changed clock (slice_get nodes n) n nodes f
 node-unmade clock n (Made ring) nodes f h = absurd (cc)
+node-unmade clock n (Restarted life) nodes f h = absurd (cc)
 node-unmade clock n _ nodes f h = refl
 
 -- the moment after a fact of a node
@@ -123,7 +137,7 @@ noted_at w n l f = record {
   nodes = slice_set w.nodes n (after w.clock l f);
   flight = flight_after w.flight f;
   hand = hand_noted n f.event l.inbox w.hand;
-  past = f ∷ w.past;
+  past = told w.past f ∷ w.past;
 }
 
 moved-by : (w : Moment) (f : Fact) (n : ℕ) (l : Lists) (nodes : List Lists) → f.who ≡ Node n
@@ -133,7 +147,7 @@ moved-by : (w : Moment) (f : Fact) (n : ℕ) (l : Lists) (nodes : List Lists) �
       nodes = nodes;
       flight = flight_after w.flight f;
       hand = hand_noted n f.event l.inbox w.hand;
-      past = f ∷ w.past;
+      past = told w.past f ∷ w.past;
     }
 moved-by w f n l nodes who e is =
     let at : moved w f ≡ record {
@@ -142,7 +156,7 @@ moved-by w f n l nodes who e is =
       flight = flight_after w.flight f;
       hand =
           hand_after (Node n) f.event w.nodes w.flight w.hand;
-      past = f ∷ w.past;
+      past = told w.past f ∷ w.past;
     } = ap
     (λ (who : Who). record {
       clock = clock_after who f.event w.clock;
@@ -150,20 +164,20 @@ moved-by w f n l nodes who e is =
       flight = flight_after w.flight f;
       hand =
           hand_after who f.event w.nodes w.flight w.hand;
-      past = f ∷ w.past;
+      past = told w.past f ∷ w.past;
     }) who in
     at ∙ (ap (λ (ns : List Lists). record {
       clock = w.clock;
       nodes = ns;
       flight = flight_after w.flight f;
       hand = hand_noted n f.event (inbox_of (slice_get w.nodes n)) w.hand;
-      past = f ∷ w.past;
+      past = told w.past f ∷ w.past;
     }) e ∙ ap (λ (o : Option Lists). record {
       clock = w.clock;
       nodes = nodes;
       flight = flight_after w.flight f;
       hand = hand_noted n f.event (inbox_of o) w.hand;
-      past = f ∷ w.past;
+      past = told w.past f ∷ w.past;
     }) is)
 
 pub moved-node : (w : Moment) (n : ℕ) (l : Lists) (f : Fact) → AtNode w n l f → moved w f ≡ noted_at w n l f

@@ -38,15 +38,16 @@ use Rattle.node_laws.proofs.JoinLemmas.{length-first}
 use Rattle.end_laws.proofs.ListLemmas.{all-map}
 use Rattle.end_laws.proofs.QueueLemmas.{RightNode}
 use Rattle.end_laws.proofs.ServerLemmas.{servers-quiet}
+use Rattle.rpc_laws.specs.Endpoints.{Endpoint, Lived}
 
 -- nothing new is known of a node
-pub record SameAt (j k : Known) (n : ℕ) : Type 0 where
+pub record SameAt (j k : Known) (n : Endpoint) : Type 0 where
   pub asks : (c : ℕ) → j.asks n c 0 ≡ None → k.asks n c 0 ≡ None
   pub ends : (t : ℕ) → j.ends n t 0 ≡ None → k.ends n t 0 ≡ None
   pub starts : (s r : ℕ) → j.starts n s r ≡ None → k.starts n s r ≡ None
   pub runs : (t r : ℕ) → j.runs n t r ≡ None → k.runs n t r ≡ None
 
-pub client-more : (j k : Known) → Later j k → (n i : ℕ) (x : Client)
+pub client-more : (j k : Known) → Later j k → (n : Endpoint) (i : ℕ) (x : Client)
     → ((r : ℕ) → j.starts n i r ≡ None → k.starts n i r ≡ None) → GoodClient j n i x
     → GoodClient k n i x
 client-more j k later n i x same g = record {
@@ -58,12 +59,12 @@ client-more j k later n i x same g = record {
 }
 
 -- what began isn't new
-begun-before : (j k : Known) → Later j k → (n s r : ℕ) (b : Begin) (o : Option Begin)
+begun-before : (j k : Known) → Later j k → (n : Endpoint) (s r : ℕ) (b : Begin) (o : Option Begin)
     → j.starts n s r ≡ o → SameAt j k n → k.starts n s r ≡ Some b → j.starts n s r ≡ Some b
 begun-before j k later n s r b None e same is = let none = same.starts s r e in cc
 begun-before j k later n s r b (Some c) e same is = let there = later.starts n s r c e in cc
 
-pub node-more : (j k : Known) → Later j k → (n : ℕ) (l : Lists) → SameAt j k n → GoodNode j n l → GoodNode k n l
+pub node-more : (j k : Known) → Later j k → (n : Endpoint) (l : Lists) → SameAt j k n → GoodNode j n l → GoodNode k n l
 node-more j k later n l same g = record {
   clients = λ i x is. client-more j k later n i x (same.starts i) (g.clients i x is);
   servers = servers-later j k later n l.servers g.servers;
@@ -75,11 +76,12 @@ node-more j k later n l same g = record {
   jobs = jobs-later j k later n l.jobs.out g.jobs;
 }
 
-pub noting-same : (k : Known) (f : Fact) (n : ℕ) → SameAt k (noting k f) n
+pub noting-same : (k : Known) (f : Lived) (n : Endpoint) → SameAt k (noting k f) n
 noting-same k f n = record { asks = λ c h. h; ends = λ t h. h; starts = λ s r h. h; runs = λ t r h. h }
 
-pub unmade-noting : (k : Known) (f : Fact) (count : ℕ) → Unmade k count → Unmade (noting k f) count
-unmade-noting k f count u = record { asks = u.asks; ends = u.ends; starts = u.starts; runs = u.runs }
+pub unmade-noting : (k : Known) (f : Lived) (nodes : List Lists) → Unmade k nodes
+    → Unmade (noting k f) nodes
+unmade-noting k f nodes u = record { asks = u.asks; ends = u.ends; starts = u.starts; runs = u.runs }
 
 asked-quiet : (e : Event) (n : ℕ) → is_quiet e ≡ true → asked_after e n ≡ n
 asked-quiet (Asked c s y room) n q = absurd (cc)
@@ -92,9 +94,9 @@ told-length clock (Some h) xs = length-first _ _ xs
 clients-length : (clock : ℕ) (e : Event) (bytes : List ℕ) (head : Option MessageHeader)
     (body : List ℕ) (xs : List Client) → is_quiet e ≡ true
     → length (clients_after clock e bytes head body xs) ≡ length xs
-clients-length clock (PairedClient s peer t credits) bytes head body xs q = absurd (cc)
+clients-length clock (PairedClient s peer t credits life) bytes head body xs q = absurd (cc)
 clients-length clock (Opened s peer credits) bytes head body xs q = absurd (cc)
-clients-length clock (Connected s t) bytes head body xs q = absurd (cc)
+clients-length clock (Connected s t life) bytes head body xs q = absurd (cc)
 clients-length clock (FailedNoRoom s) bytes head body xs q = length-first _ _ xs
 clients-length clock (FailedNoAnswer s) bytes head body xs q = length-first _ _ xs
 clients-length clock (Closing s) bytes head body xs q = length-first _ _ xs
@@ -137,27 +139,27 @@ starts-stay l f v a clock s b h =
     record { client = k.now; is_there = k.is; joined = j.0; way = j.1 ∙ h.way }
 
 numbers-quiet : (e : Event) (n : ℕ) → is_quiet e ≡ true → server_numbers_after e n ≡ n
-numbers-quiet (PairedServer t peer s credits) n q = absurd (cc)
-numbers-quiet (Accepted t peer s credits) n q = absurd (cc)
+numbers-quiet (PairedServer t peer s credits life) n q = absurd (cc)
+numbers-quiet (Accepted t peer s credits life) n q = absurd (cc)
 numbers-quiet _ n q = refl
 
 -- a node stays good by a fact that adds nothing to the logs
-pub node-quiet : (k : Known) (hand : Option InFlight) (clock n : ℕ) (l : Lists) (f : Fact)
-    → f.who ≡ Node n → is_quiet f.event ≡ true → May hand l f.event f.first f.second → Valid l
-    → Lawful l f.event → RightNode l → AllByRecursion (λ a. Speaks k a.peer n a.bytes) l.ring
-    → GoodNode k n l → GoodNode (noting k f) n (after clock l f)
-node-quiet k hand clock n l f who quiet m valid lawful right ring g =
-    let k2 = noting k f in
-    let later = later-noting k f in
+pub node-quiet : (k : Known) (hand : Option InFlight) (clock : ℕ) (n : Endpoint) (l : Lists) (g : Lived)
+    → (f : Fact) → l.life ≡ n.life → is_quiet f.event ≡ true → May hand l f.event f.first f.second → Valid l
+    → Lawful l f.event → RightNode l → AllByRecursion (λ a. Speaks k a.peer n.node a.bytes) l.ring
+    → GoodNode k n l → GoodNode (noting k g) n (after clock l f)
+node-quiet k hand clock n l noted_fact f now quiet m valid lawful right ring g =
+    let k2 = noting k noted_fact in
+    let later = later-noting k noted_fact in
     let clients =
-    clients-quiet k n hand clock l f.event f.first f.second quiet m lawful ring g.clients in
+    clients-quiet k n hand clock l f.event f.first f.second quiet now m lawful ring g.clients in
     let jobs = jobs-good k n hand l f.event f.first f.second m g in
     let count = clients-length clock f.event f.first (front_header l.ring) (front_body l.ring) l.clients quiet in
     let numbers = numbers-quiet f.event l.server_numbers quiet in
     let asked = asked-quiet f.event l.asked quiet in
     record {
       clients = λ i x is. client-more k k2 later n i x (λ r h. h) (clients i x is);
-      servers = servers-quiet k k2 n later hand l f.event f.first f.second quiet m right.slots ring g.servers;
+      servers = servers-quiet k k2 n later hand l f.event f.first f.second quiet now m right.slots ring g.servers;
       jobs = jobs-later k k2 later n _ jobs;
       no_asks = λ c le. g.no_asks c (omega arith);
       no_ends = λ t le. g.no_ends t (omega arith);

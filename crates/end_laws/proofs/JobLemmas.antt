@@ -66,7 +66,7 @@ answered-kept slots n answer r q other is w =
           ∙ eqb-true q.number n c.passes))
     ]
 
-out-of-slot : (n r : ℕ) (slots : List Served) (q : Served) (b : Bool) → in_slot_of n q ≡ b
+out-of-slot : (n : ℕ) (r : ℕ) (slots : List Served) (q : Served) (b : Bool) → in_slot_of n q ≡ b
     → Apart slots → find (is_request r) slots ≡ Some q → q.working ≡ true
     → ((z : Served) → find (in_slot_of n) slots ≡ Some z → z.working ≡ false) → b ≡ false
 out-of-slot n r slots q true t a is w idle =
@@ -123,7 +123,7 @@ kept-added xs y t r q s w =
     }
 
 -- the slots of one session change
-kept-by : (xs : List Server) (t r n : ℕ) (change : List Served → List Served) (q : Served)
+kept-by : (xs : List Server) (t r : ℕ) (n : ℕ) (change : List Served → List Served) (q : Served)
     → (s : Stands xs t r q) → q.working ≡ true
     → ((v : Server) → find (is_server n) xs ≡ Some v → v ≡ s.server → t ≡ n
     → KeptSlot (change v.slots) r q) → Kept (at_first (is_server n) (with_slots change) xs) t r q
@@ -162,9 +162,9 @@ kept-after : (hand : Option InFlight) (l : Lists) (e : Event) (first second : Li
     (q : Served) → is_end e ≡ false → Sound l → May hand l e first second → (answers t r e → ⊥)
     → Stands l.servers t r q → q.working ≡ true
     → Kept (servers_after e second (front_header l.ring) (front_body l.ring) l.servers) t r q
-kept-after hand l (PairedServer n peer s credits) first second t r q live i m other h w = absurd m
-kept-after hand l (Accepted n peer s credits) first second t r q live i m other h w =
-    kept-added l.servers (server_end n peer s credits) t r q h w
+kept-after hand l (PairedServer n peer s credits life) first second t r q live i m other h w = absurd m
+kept-after hand l (Accepted n peer s credits life) first second t r q live i m other h w =
+    kept-added l.servers (server_end n peer s credits life) t r q h w
 kept-after hand l (Ended n) first second t r q live i m other h w = false-true (sym live)
 kept-after hand l (Took (Ask s n) j) first second t r q live i m other h w =
     kept-same l.servers t r q h w
@@ -280,7 +280,7 @@ all-fit hand l e first second jobs i alone m other h =
     (all-both (JobRight l.servers l.server_numbers)
     (λ j. answers j.session j.request e → ⊥) jobs h other)
 
-none-answer : (n p y : ℕ) (jobs : List Job) → AllByRecursion (λ j. is_job n p j ≡ false) jobs
+none-answer : (n : ℕ) (p y : ℕ) (jobs : List Job) → AllByRecursion (λ j. is_job n p j ≡ false) jobs
     → AllByRecursion (λ j. answers j.session j.request (Ran n p y) → ⊥) jobs
 none-answer n p y jobs h = all-map _ _ jobs (λ j e. not-answered n p j e) h
 
@@ -418,16 +418,16 @@ jobs-right hand l (Ran t r y) first second i m = ran-jobs hand l t r y first sec
 jobs-right hand l e first second i m = other-jobs hand l e first second i m (λ t r x. x)
 
 -- a session more
-job-added : (n peer c credits used : ℕ) (xs : List Server) (job : Job) → n ≡ used
-    → JobRight xs used job → JobRight (xs ++ server_end n peer c credits ∷ []) (used + 1) job
-job-added n peer c credits used xs job e (inl o) =
-    inl (over-added job.session n peer c credits used xs e o)
-job-added n peer c credits used xs job e (inr k) =
+job-added : (n peer c credits life used : ℕ) (xs : List Server) (job : Job) → n ≡ used
+    → JobRight xs used job → JobRight (xs ++ server_end n peer c credits life ∷ []) (used + 1) job
+job-added n peer c credits life used xs job e (inl o) =
+    inl (over-added job.session n peer c credits life used xs e o)
+job-added n peer c credits life used xs job e (inr k) =
     inr (record {
       request = k.request;
       stands = record {
         server = k.stands.server;
-        found = find-add (is_server job.session) xs (server_end n peer c credits) k.stands.server
+        found = find-add (is_server job.session) xs (server_end n peer c credits life) k.stands.server
             k.stands.found;
         is_there =
             k.stands.is_there;
@@ -436,10 +436,10 @@ job-added n peer c credits used xs job e (inr k) =
       sized = k.sized;
     })
 
-pub jobs-added : (n peer c credits used : ℕ) (xs : List Server) (jobs : Jobs) → n ≡ used
-    → JobsRight xs used jobs → JobsRight (xs ++ server_end n peer c credits ∷ []) (used + 1) jobs
-jobs-added n peer c credits used xs jobs e h =
+pub jobs-added : (n peer c credits life used : ℕ) (xs : List Server) (jobs : Jobs) → n ≡ used
+    → JobsRight xs used jobs → JobsRight (xs ++ server_end n peer c credits life ∷ []) (used + 1) jobs
+jobs-added n peer c credits life used xs jobs e h =
     record {
-      out = all-map _ _ jobs.out (λ j. job-added n peer c credits used xs j e) h.out;
+      out = all-map _ _ jobs.out (λ j. job-added n peer c credits life used xs j e) h.out;
       once = h.once;
     }

@@ -1,28 +1,27 @@
 -- What a joint run leaves is what its course ends with: what is so of the ends of sessions there.
 use Rattle.rpc_laws.specs.UsualLimits.{with_ring}
-use Rattle.std.proofs.Common.{◌≡◌, ℕ, zero, suc, Bool, true, false, List, [], ◌∷◌, ◌++◌, length, Option, Some, None}
-use Rattle.std.proofs.Common.{slice_get, refl, sym, ap, ◌∙◌, subst}
+use Rattle.std.proofs.Common.{◌≡◌, ℕ, suc, Bool, true, List, [], ◌∷◌, length, Some, None}
+use Rattle.std.proofs.Common.{slice_get, refl, subst}
 use Rattle.std.specs.Prelude.{map}
 use Rattle.rpc_base.specs.declared.fact.Fact.{Fact}
 use Rattle.rpc_laws.specs.declared.tables.Lists.{Lists}
 use Rattle.rpc_laws.specs.declared.tables.Timed.{Timed}
-use Rattle.node_laws.specs.CallHistory.{latest_first}
-use Rattle.end_laws.specs.Genuine.{Travels}
-use Rattle.end_laws.specs.Handshakes.{Agree, ConnectsMade}
+use Rattle.end_laws.specs.Handshakes.{Agree}
 use Rattle.end_laws.specs.JointRun.{Party, Joint, JointRun, moment_left}
-use Rattle.end_laws.specs.Moments.{Moment, moved, first_moment}
+use Rattle.end_laws.specs.Moments.{Moment, moved, first_moment, lived_first}
 use Rattle.end_laws.specs.TwoEnds.{TwoEnds}
-use Rattle.end_laws.proofs.AgreeLaw.{agree-of, LetsIn, first-lets, step-net, lets-made, step-node, step-pair}
-use Rattle.end_laws.proofs.Courses.{made_as, made_at, Course, over, in_net, made, at_node, pairs, resets, clocked, paired}
+use Rattle.end_laws.proofs.AgreeLaw.{agree-of, LetsIn, first-lets, step-net, lets-made, step-node}
+use Rattle.end_laws.proofs.AgreeLaw.{step-pair, step-restart}
+use Rattle.end_laws.proofs.Courses.{made_as, made_at, Course, over, in_net, made, at_node, pairs, restarts, resets}
+use Rattle.end_laws.proofs.Courses.{clocked, paired}
 use Rattle.end_laws.proofs.GoodStart.{first-good, first-right, first-valid}
-use Rattle.end_laws.proofs.GoodSteps.{good-net, good-made, good-node}
-use Rattle.end_laws.proofs.JointLeads.{Matches, Stands, joint-leads}
+use Rattle.end_laws.proofs.GoodSteps.{good-net, good-made, good-node, good-restart}
+use Rattle.end_laws.proofs.JointLeads.{joint-leads}
 use Rattle.end_laws.proofs.Known.{Good}
-use Rattle.end_laws.proofs.ListLemmas.{Placed}
 use Rattle.end_laws.proofs.OwnLaw.{good-clocked, good-paired}
-use Rattle.end_laws.proofs.SendsLaw.{AllRight, right-net, right-made, right-noted, right-paired}
+use Rattle.end_laws.proofs.SendsLaw.{AllRight, right-net, right-made, right-noted, right-paired, right-restart}
 use Rattle.end_laws.proofs.TwoEndsLaw.{good-ends}
-use Rattle.end_laws.proofs.Valids.{AllValid, valid-net, valid-made, valid-node, valid-pair}
+use Rattle.end_laws.proofs.Valids.{AllValid, valid-net, valid-made, valid-node, valid-pair, valid-restart}
 
 -- what is kept from fact to fact
 pub record Sound (w : Moment) : Type 0 where
@@ -58,6 +57,13 @@ course-sound _ _ _ (at_node w n l f h u a c) k =
       good = good-node w n l f a k.right k.valid k.good;
       lets = step-node w n l f a k.valid k.lets;
     })
+course-sound _ _ _ (restarts w n l h u is me life c) k =
+    course-sound _ h u c (record {
+      right = right-restart w n l is k.right;
+      valid = valid-restart w n l is k.valid;
+      good = good-restart w n l is me k.good;
+      lets = step-restart w n l is life k.lets;
+    })
 course-sound _ _ _ (pairs w n m credits client server h u e c) k =
     course-sound (paired w n m credits client server) h u c (record {
       right = right-paired w n m credits client server e k.right;
@@ -82,11 +88,12 @@ course-sound _ _ _ (resets w clock h u is c) k =
 
 -- the facts so far are the facts of the course
 pub course-past : {free : Bool} (w : Moment) (h : List Fact) (u : Moment) → Course free w h u
-    → u.past ≡ latest_first w.past h
+    → u.past ≡ lived_first w.past h
 course-past _ _ _ (over w) = refl
 course-past _ _ _ (in_net w f h u who c) = course-past (moved w f) h u c
 course-past _ _ _ (made w ring h u c) = course-past _ h u c
 course-past _ _ _ (at_node w n l f h u a c) = course-past (moved w f) h u c
+course-past _ _ _ (restarts w n l h u is me life c) = course-past _ h u c
 course-past _ _ _ (pairs w n m credits client server h u e c) = course-past _ h u c
 course-past _ _ _ (made_as w limits h u is c) = course-past (made_at w limits) h u c
 course-past _ _ _ (resets w clock h u is c) = course-past (clocked w clock) h u c
@@ -111,7 +118,7 @@ pub record Leaves (h : List Fact) (t : Joint) : Type 0 where
   pub course : Course true first_moment h end
   pub nodes : end.nodes ≡ map (λ s. s.lists) t.nodes
   pub flight : end.flight ≡ t.flight
-  pub past : end.past ≡ latest_first [] h
+  pub past : end.past ≡ lived_first [] h
 
 pub joint-leaves : (parties : ℕ → Party) (h : List Fact) (t : Joint) → JointRun parties h t
     → Leaves h t

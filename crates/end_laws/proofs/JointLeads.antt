@@ -1,8 +1,8 @@
 -- A joint run, from moment to moment: each node's facts happen at its own clock.
-use Rattle.std.proofs.Common.{◌≡◌, ◌≤◌, ◌<◌, ◌+◌, ◌⊎◌, inl, inr, ℕ, zero, suc, max, nat_lt, nat_le, Bool, true, false, cond}
+use Rattle.std.proofs.Common.{◌≡◌, ◌+◌, inl, inr, ℕ, nat_lt, Bool, true, false, cond}
 use Rattle.std.proofs.Common.{List, [], ◌∷◌, ◌++◌, length, Option, Some, None, slice_get, refl, sym}
-use Rattle.std.proofs.Common.{ap, ◌∙◌, subst, arith, ltb-false, ◌==◌, ◌||◌}
-use Rattle.std.specs.List.{list_any, remove, slice_set}
+use Rattle.std.proofs.Common.{ap, ◌∙◌, subst, ◌==◌}
+use Rattle.std.specs.List.{remove, slice_set}
 use Rattle.std.proofs.lemmas.List.{length-append}
 use Rattle.rpc_base.specs.declared.event.Event.{Event}
 use Rattle.rpc_base.specs.declared.event.Event.TheVariants.{Made, PairedClient, PairedServer, Opened, Rated}
@@ -15,19 +15,19 @@ use Rattle.rpc_laws.specs.declared.tables.InFlight.{InFlight}
 use Rattle.rpc_laws.specs.declared.tables.Lists.{Lists}
 use Rattle.rpc_laws.specs.declared.tables.Timed.{Timed}
 use Rattle.rpc_laws.specs.BufferSafety.{changed}
-use Rattle.rpc_laws.specs.Deliveries.{Delivers, delivery, delivery_facts, inbox_room}
+use Rattle.rpc_laws.specs.Deliveries.{inbox_room}
+use Rattle.rpc_laws.specs.Endpoints.{life_by, told}
 use Rattle.rpc_laws.specs.Facts.{plain, with_bytes, of_net}
 use Rattle.rpc_laws.specs.Front.{is_message, is_control}
-use Rattle.rpc_laws.specs.Groups.{Connects, connect_by, client_refusal, server_refusal, clients_spent}
-use Rattle.rpc_laws.specs.Groups.{servers_spent, has_no_room, shares, refusal_by}
+use Rattle.rpc_laws.specs.Groups.{Connects, connect_by, client_refusal, clients_spent}
+use Rattle.rpc_laws.specs.Groups.{servers_spent, has_no_room, shares}
 use Rattle.rpc_laws.specs.InFlight.{flight_after_all, flight_after_net}
 use Rattle.rpc_laws.specs.Lives.{first_life}
 use Rattle.rpc_laws.specs.NodeLists.{after, after_all, new_lists, new_node}
 use Rattle.rpc_laws.specs.PollOrder.{Poll, FinishesOne, FinishesSome, Handles, HandlesAll, PostsAll, Sends, SendsSome}
 use Rattle.rpc_laws.specs.PollOrder.{Closes, raised}
 use Rattle.rpc_laws.specs.ControlSteps.{HearsAll, TimesAll}
-use Rattle.rpc_laws.specs.Steps.{Rel, Then, Chain}
-use Rattle.rpc_laws.specs.UsualLimits.{with_ring}
+use Rattle.rpc_laws.specs.Steps.{Rel, Then}
 use Rattle.node_laws.specs.NodeRun.{Group, Notes, Refuses, pairs_client, pairs_server, refuses, connects}
 use Rattle.node_laws.specs.NodeRun.{disconnects, sets_rate, asks, delivers, polls, works, misses}
 use Rattle.node_laws.specs.Valid.{Valid}
@@ -37,28 +37,29 @@ use Rattle.node_laws.proofs.RunLaws.{asks-lawful, poll-lawful, connects-lawful, 
 use Rattle.node_laws.proofs.RunLaws.{sets-rate-lawful, delivers-lawful, notes-lawful, pair-fits}
 use Rattle.node_laws.proofs.ValidLemmas.{valid_new, valid_after}
 use Rattle.end_laws.specs.Moments.{Moment, moved, first_moment}
-use Rattle.end_laws.specs.JointRun.{Party, Joint, nobody, IsAlone, AloneGroup, MakesNode, Acts, PairsNodes, CarriesCopy}
-use Rattle.end_laws.specs.JointRun.{NetMay, NetActs, JointStep, JointSteps, makes, acts, pairs, carries}
-use Rattle.end_laws.specs.JointRun.{limits_of, of_network, none, more, JointRun, noted_by}
-use Rattle.end_laws.proofs.Allowed.{IsAllowed, WalksFrom, Walks, walks-from}
+use Rattle.end_laws.specs.JointRun.{Party, Joint, IsAlone, MakesNode, Acts, PairsNodes, CarriesCopy}
+use Rattle.end_laws.specs.JointRun.{NetActs, JointStep, JointSteps, makes, acts, pairs, carries}
+use Rattle.end_laws.specs.JointRun.{limits_of, of_network, none, more, noted_by}
+use Rattle.end_laws.proofs.Allowed.{WalksFrom, Walks, walks-from}
 use Rattle.end_laws.proofs.CallSteps.{IsFree, free-walks, asks-fine, delivers-fine}
 use Rattle.end_laws.proofs.ControlSteps.{times-all}
-use Rattle.end_laws.proofs.Courses.{made_as, made_at, latest, Course, over, in_net, made, pairs as pairing, resets, clocked, course-append}
+use Rattle.end_laws.proofs.Courses.{made_as, made_at, latest, Course, over, in_net, pairs as pairing, resets, clocked, course-append}
 use Rattle.end_laws.proofs.Courses.{client_fact, server_fact, paired}
 use Rattle.end_laws.proofs.HearsSteps.{hears-all}
-use Rattle.end_laws.proofs.Leads.{NodeCourse, node-course}
+use Rattle.end_laws.proofs.Leads.{life-kept, life-stays, me-after, node-course}
 use Rattle.end_laws.proofs.ListLemmas.{Placed, set-placed, add-placed, add-keeps, add-last, length-slice_set}
 use Rattle.end_laws.proofs.PollSteps.{posts-all, sends-fine, closes-fine}
 use Rattle.end_laws.proofs.QueueLemmas.{RightNode}
 use Rattle.end_laws.proofs.ReplySteps.{handles-fine}
 use Rattle.end_laws.proofs.SendsLaw.{right-stays, right-new, right-client, right-served}
-use Rattle.end_laws.proofs.Walks.{Fine, Walked, walked-goes, fine-then, fine-chain, fine-until}
+use Rattle.end_laws.proofs.Walks.{Fine, walked-goes, fine-then, fine-chain, fine-until}
 use Rattle.end_laws.proofs.WorkSteps.{finishes-fine, disconnects-fine, rates-so}
 
 -- a node as the moment has it
 pub record Stands (nodes : List Lists) (n : ℕ) (t : Timed) : Type 0 where
   pub is_node : slice_get nodes n ≡ Some t.lists
   pub me : t.lists.me ≡ n
+  pub life : t.lists.life ≡ first_life
   pub right : RightNode t.lists
   pub valid : Valid t.lists
 
@@ -66,6 +67,7 @@ pub record Matches (s : Joint) (w : Moment) : Type 0 where
   pub flight : w.flight ≡ s.flight
   pub size : length w.nodes ≡ length s.nodes
   pub nodes : Placed (Stands w.nodes) s.nodes
+  pub lives : (n : ℕ) → life_by n w.past ≡ first_life
 
 -- these facts lead from a moment to one that matches
 pub record JointLeads (w : Moment) (x : List Fact) (t : Joint) : Type 0 where
@@ -191,8 +193,8 @@ connects-any peer credits rate hand s x t i h =
 group-at : (mode : ℕ → Mode) (hand : Option InFlight) (before : Option Fact) (s : Timed) (x : List Fact) (t : Timed)
     → RightNode s.lists → Valid s.lists → (g : Group mode s x t) → IsAlone mode s x t g
     → GroupAt hand before s x t
-group-at mode hand before s x t i v (pairs_client peer server credits may h) alone = absurd alone
-group-at mode hand before s x t i v (pairs_server peer client credits may h) alone = absurd alone
+group-at mode hand before s x t i v (pairs_client peer server credits life may h) alone = absurd alone
+group-at mode hand before s x t i v (pairs_server peer client credits life may h) alone = absurd alone
 group-at mode hand before s x t i v (refuses credits few e r h) alone =
     refuses-group credits e hand before s x t i v r h
 group-at mode hand before s x t i v (connects peer credits rate few h) alone =
@@ -225,18 +227,19 @@ node-leads : (s : Joint) (w : Moment) (n : ℕ) (before now : Timed) (x : List F
 node-leads s w n before now x t f is h left =
     let fit = f.nodes n before is in
     let v = clocked w h.clock in
-    let c = node-course {free = true} v n before.lists x fit.is_node fit.me h.walks h.lawful in
+    let c = node-course {free = true} v n before.lists x fit.is_node fit.me (fit.life ∙ sym (f.lives n)) h.walks h.lawful in
     let ends : c.end.nodes ≡ slice_set w.nodes n now.lists =
     c.nodes ∙ ap (λ (l : Lists). slice_set w.nodes n l) (sym h.lists) in
     let here : Stands (slice_set w.nodes n now.lists) n now = record {
       is_node = set-here w.nodes n before.lists now.lists fit.is_node;
       me = ap (λ (l : Lists). l.me) h.lists ∙ (me-after h.clock before.lists x ∙ fit.me);
+      life = ap (λ (l : Lists). l.life) h.lists ∙ (life-stays h.clock before.lists x ∙ fit.life);
       right = h.right;
       valid = rw (h.lists) (valid_after_all h.clock before.lists x fit.valid h.lawful);
     } in
     let others : (j : ℕ) (z : Timed) → (j ≡ n → ⊥) → slice_get s.nodes j ≡ Some z
     → Stands (slice_set w.nodes n now.lists) j z =
-    λ j z ne is. let k = f.nodes j z is in record { is_node = set-other w.nodes n j now.lists ne ∙ k.is_node; me = k.me; right = k.right; valid = k.valid } in
+    λ j z ne is. let k = f.nodes j z is in record { is_node = set-other w.nodes n j now.lists ne ∙ k.is_node; me = k.me; life = k.life; right = k.right; valid = k.valid } in
     let placed = set-placed (Stands (slice_set w.nodes n now.lists)) s.nodes n before now is here others in
     rw left (record {
       end = c.end;
@@ -246,12 +249,9 @@ node-leads s w n before now x t f is h left =
         size = ap length ends ∙ (length-slice_set w.nodes n now.lists
             ∙ (f.size ∙ sym (length-slice_set s.nodes n now)));
         nodes = subst (λ (ns : List Lists). Placed (Stands ns) (slice_set s.nodes n now)) (sym ends) placed;
+        lives = λ j. c.lives j ∙ f.lives j;
       };
     })
-  where
-    me-after : (clock : ℕ) (l : Lists) (x : List Fact) → (after_all clock l x).me ≡ l.me
-    me-after clock l [] = refl
-    me-after clock l (f ∷ x) = me-after clock (after clock l f) x
 
 abbrev Leading : (Joint → List Fact → Joint → Type 0) → Type 0
 Leading P = (s : Joint) (w : Moment) (x : List Fact) (t : Joint) → Matches s w → P s x t → JointLeads w x t
@@ -269,7 +269,8 @@ net-leads : (e : Event) (s : Joint) (w : Moment) → Matches s w
 net-leads e s w f = record {
   flight = ap (flight_after_net e) f.flight;
   size = f.size;
-  nodes = λ j z is. let k = f.nodes j z is in record { is_node = k.is_node; me = k.me; right = k.right; valid = k.valid };
+  lives = f.lives;
+  nodes = λ j z is. let k = f.nodes j z is in record { is_node = k.is_node; me = k.me; life = k.life; right = k.right; valid = k.valid };
 }
 
 nets-lead : Leading NetActs
@@ -344,10 +345,11 @@ makes-lead parties s w x t f h =
       is_node = ap (slice_get now) (sym me)
           ∙ add-last w.nodes (new_lists (length w.nodes) first_life limits);
       me = me;
-      right = right-new (length w.nodes) limits;
-      valid = valid_new (length w.nodes) limits;
+      life = refl;
+      right = right-new (length w.nodes) first_life limits;
+      valid = valid_new (length w.nodes) first_life limits;
     } in
-    let nodes : Placed (Stands now) (s.nodes ++ new_node (length w.nodes) first_life limits ∷ []) = add-placed (Stands now) s.nodes (new_node (length w.nodes) first_life limits) new (λ j z is. let k = f.nodes j z is in record { is_node = add-keeps w.nodes _ j z.lists k.is_node; me = k.me; right = k.right; valid = k.valid }) in
+    let nodes : Placed (Stands now) (s.nodes ++ new_node (length w.nodes) first_life limits ∷ []) = add-placed (Stands now) s.nodes (new_node (length w.nodes) first_life limits) new (λ j z is. let k = f.nodes j z is in record { is_node = add-keeps w.nodes _ j z.lists k.is_node; me = k.me; life = k.life; right = k.right; valid = k.valid }) in
     rw (facts, left) (record {
       end = u;
       course = made_as w limits [] u refl (over u);
@@ -357,6 +359,8 @@ makes-lead parties s w x t f h =
             ∙ (ap (λ n. n + 1) me ∙ sym (length-append s.nodes
             (new_node (length w.nodes) first_life limits ∷ [])));
         nodes = nodes;
+        lives = λ j. life-kept j (told w.past (plain (length w.nodes) (Made limits.ring))) w.past refl
+            ∙ f.lives j;
       };
     })
 
@@ -378,10 +382,10 @@ pairs-lead s w x t f h =
     let room_server = pair-fits (servers_spent v) credits v h.server_fits in
     let is_one : h.at_client ≡ one =
     h.for_client ∙ ap (λ (n : ℕ). plain n
-    (PairedClient (length c.clients) b v.server_numbers credits)) cf.me in
+    (PairedClient (length c.clients) b v.server_numbers credits v.life)) cf.me in
     let is_other : h.at_server ≡ other =
     h.for_server ∙ ap (λ (n : ℕ). plain n
-    (PairedServer v.server_numbers a (length c.clients) credits)) sf.me in
+    (PairedServer v.server_numbers a (length c.clients) credits c.life)) sf.me in
     let u = paired w a b credits c v in
     let nodes1 : List Lists = slice_set w.nodes a (after w.clock c one) in
     let nodes2 : List Lists = slice_set nodes1 b (after w.clock v other) in
@@ -395,21 +399,23 @@ pairs-lead s w x t f h =
     let stage1 : List Timed = slice_set s.nodes a (noted_by client one) in
     let at_stage : slice_get stage1 b ≡ Some server =
     set-other s.nodes a b (noted_by client one) (λ e. h.two (sym e)) ∙ h.is_server in
-    let keep : (n : ℕ) (z : Timed) → (n ≡ a → ⊥) → slice_get s.nodes n ≡ Some z → Stands nodes1 n z = λ n z ne is. let k = f.nodes n z is in record { is_node = set-other w.nodes a n (after w.clock c one) ne ∙ k.is_node; me = k.me; right = k.right; valid = k.valid } in
+    let keep : (n : ℕ) (z : Timed) → (n ≡ a → ⊥) → slice_get s.nodes n ≡ Some z → Stands nodes1 n z = λ n z ne is. let k = f.nodes n z is in record { is_node = set-other w.nodes a n (after w.clock c one) ne ∙ k.is_node; me = k.me; life = k.life; right = k.right; valid = k.valid } in
     let here : Stands nodes1 a (noted_by client one) =
     record {
       is_node = set-here w.nodes a c (after w.clock c one) cf.is_node;
       me = cf.me;
+      life = cf.life;
       right = right-client client.clock a b credits c v cf.right;
       valid = valid_after client.clock c one cf.valid (record { numbered = refl; room = room_client });
     } in
     let placed1 : Placed (Stands nodes1) stage1 =
     set-placed (Stands nodes1) s.nodes a client (noted_by client one) h.is_client here keep in
-    let keep2 : (n : ℕ) (z : Timed) → (n ≡ b → ⊥) → slice_get stage1 n ≡ Some z → Stands nodes2 n z = λ n z ne is. let k = placed1 n z is in record { is_node = set-other nodes1 b n (after w.clock v other) ne ∙ k.is_node; me = k.me; right = k.right; valid = k.valid } in
+    let keep2 : (n : ℕ) (z : Timed) → (n ≡ b → ⊥) → slice_get stage1 n ≡ Some z → Stands nodes2 n z = λ n z ne is. let k = placed1 n z is in record { is_node = set-other nodes1 b n (after w.clock v other) ne ∙ k.is_node; me = k.me; life = k.life; right = k.right; valid = k.valid } in
     let here2 : Stands nodes2 b (noted_by server other) =
     record {
       is_node = set-here nodes1 b v (after w.clock v other) at_b;
       me = sf.me;
+      life = sf.life;
       right = right-served server.clock b a credits c v sf.right;
       valid = valid_after server.clock v other sf.valid (record { numbered = refl; room = room_server });
     } in
@@ -434,6 +440,8 @@ pairs-lead s w x t f h =
         is_client = cf.is_node;
         is_server = sf.is_node;
         two = h.two;
+        client_life = cf.life ∙ sym (f.lives a);
+        server_life = sf.life ∙ sym (f.lives b);
         fits_client = room_client;
         fits_server = room_server;
       }) (over u);
@@ -442,6 +450,8 @@ pairs-lead s w x t f h =
         size = sizes;
         nodes = subst (λ (ns : List Lists). Placed (Stands ns)
             (slice_set stage1 b (noted_by server other))) (sym all) placed2;
+        lives = λ j. life-kept j (told (told w.past one ∷ w.past) other) (told w.past one ∷ w.past) refl
+            ∙ (life-kept j (told w.past one) w.past refl ∙ f.lives j);
       };
     })
 
@@ -458,7 +468,7 @@ joint-leads parties none =
     record {
       end = first_moment;
       course = over first_moment;
-      fits = record { flight = refl; size = refl; nodes = λ j z is. absurd (cc) };
+      fits = record { flight = refl; size = refl; nodes = λ j z is. absurd (cc); lives = λ j. refl };
     }
 joint-leads parties (more {x = x} {t = t} c y u h) =
     let l = joint-leads parties c in

@@ -10,6 +10,7 @@ use Rattle.rpc_base.specs.declared.event.Event.{Event}
 use Rattle.rpc_base.specs.declared.fact.Fact.{Fact}
 use Rattle.rpc_base.specs.declared.fact.Who.{Who}
 use Rattle.rpc_base.specs.declared.fact.Who.TheVariants.{Node, Net}
+use Rattle.rpc_laws.specs.Endpoints.{Lived, present, told}
 use Rattle.rpc_laws.specs.OwnAnswer.{AtEach, OwnAt, OwnEvent}
 use Rattle.rpc_laws.specs.Service.{Serving, plain_serving}
 
@@ -22,18 +23,18 @@ joint-own parties h t run =
 
 -- of nodes with the same services the same is so
 module _ (v w : ℕ → Serving) (same : (n : ℕ) → v n ≡ w n) where
-  at-same : (past : List Fact) (who : Who) (e : Event) (first second : List ℕ)
+  at-same : (past : List Lived) (who : Who) (e : Event) (first second : List ℕ)
       → OwnAt v past who e first second → OwnAt w past who e first second
   at-same past (Node n) e first second own =
-      subst (λ (s : Serving). OwnEvent s past n e first second) (same n) own
+      subst (λ (s : Serving). OwnEvent s past (present n past) e first second) (same n) own
   at-same past Net e first second own = tt
 
-  own-same : (past h : List Fact)
+  own-same : (past : List Lived) (h : List Fact)
       → AtEach (λ past f. OwnAt v past f.who f.event f.first f.second) past h
       → AtEach (λ past f. OwnAt w past f.who f.event f.first f.second) past h
   own-same past [] own = tt
   own-same past (f ∷ h) own =
-      (at-same past f.who f.event f.first f.second own.0, own-same (f ∷ past) h own.1)
+      (at-same past f.who f.event f.first f.second own.0, own-same (told past f ∷ past) h own.1)
 
 pub plain-own : PlainAnswersOwn
 plain-own parties h t plain run =

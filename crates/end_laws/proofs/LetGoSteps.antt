@@ -4,7 +4,7 @@ use Rattle.std.proofs.Common.{◌≡◌, ◌==◌, ◌⊎◌, inl, inr, ℕ, zer
 use Rattle.std.proofs.Common.{[], ◌∷◌}
 use Rattle.std.proofs.Common.{◌++◌, Option, Some, None, slice_get, refl, sym, ap, ◌∙◌, subst, arith}
 use Rattle.std.specs.List.{find}
-use Rattle.std.proofs.lemmas.Bool.{eqb-true, eq-eqb}
+use Rattle.std.proofs.lemmas.Bool.{eqb-true}
 use Rattle.packet_header.specs.declared.packet.ControlHeader.{ControlHeader}
 use Rattle.packet_header.specs.declared.packet.ControlKind.TheVariants.{ConnectRequest}
 use Rattle.packet_header.specs.declared.packet.ControlKind.TheVariants.{DisconnectRequest}
@@ -38,7 +38,7 @@ use Rattle.rpc_laws.specs.Sessions.{is_request_of, requests}
 use Rattle.node_laws.proofs.Allowed.{Allowed as Lawful, IsIn}
 use Rattle.end_laws.proofs.Known.{is_joined}
 use Rattle.rpc_laws.specs.declared.tables.Way.{Way}
-use Rattle.rpc_laws.specs.Sessions.{breaks}
+use Rattle.rpc_laws.specs.Sessions.{breaks, is_with}
 use Rattle.node_laws.proofs.NumberLemmas.{numbered-at, numbered-found}
 use Rattle.node_laws.specs.Valid.{Valid, client_no}
 use Rattle.node_laws.proofs.ControlLemmas.{unless-disowns}
@@ -48,19 +48,19 @@ use Rattle.end_laws.proofs.ListLemmas.{add-keeps, find-at}
 
 -- what a session let go of is still let go, and one that is joined stays so, with its way
 pub record Kin (x y : Client) : Type 0 where
-  pub let_go : (t : ℕ) → IsLetGo x t → IsLetGo y t
+  pub let_go : (t life : ℕ) → IsLetGo x t life → IsLetGo y t life
   pub joined : is_joined x.state ≡ true → (is_joined y.state ≡ true) × (y.way ≡ x.way)
 
 same-kin : (x : Client) → Kin x x
-same-kin x = record { let_go = λ t h. h; joined = λ j. (j, refl) }
+same-kin x = record { let_go = λ t life h. h; joined = λ j. (j, refl) }
 
 -- a change that leaves state and way
 plain-kin : (x y : Client) → y.state ≡ x.state → y.way ≡ x.way → Kin x y
 plain-kin x y state way = record {
-  let_go = λ t h. record {
+  let_go = λ t life h. record {
     opens = λ e. h.opens (sym state ∙ e);
     apart = λ c o. h.apart (ap is_connected (sym state) ∙ c)
-        (sym (ap (λ (w : Way). w.other) way) ∙ o);
+        (sym (ap (is_with t life) way) ∙ o);
   };
   joined = λ j. (ap is_joined state ∙ j, way);
 }
@@ -128,7 +128,7 @@ comes-kin : (state : SessionState) → (state ≡ Connecting → ⊥) → is_con
     → is_joined state ≡ true → (x : Client) → Kin x (comes_to state x)
 comes-kin state opens apart joined x =
     record {
-      let_go = λ t h. record { opens = opens; apart = λ e. false-true (sym apart ∙ e) };
+      let_go = λ t life h. record { opens = opens; apart = λ e. false-true (sym apart ∙ e) };
       joined = λ j. (joined, refl);
     }
 
@@ -136,7 +136,7 @@ comes-kin state opens apart joined x =
 fails-kin : (x : Client) → x.state ≡ Connecting → Kin x (comes_to Failed x)
 fails-kin x e =
     record {
-      let_go = λ t h. record { opens = failed-no; apart = λ c. cc };
+      let_go = λ t life h. record { opens = failed-no; apart = λ c. cc };
       joined = λ j. false-true (sym (ap is_joined e) ∙ j);
     }
 
@@ -151,7 +151,7 @@ told-kin : (clock : ℕ) (o : Option ControlHeader) (xs : List Client)
 told-kin clock None xs = kin-same xs
 told-kin clock (Some h) xs =
     kin-each (is_client h.client) (requests clock h) xs
-    (λ x. requests-kin clock (is_request_of h.kind h.server x.state x.way.other) x)
+    (λ x. requests-kin clock (is_request_of h.kind h.server h.to_life x.state x.way) x)
 
 -- the session of a number that is found is the one at its place
 pub at-number : (l : Lists) (v : Valid l) (s i : ℕ) (c x : Client) → find (is_client s) l.clients
@@ -173,14 +173,14 @@ fails-all l s v a = λ i x is.
 pub clients-kin : (clock : ℕ) (l : Lists) (e : Event) (first : List ℕ) (head : Option MessageHeader)
     (body : List ℕ) → Valid l → Lawful l e
     → KinAll l.clients (clients_after clock e first head body l.clients)
-clients-kin clock l (PairedClient s peer t credits) first head body v a = kin-added l.clients _
+clients-kin clock l (PairedClient s peer t credits life) first head body v a = kin-added l.clients _
 clients-kin clock l (Opened s peer credits) first head body v a = kin-added l.clients _
-clients-kin clock l (IsConnected s t) first head body v a = λ i x is.
+clients-kin clock l (IsConnected s t life) first head body v a = λ i x is.
     kin-first (is_client s) _ l.clients i x is (λ p.
     let state : x.state ≡ Connecting =
     ap (λ (y : Client). y.state) (sym (at-number l v s i a.client x a.found is p)) ∙ a.stands in
     record {
-      let_go = λ u h. absurd (h.opens state);
+      let_go = λ u life h. absurd (h.opens state);
       joined = λ j. false-true (sym (ap is_joined state) ∙ j);
     })
 clients-kin clock l (FailedNoRoom s) first head body v a = fails-all l s v a
@@ -212,7 +212,7 @@ clients-kin clock l (Rolled c posted got) first head body v a =
     kin-each _ _ l.clients (λ x. plain-kin x _ refl refl)
 clients-kin clock l (Broken s) first head body v a =
     kin-each (is_client s) breaks l.clients (λ x. record
-    { let_go = λ t h. record { opens = broken-no; apart = λ e. cc }; joined = λ j. (refl, refl) })
+    { let_go = λ t life h. record { opens = broken-no; apart = λ e. cc }; joined = λ j. (refl, refl) })
 clients-kin clock l (DoneOk c) first head body v a =
     kin-each _ _ l.clients (λ x. plain-kin x _ refl refl)
 clients-kin clock l (DoneTooSmall c size) first head body v a =
@@ -222,21 +222,22 @@ clients-kin clock l (DonePeerLost c) first head body v a =
 clients-kin clock l _ first head body v a = kin-same l.clients
 
 -- the session with that number let go
-pub record GoneFrom (xs : List Client) (s t : ℕ) : Type 0 where
+pub record GoneFrom (xs : List Client) (s t life : ℕ) : Type 0 where
   pub client : Client
   pub is_there : slice_get xs s ≡ Some client
-  pub let_go : IsLetGo client t
+  pub let_go : IsLetGo client t life
 
-pub gone-kin : (xs ys : List Client) (s t : ℕ) → KinAll xs ys → GoneFrom xs s t → GoneFrom ys s t
-gone-kin xs ys s t kin g =
+pub gone-kin : (xs ys : List Client) (s t life : ℕ) → KinAll xs ys → GoneFrom xs s t life
+    → GoneFrom ys s t life
+gone-kin xs ys s t life kin g =
     let k = kin s g.client g.is_there in
-    record { client = k.now; is_there = k.is; let_go = k.kin.let_go t g.let_go }
+    record { client = k.now; is_there = k.is; let_go = k.kin.let_go t life g.let_go }
 
 -- a session with a request of its own to disconnect is Closing
-asks-gone : (own : ℕ) (state : SessionState) (way : Way) (credits t : ℕ) (h : ControlHeader)
+asks-gone : (own : ℕ) (state : SessionState) (way : Way) (credits : ℕ) (h : ControlHeader)
     → request_by own state way credits ≡ Some h → h.kind ≡ DisconnectRequest
     → (h.client ≡ way.number) × (state ≡ Closing)
-asks-gone own Connecting way credits t h e kind =
+asks-gone own Connecting way credits h e kind =
     let same : record {
       kind = ConnectRequest;
       client = way.number;
@@ -254,7 +255,7 @@ asks-gone own Connecting way credits t h e kind =
 
     request-no : ConnectRequest ≡ DisconnectRequest → ⊥
     request-no e = cc
-asks-gone own Closing way credits t h e kind =
+asks-gone own Closing way credits h e kind =
     let same : record {
       kind = DisconnectRequest;
       client = way.number;
@@ -268,52 +269,50 @@ asks-gone own Closing way credits t h e kind =
   where
     some-same : (a b : ControlHeader) → Some a ≡ Some b → a ≡ b
     some-same a b e = cc
-asks-gone own _ way credits t h e kind = cc
+asks-gone own _ way credits h e kind = cc
 
-closing-gone : (x : Client) (t : ℕ) → x.state ≡ Closing → IsLetGo x t
-closing-gone x t e = record {
+closing-gone : (x : Client) (t life : ℕ) → x.state ≡ Closing → IsLetGo x t life
+closing-gone x t life e = record {
   opens = λ o. closing-no (sym e ∙ o);
   apart = λ c. false-true (ap is_connected (sym e) ∙ c);
 }
 
 -- a session that disowns a server session isn't connected with it
-apart-by : (other t : ℕ) → (other == t) ≡ false → other ≡ t → ⊥
-apart-by other t e same = false-true (sym e ∙ eq-eqb other t same)
+apart-by : (its : Bool) → its ≡ false → its ≡ true → ⊥
+apart-by its e same = false-true (sym e ∙ same)
 
-disown-state : (state : SessionState) (limit other t : ℕ) → joined_row state limit other t 0
+disown-state : (state : SessionState) (its : Bool) (limit t : ℕ) → joined_row state its limit t 0
     ≡ Disowns
-    → (state ≡ Connecting → ⊥) × (is_connected state ≡ true → other ≡ t → ⊥)
-disown-state Connecting limit other t e = connecting-no (0 == limit) t e
+    → (state ≡ Connecting → ⊥) × (is_connected state ≡ true → its ≡ true → ⊥)
+disown-state Connecting its limit t e = connecting-no (0 == limit) t e
   where
     connecting-no : {A : Type 0} (b : Bool) (t : ℕ) → cond b (Connects t) Ignores ≡ Disowns → A
     connecting-no true t e = cc
     connecting-no false t e = cc
-disown-state Connected limit other t e =
-    (λ o. cc, λ c. apart-by other t (unless-disowns (other == t) e))
-disown-state Spent limit other t e =
-    (λ o. cc, λ c. apart-by other t (unless-disowns (other == t) e))
-disown-state Closing limit other t e = (λ o. cc, λ c. false-true c)
-disown-state Unknown limit other t e = (λ o. cc, λ c. false-true c)
-disown-state Closed limit other t e = (λ o. cc, λ c. false-true c)
-disown-state Failed limit other t e = (λ o. cc, λ c. false-true c)
-disown-state IsBroken limit other t e = (λ o. cc, λ c. false-true c)
+disown-state Connected its limit t e = (λ o. cc, λ c. apart-by its (unless-disowns its e))
+disown-state Spent its limit t e = (λ o. cc, λ c. apart-by its (unless-disowns its e))
+disown-state Closing its limit t e = (λ o. cc, λ c. false-true c)
+disown-state Unknown its limit t e = (λ o. cc, λ c. false-true c)
+disown-state Closed its limit t e = (λ o. cc, λ c. false-true c)
+disown-state Failed its limit t e = (λ o. cc, λ c. false-true c)
+disown-state IsBroken its limit t e = (λ o. cc, λ c. false-true c)
 
-disown-gone : (o : Option ℕ) (x : Client) (t : ℕ) → o ≡ Some t → reply_row o 0 x ≡ Disowns
-    → IsLetGo x t
-disown-gone None x t e row = cc
-disown-gone (Some u) x t e row =
+disown-gone : (o : Option ℕ) (x : Client) (t life : ℕ) → o ≡ Some t → reply_row o life 0 x ≡ Disowns
+    → IsLetGo x t life
+disown-gone None x t life e row = cc
+disown-gone (Some u) x t life e row =
     let same : u ≡ t = cc in
-    let d = disown-state x.state x.limit x.way.other u row in
-    subst (λ (n : ℕ). IsLetGo x n) same (record { opens = d.0; apart = d.1 })
+    let d = disown-state x.state (is_with u life x.way) x.limit u row in
+    subst (λ (n : ℕ). IsLetGo x n life) same (record { opens = d.0; apart = d.1 })
 
 kind-no : {A : Type 0} (h c : ControlHeader) → h ≡ c → h.kind ≡ DisconnectRequest
     → (c.kind ≡ DisconnectRequest → A) → A
 kind-no h c e kind refuse = refuse (ap (λ (z : ControlHeader). z.kind) (sym e) ∙ kind)
 
-found-gone : (l : Lists) (v : Valid l) (s t : ℕ) (x : Client) → find (is_client s) l.clients
+found-gone : (l : Lists) (v : Valid l) (s t life : ℕ) (x : Client) → find (is_client s) l.clients
     ≡ Some x
-    → IsLetGo x t → GoneFrom l.clients s t
-found-gone l v s t x found gone =
+    → IsLetGo x t life → GoneFrom l.clients s t life
+found-gone l v s t life x found gone =
     let at = find-at (is_client s) l.clients x found in
     let number : x.way.number ≡ s = eqb-true x.way.number s at.2 in
     let place : x.way.number ≡ 0 + at.0 =
@@ -322,23 +321,28 @@ found-gone l v s t x found gone =
     record { client = x; is_there = ap (slice_get l.clients) (sym same) ∙ at.1; let_go = gone }
 
 -- so it is where a request to disconnect is sent
-pub sent-gone : (l : Lists) (v : Valid l) (peer t : ℕ) (h : ControlHeader)
+pub sent-gone : (l : Lists) (v : Valid l) (peer t life : ℕ) (h : ControlHeader)
     → AsksAt l peer h ⊎ OwnControl l peer h → h.kind ≡ DisconnectRequest → h.server ≡ Some t
-    → GoneFrom l.clients h.client t
-sent-gone l v peer t h (inl a) kind names =
+    → h.to_life ≡ Some life → GoneFrom l.clients h.client t life
+sent-gone l v peer t life h (inl a) kind names goes =
     let x = a.client in
-    let own = asks-gone l.life x.state x.way x.limit t h a.own kind in
+    let own = asks-gone l.life x.state x.way x.limit h a.own kind in
     let found = numbered-found client_no 0 a.place l.clients x v.numbered a.is_there in
-    found-gone l v h.client t x (ap (λ (n : ℕ). find (is_client n) l.clients) own.0 ∙ found)
-    (closing-gone x t own.1)
-sent-gone l v peer t h (inr (OwnControl.asks x opened own)) kind names =
-    let mine = asks-gone l.life x.state x.way x.limit t h own kind in
-    found-gone l v h.client t x opened.found (closing-gone x t mine.1)
-sent-gone l v peer t h (inr (OwnControl.confirms u w e found ends)) kind names =
+    found-gone l v h.client t life x (ap (λ (n : ℕ). find (is_client n) l.clients) own.0 ∙ found)
+    (closing-gone x t life own.1)
+sent-gone l v peer t life h (inr (OwnControl.asks x opened own)) kind names goes =
+    let mine = asks-gone l.life x.state x.way x.limit h own kind in
+    found-gone l v h.client t life x opened.found (closing-gone x t life mine.1)
+sent-gone l v peer t life h (inr (OwnControl.confirms to u w e found ends)) kind names goes =
     kind-no h _ e kind (λ k. cc)
-sent-gone l v peer t h (inr (OwnControl.declines e none)) kind names =
+sent-gone l v peer t life h (inr (OwnControl.declines to e none)) kind names goes =
     kind-no h _ e kind (λ k. cc)
-sent-gone l v peer t h (inr (OwnControl.disowns x opened e row)) kind names =
-    found-gone l v h.client t x opened.found (disown-gone h.server x t names row)
-sent-gone l v peer t h (inr (OwnControl.ends e none)) kind names = kind-no h _ e kind (λ k. cc)
-sent-gone l v peer t h (inr (OwnControl.misses e none)) kind names = kind-no h _ e kind (λ k. cc)
+sent-gone l v peer t life h (inr (OwnControl.disowns to x opened e row)) kind names goes =
+    let told : Some to ≡ Some life = sym (ap (λ (c : ControlHeader). c.to_life) e) ∙ goes in
+    let same : to ≡ life = cc in
+    found-gone l v h.client t life x opened.found
+    (disown-gone h.server x t life names (subst (λ (w : ℕ). reply_row h.server w 0 x ≡ Disowns) same row))
+sent-gone l v peer t life h (inr (OwnControl.ends to e none)) kind names goes =
+    kind-no h _ e kind (λ k. cc)
+sent-gone l v peer t life h (inr (OwnControl.misses to e none)) kind names goes =
+    kind-no h _ e kind (λ k. cc)

@@ -17,7 +17,7 @@ use Rattle.rpc_base.specs.declared.event.Event.TheVariants.{Ended, Flushed, Give
 use Rattle.rpc_base.specs.declared.event.Event.TheVariants.{NcloseBusy, NcloseState}
 use Rattle.rpc_base.specs.declared.event.Event.TheVariants.{NconnectNumbers, NconnectRing, Nrate}
 use Rattle.rpc_base.specs.declared.event.Event.TheVariants.{Overflowed, Posted, Ran, Rated, Starved}
-use Rattle.rpc_base.specs.declared.event.Event.TheVariants.{Unsent, Worked}
+use Rattle.rpc_base.specs.declared.event.Event.TheVariants.{Restarted, Unsent, Worked}
 use Rattle.rpc_base.specs.declared.event.Event.TheVariants.{PairedClient, Heard, Sent, Asked, Took}
 use Rattle.rpc_base.specs.declared.event.Event.TheVariants.{ClosedHeard, ClosedUnheard}
 use Rattle.rpc_base.specs.declared.event.Event.TheVariants.{Connected as IsConnected, DoneTooSmall}
@@ -85,18 +85,24 @@ use Rattle.rpc_laws.specs.Steps.{Chain, Goes, more, none, NotesAll, NotesNext, R
 use Rattle.rpc_outside.specs.declared.service.Mode.{Mode}
 use Rattle.rpc_base.proofs.BasicLemmas.{false-true}
 use Rattle.rpc_base.proofs.PlaceLemmas.{all-at}
+use Rattle.rpc_laws.specs.ControlSteps.{TakesControl, EndsOutdated, EndsAllOutdated, AnswersControl}
+use Rattle.rpc_laws.specs.ControlTable.{outdated}
+use Rattle.rpc_base.specs.declared.state.DropReason.TheVariants.{StaleLife}
+use Rattle.rpc_base.specs.declared.event.Event.TheVariants.{Dropped}
+use Rattle.std.proofs.Common.{◌==◌}
 
 abbrev pub is_work : Event → Bool
 is_work (Worked t r) = true
+is_work (Restarted life) = true
 is_work _ = false
 
 -- an event of session control
 abbrev pub is_of_control : Event → Bool
 is_of_control (Opened session peer credits) = true
-is_of_control (Accepted session peer client credits) = true
+is_of_control (Accepted session peer client credits life) = true
 is_of_control (Declined peer client credits) = true
 is_of_control (Starved peer client credits) = true
-is_of_control (IsConnected session server) = true
+is_of_control (IsConnected session server life) = true
 is_of_control (FailedNoRoom session) = true
 is_of_control (FailedNoAnswer session) = true
 is_of_control (BeginsClosing session) = true
@@ -140,10 +146,10 @@ quiet-clients : (own clock : ℕ) (e : Event) (bytes : List ℕ) (head : Option 
     (body : List ℕ) (xs : List Client) → is_of_control e ≡ false
     → AllByRecursion (λ x. own_request own x ≡ None) xs
     → AllByRecursion (λ x. own_request own x ≡ None) (clients_after clock e bytes head body xs)
-quiet-clients own clock (PairedClient s peer t credits) bytes head body xs c h =
+quiet-clients own clock (PairedClient s peer t credits life) bytes head body xs c h =
     all-add (λ x. own_request own x ≡ None) xs _ h refl
 quiet-clients own clock (Opened s peer credits) bytes head body xs c h = false-true (sym c)
-quiet-clients own clock (IsConnected s t) bytes head body xs c h = false-true (sym c)
+quiet-clients own clock (IsConnected s t life) bytes head body xs c h = false-true (sym c)
 quiet-clients own clock (FailedNoRoom s) bytes head body xs c h = false-true (sym c)
 quiet-clients own clock (FailedNoAnswer s) bytes head body xs c h = false-true (sym c)
 quiet-clients own clock (BeginsClosing s) bytes head body xs c h = false-true (sym c)
@@ -482,7 +488,7 @@ module _ (still : Bool) where
   own-control not_still s peer h (Accepts t) =
       (record { who = refl; idle = refl; plain = λ e. absurd (not_still e); brings = λ e. tt }, tt)
   own-control not_still s peer h Ends =
-      own-session-end s.me not_still s.queued (named_end peer h.client h.server s.servers)
+      own-session-end s.me not_still s.queued (named_end peer h.client h.from_life h.server s.servers)
   own-control not_still s peer h (ConnectsSession t) =
       (record { who = refl; idle = refl; plain = λ e. absurd (not_still e); brings = λ e. tt }, tt)
   own-control not_still s peer h Fails =
@@ -498,18 +504,36 @@ module _ (still : Bool) where
       (own-finish s.lists.me (awaited h.finishes.job s.lists.servers) h.finishes.job
       h.finishes.answer))
 
-  hears-own : Owns Hears
-  hears-own s x t z h =
-      let row = control_row h.lacks h.front.peer h.header s.lists in
-      let not_still : still ≡ true → ⊥ = λ e. let none : slice_get s.lists.inbox 0 ≡ None = ap (λ xs. slice_get xs 0) (z e).inbox in let some = h.is_front in absurd (cc) in
+  takes-own : (still ≡ true → ⊥) → Owns TakesControl
+  takes-own not_still s x t z h =
       owns-goes s x t z h.goes (rw h.facts (
         record
             { who = refl; idle = refl; plain = λ e. absurd (not_still e); brings = λ e. tt },
-        own-append s.lists.me (control_facts s.lists h.front.peer h.header row) h.said
-            (own-control not_still s.lists h.front.peer h.header row)
-            (own-speaks s.lists.me not_still h.front.peer (control_reply s.lists.life h.header row)
-            h.said h.speaks),
+        tt,
       ))
+
+  outdated-own : (still ≡ true → ⊥) → (peer : ℕ) (h : ControlHeader) → Owns (EndsOutdated peer h)
+  outdated-own not_still peer h s x t z k =
+      owns-goes s x t z k.goes (rw k.facts (own-session-end s.lists.me not_still s.lists.queued (Some k.server)))
+
+  answers-own : (still ≡ true → ⊥) → (peer : ℕ) (h : ControlHeader) → Owns (AnswersControl peer h)
+  answers-own not_still peer h s x t z k =
+      let row = control_row k.lacks peer h s.lists in
+      owns-goes s x t z k.goes (rw k.facts (
+      own-append s.lists.me (control_facts s.lists peer h row) k.said
+      (own-control not_still s.lists peer h row)
+      (own-speaks s.lists.me not_still peer (control_reply s.lists.life h row) k.said k.speaks)
+      ))
+
+  hears-own : Owns Hears
+  hears-own s x t z h =
+      let not_still : still ≡ true → ⊥ = λ e. let none : slice_get s.lists.inbox 0 ≡ None = ap (λ xs. slice_get xs 0) (z e).inbox in let some = h.is_front in absurd (cc) in
+      let peer = h.front.peer in
+      owns-then TakesControl (Then (EndsAllOutdated peer h.header) (AnswersControl peer h.header))
+      (takes-own not_still)
+      (owns-then (EndsAllOutdated peer h.header) (AnswersControl peer h.header)
+      (owns-until (EndsOutdated peer h.header) (λ t. outdated peer h.header t.lists ≡ None)
+      (outdated-own not_still peer h.header)) (answers-own not_still peer h.header)) s x t z h.steps
 
   handling-own : (mode : ℕ → Mode) (lacks : Bool) (answer : List ℕ) (s : Lists) (peer : ℕ)
       (h : MessageHeader) (body : List ℕ) (k : Kind)
@@ -520,10 +544,18 @@ module _ (still : Bool) where
   handling-own mode lacks answer s peer h body Response =
       own-reply s.me (find (is_client h.session) s.clients) h body _
 
+  handled-own : (mode : ℕ → Mode) (lacks : Bool) (answer : List ℕ) (s : Lists) (peer : ℕ)
+      (h : MessageHeader) (body : List ℕ) (b : Bool)
+      → AllOwn still s.me (cond b (handling_by mode lacks answer h.kind s peer h body)
+      (plain s.me (Dropped StaleLife) ∷ []))
+  handled-own mode lacks answer s peer h body true = handling-own mode lacks answer s peer h body h.kind
+  handled-own mode lacks answer s peer h body false =
+      (record { who = refl; idle = refl; plain = λ e. refl; brings = λ e. tt }, tt)
+
   handles-own : (mode : ℕ → Mode) → Owns (Handles mode)
   handles-own mode s x t z h =
-      owns-goes s x t z h.goes (rw h.facts (handling-own mode h.lacks h.answer s.lists h.front.peer
-      h.header (body_of h.front.bytes) h.header.kind))
+      owns-goes s x t z h.goes (rw h.facts (handled-own mode h.lacks h.answer s.lists h.front.peer
+      h.header (body_of h.front.bytes) (h.header.to_life == s.lists.life)))
 
   retries-own : (timeout i : ℕ) → Owns (Retries timeout i)
   retries-own timeout i s x t z h =

@@ -7,7 +7,6 @@ use Rattle.packet_header.specs.Parts.{packet_count}
 use Rattle.packet_header.proofs.PartsLemmas.{front-whole, packet_count_above}
 use Rattle.rpc_base.specs.declared.event.Event.{Event}
 use Rattle.rpc_base.specs.declared.event.Event.TheVariants.{Asked, Begun, Ran, DoneOk, DoneTooSmall}
-use Rattle.rpc_base.specs.declared.fact.Fact.{Fact}
 use Rattle.rpc_laws.specs.Service.{Serving, AnswersAt}
 use Rattle.rpc_laws.specs.declared.tables.Asking.{Asking}
 use Rattle.rpc_laws.specs.declared.tables.Call.{Call}
@@ -16,39 +15,40 @@ use Rattle.rpc_laws.specs.declared.tables.Lists.{Lists}
 use Rattle.rpc_laws.specs.declared.tables.Progress.{Progress}
 use Rattle.rpc_laws.specs.declared.tables.Way.{Way}
 use Rattle.rpc_laws.specs.Calls.{is_active, is_waiting, asked_packets, known_packets}
-use Rattle.rpc_laws.specs.Facts.{plain, with_bytes, with_two}
 use Rattle.rpc_laws.specs.OwnAnswer.{served_by, AreEnds, IsCallOf, IsAnswerTo, OwnBegin, OwnRun, OwnEnd, OwnSize, OwnEvent}
 use Rattle.end_laws.proofs.Allowed.{HasSize, MayBegin, MayRun, MayEnd, MayFail, May}
 use Rattle.end_laws.proofs.ClientLemmas.{client-at, if-progress}
 use Rattle.end_laws.proofs.Known.{Tied, IsJoined, End, is_joined, Known, Begin, HasParts, GoodAnswer, GoodCall, GoodNode, TrueStart, IsTrue}
 use Rattle.end_laws.proofs.ListLemmas.{all-found}
 use Rattle.end_laws.proofs.RanLemmas.{run-of}
+use Rattle.rpc_laws.specs.Endpoints.{Endpoint, Lived, noted, noted_two, noted_with}
+use Rattle.end_laws.specs.TwoEnds.{peer_of}
 
-module _ (past : List Fact) where
+module _ (past : List Lived) where
   -- a call that began is one, by any names of its parts
-  pub call-of : (n s r : ℕ) (b : Begin) (c m t q y : ℕ) (ask : List ℕ) → TrueStart past n s r b
-      → b.what.number ≡ c → b.way.peer ≡ m → b.way.other ≡ t → r ≡ q → b.what.req_type ≡ y
+  pub call-of : (n : Endpoint) (s r : ℕ) (b : Begin) (c : ℕ) (m : Endpoint) (t q y : ℕ) (ask : List ℕ) → TrueStart past n s r b
+      → b.what.number ≡ c → peer_of b.way ≡ m → b.way.other ≡ t → r ≡ q → b.what.req_type ≡ y
       → b.what.ask ≡ ask → IsCallOf past n c m t q y b.what.room ask
   call-of n s r b c m t q y ask true_start number peer other request req_type bytes =
       let ends : AreEnds past n s m t =
-      subst (λ (x : ℕ). AreEnds past n s x t) peer
-      (subst (λ (x : ℕ). AreEnds past n s b.way.peer x) other true_start.ends) in
-      let one : with_bytes n (Asked b.what.number s b.what.req_type b.what.room) b.what.ask
-      ≡ with_bytes n (Asked c s y b.what.room) ask =
-      ap (λ (x : ℕ). with_bytes n (Asked x s b.what.req_type b.what.room) b.what.ask) number
-      ∙ (ap (λ (x : ℕ). with_bytes n (Asked c s x b.what.room) b.what.ask) req_type
-      ∙ ap (λ (x : List ℕ). with_bytes n (Asked c s y b.what.room) x) bytes) in
-      let other_fact : plain n (Begun b.what.number r) ≡ plain n (Begun c q) =
-      ap (λ (x : ℕ). plain n (Begun x r)) number
-      ∙ ap (λ (x : ℕ). plain n (Begun c x)) request in
+      subst (λ (x : Endpoint). AreEnds past n s x t) peer
+      (subst (λ (x : ℕ). AreEnds past n s (peer_of b.way) x) other true_start.ends) in
+      let one : noted_with n (Asked b.what.number s b.what.req_type b.what.room) b.what.ask
+      ≡ noted_with n (Asked c s y b.what.room) ask =
+      ap (λ (x : ℕ). noted_with n (Asked x s b.what.req_type b.what.room) b.what.ask) number
+      ∙ (ap (λ (x : ℕ). noted_with n (Asked c s x b.what.room) b.what.ask) req_type
+      ∙ ap (λ (x : List ℕ). noted_with n (Asked c s y b.what.room) x) bytes) in
+      let other_fact : noted n (Begun b.what.number r) ≡ noted n (Begun c q) =
+      ap (λ (x : ℕ). noted n (Begun x r)) number
+      ∙ ap (λ (x : ℕ). noted n (Begun c x)) request in
       record {
         session = s;
         ends = ends;
-        asked = subst (λ (f : Fact). Contains past f) one true_start.asked;
-        begun = subst (λ (f : Fact). Contains past f) other_fact true_start.begun;
+        asked = subst (λ (f : Lived). Contains past f) one true_start.asked;
+        begun = subst (λ (f : Lived). Contains past f) other_fact true_start.begun;
       }
 
-module _ (k : Known) (n : ℕ) (l : Lists) (good : GoodNode k n l) (is_true : IsTrue k) where
+module _ (k : Known) (n : Endpoint) (l : Lists) (good : GoodNode k n l) (is_true : IsTrue k) where
   own-begin : (c r : ℕ) → MayBegin l c r → OwnBegin k.past n c
   own-begin c r m =
       let way = m.client.way in
@@ -62,11 +62,11 @@ module _ (k : Known) (n : ℕ) (l : Lists) (good : GoodNode k n l) (is_true : Is
         room = a.room;
         ask = a.ask;
         asked = subst (λ (x : ℕ). Contains k.past
-            (with_bytes n (Asked x way.number a.req_type a.room) a.ask)) (sym m.number) asked.asked;
+            (noted_with n (Asked x way.number a.req_type a.room) a.ask)) (sym m.number) asked.asked;
       }
 
   own-run : (v : Serving) (t r y : ℕ) (first second : List ℕ)
-      → second ≡ v.answer (served_by v.mode n k.past) y first → MayRun l t r y first
+      → second ≡ v.answer (served_by v.mode n.node k.past) y first → MayRun l t r y first
       → OwnRun v k.past n t r y first second
   own-run v t r y first second answer m =
       let o = run-of k n l t r y first good m in
@@ -77,7 +77,7 @@ module _ (k : Known) (n : ℕ) (l : Lists) (good : GoodNode k n l) (is_true : Is
         room = a.room;
         own = call-of k.past o.end.home o.end.client r o.start a.number n t r y first
             (is_true.starts o.end.home o.end.client r o.start o.begun) refl
-            (ap (λ (w : Way). w.peer) o.way_is) (ap (λ (w : Way). w.other) o.way_is) refl
+            (ap peer_of o.way_is) (ap (λ (w : Way). w.other) o.way_is) refl
             (sym o.of_type) (sym o.own);
         right = answer;
       }
@@ -102,7 +102,7 @@ module _ (k : Known) (n : ℕ) (l : Lists) (good : GoodNode k n l) (is_true : Is
     pub session : ℕ
     pub way : Way
     pub limit : ℕ
-    pub end : k.ends way.peer way.other 0
+    pub end : k.ends (peer_of way) way.other 0
         ≡ Some (record { home = n; client = session; credits = limit })
     pub begun : k.starts n session p.request ≡ Some (record { way = way; what = call.what })
     pub parts : HasParts k way call.what p.request p.got p.parts size
@@ -143,7 +143,7 @@ module _ (k : Known) (n : ℕ) (l : Lists) (good : GoodNode k n l) (is_true : Is
       let a = call.what in
       let b : Begin = record { way = way; what = a } in
       let r = p.request in
-      let run = is_true.runs way.peer way.other r _ s.parts.ran in
+      let run = is_true.runs (peer_of way) way.other r _ s.parts.ran in
       let end : run.end ≡ record { home = n; client = s.session; credits = s.limit } =
       some-end run.end _ (sym run.is_end ∙ s.end) in
       let here : k.starts n s.session r ≡ Some run.start =
@@ -154,7 +154,7 @@ module _ (k : Known) (n : ℕ) (l : Lists) (good : GoodNode k n l) (is_true : Is
       let is : TrueStart run.earlier n s.session r b =
       subst (TrueStart run.earlier n s.session r) start was in
       record {
-        node = way.peer;
+        node = peer_of way;
         session = way.other;
         request = r;
         req_type = a.req_type;
@@ -162,8 +162,8 @@ module _ (k : Known) (n : ℕ) (l : Lists) (good : GoodNode k n l) (is_true : Is
         later = run.later;
         earlier = run.earlier;
         ran = subst (λ (x : List ℕ). k.past ≡ run.later
-            ++ with_two way.peer (Ran way.other r a.req_type) a.ask x ∷ run.earlier) whole run.stands;
-        call = call-of run.earlier n s.session r b c way.peer way.other r a.req_type a.ask is
+            ++ noted_two (peer_of way) (Ran way.other r a.req_type) a.ask x ∷ run.earlier) whole run.stands;
+        call = call-of run.earlier n s.session r b c (peer_of way) way.other r a.req_type a.ask is
             (sym s.number) refl refl refl refl refl;
       }
 
@@ -194,7 +194,7 @@ module _ (k : Known) (n : ℕ) (l : Lists) (good : GoodNode k n l) (is_true : Is
       }
 
   pub own-event : (v : Serving) (hand : Option InFlight) (e : Event) (first second : List ℕ)
-      → AnswersAt v (served_by v.mode n k.past) e first second → May hand l e first second
+      → AnswersAt v (served_by v.mode n.node k.past) e first second → May hand l e first second
       → OwnEvent v k.past n e first second
   own-event v hand (Begun c r) first second answer m = own-begin c r m.0
   own-event v hand (Ran t r y) first second answer m = own-run v t r y first second answer m

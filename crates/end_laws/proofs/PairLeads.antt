@@ -12,6 +12,7 @@ use Rattle.rpc_laws.specs.declared.tables.InFlight.{InFlight}
 use Rattle.rpc_laws.specs.declared.tables.Lists.{Lists}
 use Rattle.rpc_laws.specs.declared.tables.Timed.{Timed}
 use Rattle.rpc_laws.specs.BufferSafety.{changed}
+use Rattle.rpc_laws.specs.Endpoints.{Lived, life_by, told}
 use Rattle.rpc_laws.specs.Facts.{plain}
 use Rattle.rpc_laws.specs.Groups.{clients_spent, servers_spent, pair_refusal, shares}
 use Rattle.rpc_laws.specs.declared.tables.WorkedJob.{WorkedJob}
@@ -21,7 +22,7 @@ use Rattle.rpc_laws.specs.NodeLists.{after}
 use Rattle.script_grammar.specs.declared.line.Command.{Command}
 use Rattle.script_grammar.specs.declared.line.Command.TheVariants.{Node, Pair, Connect, Disconnect}
 use Rattle.script_grammar.specs.declared.line.Command.TheVariants.{Rate, Call, Poll, Arrive, Lose}
-use Rattle.script_grammar.specs.declared.line.Command.TheVariants.{Repeat, Tick, Work, Settle}
+use Rattle.script_grammar.specs.declared.line.Command.TheVariants.{Repeat, Restart, Tick, Work, Settle}
 use Rattle.script_grammar.specs.declared.line.Line.{Line}
 use Rattle.sim_script.specs.FollowsScript.{ask_bytes, noted, PairsEnds, PairsBy, Pairs, Does}
 use Rattle.sim_script.specs.FollowsScript.{FollowsFrom, Follows, empty_stage}
@@ -32,9 +33,9 @@ use Rattle.end_laws.specs.TwoNodes.{PairsTwo, PairsTwoNodes}
 use Rattle.end_laws.proofs.Allowed.{May, Linked}
 use Rattle.end_laws.proofs.CommandLeads.{connect-leads, disconnect-leads, rate-leads, lose-leads}
 use Rattle.end_laws.proofs.CommandLeads.{repeat-leads, tick-leads, work-leads, made-leads}
-use Rattle.end_laws.proofs.CommandLeads.{call-leads, poll-leads, arrive-leads, settles-lead}
+use Rattle.end_laws.proofs.CommandLeads.{call-leads, poll-leads, arrive-leads, restart-leads, settles-lead}
 use Rattle.end_laws.proofs.Courses.{latest, Course, over, pairs, client_fact, server_fact, paired}
-use Rattle.end_laws.proofs.Leads.{NodeFits, Fits, Leads, Leading, leads-none, leads-append, step-stays}
+use Rattle.end_laws.proofs.Leads.{NodeFits, Fits, Leads, Leading, leads-none, leads-append, life-kept, step-stays}
 use Rattle.end_laws.proofs.ListLemmas.{Placed, set-placed, length-slice_set}
 use Rattle.end_laws.proofs.SendsLaw.{right-client, right-served}
 
@@ -116,11 +117,14 @@ ends-lead a b credits client server s w x t f two is_client is_server fits_clien
     let other : Fact = server_fact a b credits c v in
     let is_one : h.at_client ≡ one =
     h.for_client ∙ ap (λ (n : ℕ). plain n
-    (PairedClient (length c.clients) b v.server_numbers credits)) cf.me in
+    (PairedClient (length c.clients) b v.server_numbers credits v.life)) cf.me in
     let is_other : h.at_server ≡ other =
     h.for_server ∙ ap (λ (n : ℕ). plain n
-    (PairedServer v.server_numbers a (length c.clients) credits)) sf.me in
+    (PairedServer v.server_numbers a (length c.clients) credits c.life)) sf.me in
     let u = paired w a b credits c v in
+    let past1 : List Lived = told w.past one ∷ w.past in
+    let lives : (j : ℕ) → life_by j u.past ≡ life_by j w.past =
+    λ j. life-kept j (told past1 other) past1 refl ∙ life-kept j (told w.past one) w.past refl in
     let nodes1 : List Lists = slice_set w.nodes a (after w.clock c one) in
     let nodes2 : List Lists = slice_set nodes1 b (after w.clock v other) in
     let first : changed w.clock (slice_get w.nodes a) a w.nodes one ≡ nodes1 =
@@ -133,33 +137,35 @@ ends-lead a b credits client server s w x t f two is_client is_server fits_clien
     let stage1 : List Timed = slice_set s.nodes a (noted client one) in
     let at_stage : slice_get stage1 b ≡ Some server =
     set-other s.nodes a b (noted client one) (λ e. two (sym e)) ∙ is_server in
-    let keep : (n : ℕ) (z : Timed) → (n ≡ a → ⊥) → slice_get s.nodes n ≡ Some z → NodeFits s.clock nodes1 n z = λ n z ne is. let k = f.nodes n z is in record { is_node = set-other w.nodes a n (after w.clock c one) ne ∙ k.is_node; me = k.me; late = k.late; right = k.right; valid = k.valid } in
-    let here : NodeFits s.clock nodes1 a (noted client one) =
+    let keep : (n : ℕ) (z : Timed) → (n ≡ a → ⊥) → slice_get s.nodes n ≡ Some z → NodeFits s.clock nodes1 u.past n z = λ n z ne is. let k = f.nodes n z is in record { is_node = set-other w.nodes a n (after w.clock c one) ne ∙ k.is_node; me = k.me; life = k.life ∙ sym (lives n); late = k.late; right = k.right; valid = k.valid } in
+    let here : NodeFits s.clock nodes1 u.past a (noted client one) =
     record {
       is_node = set-here w.nodes a c (after w.clock c one) cf.is_node;
       me = cf.me;
+      life = cf.life ∙ sym (lives a);
       late = cf.late;
       right = right-client client.clock a b credits c v cf.right;
       valid =
           valid_after client.clock c one cf.valid
           (record { numbered = refl; room = has-room credits c fits_client });
     } in
-    let placed1 : Placed (NodeFits s.clock nodes1) stage1 =
-    set-placed (NodeFits s.clock nodes1) s.nodes a client (noted client one) is_client here
+    let placed1 : Placed (NodeFits s.clock nodes1 u.past) stage1 =
+    set-placed (NodeFits s.clock nodes1 u.past) s.nodes a client (noted client one) is_client here
     keep in
-    let keep2 : (n : ℕ) (z : Timed) → (n ≡ b → ⊥) → slice_get stage1 n ≡ Some z → NodeFits s.clock nodes2 n z = λ n z ne is. let k = placed1 n z is in record { is_node = set-other nodes1 b n (after w.clock v other) ne ∙ k.is_node; me = k.me; late = k.late; right = k.right; valid = k.valid } in
-    let here2 : NodeFits s.clock nodes2 b (noted server other) =
+    let keep2 : (n : ℕ) (z : Timed) → (n ≡ b → ⊥) → slice_get stage1 n ≡ Some z → NodeFits s.clock nodes2 u.past n z = λ n z ne is. let k = placed1 n z is in record { is_node = set-other nodes1 b n (after w.clock v other) ne ∙ k.is_node; me = k.me; life = k.life; late = k.late; right = k.right; valid = k.valid } in
+    let here2 : NodeFits s.clock nodes2 u.past b (noted server other) =
     record {
       is_node = set-here nodes1 b v (after w.clock v other) at_b;
       me = sf.me;
+      life = sf.life ∙ sym (lives b);
       late = sf.late;
       right = right-served server.clock b a credits c v sf.right;
       valid =
           valid_after server.clock v other sf.valid
           (record { numbered = refl; room = has-room credits v fits_server });
     } in
-    let placed2 : Placed (NodeFits s.clock nodes2) (slice_set stage1 b (noted server other)) =
-    set-placed (NodeFits s.clock nodes2) stage1 b server (noted server other) at_stage here2
+    let placed2 : Placed (NodeFits s.clock nodes2 u.past) (slice_set stage1 b (noted server other)) =
+    set-placed (NodeFits s.clock nodes2 u.past) stage1 b server (noted server other) at_stage here2
     keep2 in
     let facts : x ≡ one ∷ other ∷ [] =
     h.facts ∙ (ap (λ (z : Fact). z ∷ h.at_server ∷ []) is_one
@@ -178,8 +184,10 @@ ends-lead a b credits client server s w x t f two is_client is_server fits_clien
       clock = f.clock;
       flight = f.flight;
       size = sizes;
-      nodes = subst (λ (ns : List Lists). Placed (NodeFits s.clock ns)
+      nodes = subst (λ (ns : List Lists). Placed (NodeFits s.clock ns u.past)
           (slice_set stage1 b (noted server other))) (sym all) placed2;
+      unborn = λ j le. lives j ∙ f.unborn j (subst (λ (k : ℕ). k ≤ j)
+          (length-slice_set stage1 b (noted server other) ∙ length-slice_set s.nodes a (noted client one)) le);
     } in
     rw (facts, left) (record {
       end = u;
@@ -187,6 +195,8 @@ ends-lead a b credits client server s w x t f two is_client is_server fits_clien
         is_client = cf.is_node;
         is_server = sf.is_node;
         two = two;
+        client_life = cf.life;
+        server_life = sf.life;
         fits_client = has-room credits c fits_client;
         fits_server =
             has-room credits v fits_server;
@@ -224,6 +234,7 @@ does-lead (Repeat i) p = repeat-leads i
 does-lead (Tick by) p = tick-leads by
 does-lead (Work n i) p = work-leads n i
 does-lead (Settle rounds) p = settles-lead rounds
+does-lead (Restart n) p = restart-leads n
 
 pub follows-lead : (lines : List Line) → PairsTwoNodes lines → Leading (FollowsFrom lines)
 follows-lead [] p s w h t f d = leads-none s t w h f d.0 d.1
@@ -233,7 +244,7 @@ follows-lead (line ∷ lines) p s w h t f d =
     (follows-lead lines p.1 d.between l.end d.rest t l.fits d.follows))
 
 pub empty-fits : Fits empty_stage first_moment
-empty-fits = record { clock = refl; flight = refl; size = refl; nodes = λ j z h. cc }
+empty-fits = record { clock = refl; flight = refl; size = refl; nodes = λ j z h. cc; unborn = λ n le. refl }
 
 -- a history that follows a script is one that the rules make
 pub record IsCourse (h : List Fact) : Type 0 where

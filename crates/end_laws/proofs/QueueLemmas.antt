@@ -84,9 +84,9 @@ pub slots-right : (hand : Option InFlight) (l : Lists) (e : Event) (first second
     → JobsRight l.servers l.server_numbers l.jobs → May hand l e first second
     → SlotsRight l.servers → SlotsRight (servers_after e second (front_header l.ring)
     (front_body l.ring) l.servers)
-slots-right hand l (PairedServer t peer s credits) first second j m h = absurd m
-slots-right hand l (Accepted t peer s credits) first second j m h =
-    all-add (λ v. AllByRecursion SlotRight v.slots) l.servers (server_end t peer s credits) h tt
+slots-right hand l (PairedServer t peer s credits life) first second j m h = absurd m
+slots-right hand l (Accepted t peer s credits life) first second j m h =
+    all-add (λ v. AllByRecursion SlotRight v.slots) l.servers (server_end t peer s credits life) h tt
 slots-right hand l (Ended t) first second j m h =
     all-without (λ v. AllByRecursion SlotRight v.slots) (is_server t) l.servers h
 slots-right hand l (Took (Ask s r) k) first second j m h = h
@@ -265,9 +265,9 @@ stood-added xs y t r k h =
 stood-after : (hand : Option InFlight) (l : Lists) (e : Event) (first second : List ℕ) (t r k : ℕ)
     → is_end e ≡ false → Sound l → May hand l e first second → Stood l.servers t r k
     → Stood (servers_after e second (front_header l.ring) (front_body l.ring) l.servers) t r k
-stood-after hand l (PairedServer n peer s credits) first second t r k q i m h = absurd m
-stood-after hand l (Accepted n peer s credits) first second t r k q i m h =
-    stood-added l.servers (server_end n peer s credits) t r k h
+stood-after hand l (PairedServer n peer s credits life) first second t r k q i m h = absurd m
+stood-after hand l (Accepted n peer s credits life) first second t r k q i m h =
+    stood-added l.servers (server_end n peer s credits life) t r k h
 stood-after hand l (Ended n) first second t r k q i m h = false-true (sym q)
 stood-after hand l (Took (Ask s n) j) first second t r k q i m h = h
 stood-after hand l (Took Control j) first second t r k q i m h = h

@@ -11,12 +11,10 @@ use Rattle.node_laws.specs.Valid.{Valid, to_run}
 use Rattle.rpc_base.specs.Tables.{at_first}
 use Rattle.rpc_base.proofs.TakingLemmas.{find-passes}
 use Rattle.rpc_base.specs.declared.event.Event.TheVariants.{Ran}
-use Rattle.rpc_base.specs.declared.fact.Fact.{Fact}
 use Rattle.rpc_laws.specs.declared.tables.InFlight.{InFlight}
 use Rattle.rpc_laws.specs.declared.tables.Lists.{Lists}
 use Rattle.rpc_laws.specs.declared.tables.Served.{Served}
 use Rattle.rpc_laws.specs.declared.tables.Server.{Server}
-use Rattle.rpc_laws.specs.Facts.{with_two}
 use Rattle.rpc_laws.specs.NodeLists.{after}
 use Rattle.rpc_laws.specs.Requests.{is_server, is_request, answered}
 use Rattle.rpc_laws.specs.Jobs.{is_job}
@@ -24,26 +22,29 @@ use Rattle.end_laws.proofs.Allowed.{MayServe, MayFinish, MayRun}
 use Rattle.end_laws.proofs.GoodLemmas.{SameAt, client-more, run-left, starts-stay}
 use Rattle.end_laws.proofs.JobSteps.{whole-ask, whole-good, jobs-good}
 use Rattle.end_laws.proofs.Known.{Known, Later, End, Begin, Run, GoodServed, GoodServer, GoodJob}
-use Rattle.end_laws.proofs.Known.{GoodNode, IsWay}
+use Rattle.end_laws.proofs.Known.{GoodNode}
 use Rattle.end_laws.proofs.Known.{TrueRun, IsTrue, added, added-here, added-keeps}
-use Rattle.end_laws.proofs.Known.{added-none, added-case, contains-here, contains-more}
+use Rattle.end_laws.proofs.Known.{added-none, added-case, contains-more}
 use Rattle.end_laws.proofs.KnownLemmas.{run-more, served-later, server-later, session-later, jobs-later}
 use Rattle.end_laws.proofs.KnownLemmas.{server-more-end}
 use Rattle.end_laws.proofs.KnownLemmas.{start-more, ask-more}
 use Rattle.end_laws.proofs.ListLemmas.{all-first, all-found}
 use Rattle.end_laws.proofs.Rights.{job-number}
+use Rattle.rpc_laws.specs.Endpoints.{Endpoint, Lived, noted_two}
+use Rattle.end_laws.specs.TwoEnds.{peer_of}
 
 -- the request that runs is of a call that began, and the handler has that call's bytes
-pub record RunOf (k : Known) (n t r y : ℕ) (ask : List ℕ) : Type 0 where
+pub record RunOf (k : Known) (n : Endpoint) (t r y : ℕ) (ask : List ℕ) : Type 0 where
   pub end : End
   pub is_end : k.ends n t 0 ≡ Some end
   pub start : Begin
   pub begun : k.starts end.home end.client r ≡ Some start
-  pub way_is : IsWay start.way end.client n t
+  pub way_is : start.way
+      ≡ record { number = end.client; peer = n.node; other = t; life = n.life }
   pub of_type : y ≡ start.what.req_type
   pub own : ask ≡ start.what.ask
 
-serve-of : (k : Known) (n : ℕ) (l : Lists) (t r y : ℕ) (ask : List ℕ) → GoodNode k n l
+serve-of : (k : Known) (n : Endpoint) (l : Lists) (t r y : ℕ) (ask : List ℕ) → GoodNode k n l
     → MayServe l t r y ask → RunOf k n t r y ask
 serve-of k n l t r y ask g m =
     let w = m.has in
@@ -53,21 +54,20 @@ serve-of k n l t r y ask g m =
     let number : q.number ≡ r = eqb-true q.number r
     (find-passes (is_request r) v.slots q w.is_there) in
     record {
-      end = record { home = v.way.peer; client = v.way.other; credits = v.credits };
+      end = record { home = peer_of v.way; client = v.way.other; credits = v.credits };
       is_end = subst (λ (s : ℕ). k.ends n s 0 ≡ Some
-          (record { home = v.way.peer; client = v.way.other; credits = v.credits }))
+          (record { home = peer_of v.way; client = v.way.other; credits = v.credits }))
           h.number h.server.session.end;
       start = h.served.start;
-      begun = subst (λ (i : ℕ). k.starts v.way.peer v.way.other i ≡ Some h.served.start) number
+      begun = subst (λ (i : ℕ). k.starts (peer_of v.way) v.way.other i ≡ Some h.served.start) number
           h.served.begun;
       way_is = h.served.way_is ∙ ap (λ (s : ℕ).
-          record { number = v.way.other; peer = n; other = s; life = h.served.start.way.life })
-          h.number;
+          record { number = v.way.other; peer = n.node; other = s; life = n.life }) h.number;
       of_type = m.of_type ∙ h.served.req_type;
       own = m.own ∙ whole-ask k n l t r w h.served;
     }
 
-finish-of : (k : Known) (n : ℕ) (l : Lists) (t r y : ℕ) (ask : List ℕ) → GoodNode k n l
+finish-of : (k : Known) (n : Endpoint) (l : Lists) (t r y : ℕ) (ask : List ℕ) → GoodNode k n l
     → MayFinish l t r y ask → RunOf k n t r y ask
 finish-of k n l t r y ask g m =
     let job = m.job in
@@ -80,8 +80,7 @@ finish-of k n l t r y ask g m =
       begun = subst (λ (i : ℕ). k.starts good.end.home good.end.client i ≡ Some good.start) of.1
           good.begun;
       way_is = good.way_is ∙ ap (λ (s : ℕ).
-          record { number = good.end.client; peer = n; other = s; life = good.start.way.life })
-          of.0;
+          record { number = good.end.client; peer = n.node; other = s; life = n.life }) of.0;
       of_type = m.of_type ∙ good.req_type;
       own = m.own ∙ good.own;
     }
@@ -93,43 +92,43 @@ some-begin : (a b : Begin) → Some a ≡ Some b → a ≡ b
 some-begin a b e = cc
 
 -- the call of what runs is that of its slot
-slot-start : (k : Known) (n : ℕ) (v : Server) (q : Served) (t r y : ℕ) (ask : List ℕ)
+slot-start : (k : Known) (n : Endpoint) (v : Server) (q : Served) (t r y : ℕ) (ask : List ℕ)
     → (o : RunOf k n t r y ask) → GoodServer k n v → v.way.number ≡ t → q.number ≡ r
     → (g : GoodServed k n v.way q) → o.start ≡ g.start
 slot-start k n v q t r y ask o server at number g =
     let end : k.ends n t 0 ≡ Some (record {
-      home = v.way.peer;
+      home = peer_of v.way;
       client = v.way.other;
       credits = v.credits;
     }) =
     subst (λ (s : ℕ). k.ends n s 0 ≡ Some
-    (record { home = v.way.peer; client = v.way.other; credits = v.credits }))
+    (record { home = peer_of v.way; client = v.way.other; credits = v.credits }))
     at server.session.end in
-    let same : o.end ≡ record { home = v.way.peer; client = v.way.other; credits = v.credits } =
+    let same : o.end ≡ record { home = peer_of v.way; client = v.way.other; credits = v.credits } =
     some-end o.end _ (sym o.is_end ∙ end) in
-    let here : k.starts v.way.peer v.way.other r ≡ Some o.start =
+    let here : k.starts (peer_of v.way) v.way.other r ≡ Some o.start =
     subst (λ (x : End). k.starts x.home x.client r ≡ Some o.start) same o.begun in
     some-begin o.start g.start (sym here
-    ∙ (ap (k.starts v.way.peer v.way.other) (sym number) ∙ g.begun))
+    ∙ (ap (k.starts (peer_of v.way) v.way.other) (sym number) ∙ g.begun))
 
-pub run-of : (k : Known) (n : ℕ) (l : Lists) (t r y : ℕ) (ask : List ℕ) → GoodNode k n l
+pub run-of : (k : Known) (n : Endpoint) (l : Lists) (t r y : ℕ) (ask : List ℕ) → GoodNode k n l
     → MayServe l t r y ask ⊎ MayFinish l t r y ask → RunOf k n t r y ask
 run-of k n l t r y ask g (inl m) = serve-of k n l t r y ask g m
 run-of k n l t r y ask g (inr m) = finish-of k n l t r y ask g m
 
 -- a request runs
-abbrev pub with_run : Known → (n t r y : ℕ) → (ask answer : List ℕ) → Known
+abbrev pub with_run : Known → (n : Endpoint) (t r y : ℕ) → (ask answer : List ℕ) → Known
 with_run k n t r y ask answer = record {
-  past = with_two n (Ran t r y) ask answer ∷ k.past;
+  past = noted_two n (Ran t r y) ask answer ∷ k.past;
   ends = k.ends;
   asks = k.asks;
   starts = k.starts;
   runs = added k.runs n t r (record { req_type = y; ask = ask; answer = answer });
 }
 
-module _ (k : Known) (n t r y : ℕ) (ask answer : List ℕ) where
-  abbrev ran_fact : Fact
-  ran_fact = with_two n (Ran t r y) ask answer
+module _ (k : Known) (n : Endpoint) (t r y : ℕ) (ask answer : List ℕ) where
+  abbrev ran_fact : Lived
+  ran_fact = noted_two n (Ran t r y) ask answer
 
   abbrev entry : Run
   entry = record { req_type = y; ask = ask; answer = answer }
@@ -146,7 +145,7 @@ module _ (k : Known) (n t r y : ℕ) (ask answer : List ℕ) where
     runs = λ i j m x h. added-keeps k.runs n t r entry i j m x none h;
   }
 
-  pub run-same : (j : ℕ) → (j ≡ n → ⊥) → SameAt k knows j
+  pub run-same : (j : Endpoint) → (j ≡ n → ⊥) → SameAt k knows j
   run-same j ne = record {
     asks = λ d h. h;
     ends = λ s h. h;
@@ -179,10 +178,10 @@ module _ (k : Known) (n t r y : ℕ) (ask answer : List ℕ) where
     runs-itself : runs_request t r (Ran t r y) ≡ true
     runs-itself = rw (eq-eqb t t refl, eq-eqb r r refl) refl
 
-    spent : (clock : ℕ) → 1 + to_run t r (after clock l ran_fact) ≤ to_run t r l
+    spent : (clock : ℕ) → 1 + to_run t r (after clock l ran_fact.fact) ≤ to_run t r l
     spent clock =
-        let all = run-spends t r l valid clock ran_fact lawful in
-        subst (λ (b : Bool). cond b 1 0 + to_run t r (after clock l ran_fact) ≤ to_run t r l)
+        let all = run-spends t r l valid clock ran_fact.fact lawful in
+        subst (λ (b : Bool). cond b 1 0 + to_run t r (after clock l ran_fact.fact) ≤ to_run t r l)
         runs-itself all
 
     -- its first run
@@ -228,7 +227,7 @@ module _ (k : Known) (n t r y : ℕ) (ask answer : List ℕ) where
     ran-server later v found server =
         let at = eqb-true v.way.number t (find-passes (is_server t) l.servers v found) in
         record {
-          session = session-later k knows later n v.way.number v.way.peer v.way.other v.credits
+          session = session-later k knows later n v.way.number (peer_of v.way) v.way.other v.credits
               server.session;
           slots = all-first (GoodServed k n v.way) (GoodServed knows n v.way) (is_request r)
               (answered answer) v.slots (served-later k knows later n v.way)
@@ -237,12 +236,12 @@ module _ (k : Known) (n t r y : ℕ) (ask answer : List ℕ) where
         }
 
     no-more : (clock : ℕ) (s q : ℕ) (b : Bool) → (s == t && q == r) ≡ b
-        → 1 ≤ to_run s q (after clock l ran_fact) → knows.runs n s q ≡ None
+        → 1 ≤ to_run s q (after clock l ran_fact.fact) → knows.runs n s q ≡ None
     no-more clock s q true e some =
         let parts = and_parts (s == t) (q == r) e in
-        let here : 1 ≤ to_run t r (after clock l ran_fact) =
-        subst (λ (x : ℕ). 1 ≤ to_run x r (after clock l ran_fact)) (eqb-true s t parts.0)
-        (subst (λ (x : ℕ). 1 ≤ to_run s x (after clock l ran_fact)) (eqb-true q r parts.1) some) in
+        let here : 1 ≤ to_run t r (after clock l ran_fact.fact) =
+        subst (λ (x : ℕ). 1 ≤ to_run x r (after clock l ran_fact.fact)) (eqb-true s t parts.0)
+        (subst (λ (x : ℕ). 1 ≤ to_run s x (after clock l ran_fact.fact)) (eqb-true q r parts.1) some) in
         let less = spent clock in
         let few = valid.runs t r in
         absurd (omega arith)
@@ -250,10 +249,10 @@ module _ (k : Known) (n t r y : ℕ) (ask answer : List ℕ) where
         added-none k.runs n t r entry n s q
         (λ x f h. false-true (sym e ∙ (let one : (s == t) ≡ true = eq-eqb s t f in
         let two : (q == r) ≡ true = eq-eqb q r h in rw (one, two) refl)))
-        (g.no_runs s q (run-left l ran_fact valid lawful clock s q some))
+        (g.no_runs s q (run-left l ran_fact.fact valid lawful clock s q some))
 
     pub run-node : (clock : ℕ) (hand : Option InFlight) → MayRun l t r y ask
-        → GoodNode knows n (after clock l ran_fact)
+        → GoodNode knows n (after clock l ran_fact.fact)
     run-node clock hand m =
         let later = later-run is-new in
         let jobs = jobs-good k n hand l (Ran t r y) ask answer m g in
@@ -267,6 +266,6 @@ module _ (k : Known) (n t r y : ℕ) (ask answer : List ℕ) where
           no_asks = λ c le. g.no_asks c le;
           no_ends = λ s le. g.no_ends s le;
           no_starts = λ s q le. g.no_starts s q le;
-          begun = λ s q b is. starts-stay l ran_fact valid lawful clock s b (g.begun s q b is);
+          begun = λ s q b is. starts-stay l ran_fact.fact valid lawful clock s b (g.begun s q b is);
           no_runs = λ s q some. no-more clock s q (s == t && q == r) refl some;
         }

@@ -33,7 +33,7 @@ use Rattle.rpc_laws.specs.ClientTable.{end_row, end_facts, reply_facts}
 use Rattle.rpc_laws.specs.Facts.{plain}
 use Rattle.rpc_laws.specs.Front.{front_bytes, front_header, front_body}
 use Rattle.rpc_laws.specs.NodeLists.{after}
-use Rattle.rpc_laws.specs.PollOrder.{Handles, HandlesAll, PostsAll, SendsAll, Closes, handling_by}
+use Rattle.rpc_laws.specs.PollOrder.{Handles, HandlesAll, PostsAll, SendsAll, Closes, handled, handling_by}
 use Rattle.rpc_outside.specs.declared.service.Mode.{Mode}
 use Rattle.rpc_laws.specs.ControlSteps.{HearsAll, TimesAll}
 use Rattle.rpc_laws.specs.declared.tables.WorkedJob.{WorkedJob}
@@ -51,6 +51,8 @@ use Rattle.end_laws.proofs.RowSteps.{asks-walk}
 use Rattle.end_laws.proofs.SendsLaw.{right-stays}
 use Rattle.end_laws.proofs.Walks.{Fine, walked-goes, fine-then, fine-until}
 use Rattle.end_laws.proofs.WorkSteps.{finishes-worked}
+use Rattle.rpc_base.specs.declared.event.Event.TheVariants.{Dropped}
+use Rattle.rpc_base.specs.declared.state.DropReason.TheVariants.{StaleLife}
 
 -- what is known where a reply is taken
 pub record Replying (l : Lists) (front : Arrival) (h : MessageHeader) (x : Client) (c : Call)
@@ -291,18 +293,30 @@ pub front-is : (ring : List Arrival) (front : Arrival) → slice_get ring 0 ≡ 
 front-is [] front h = cc
 front-is (d ∷ ds) front h = let same : d ≡ front = cc in ap (λ (a : Arrival). a.bytes) same
 
+-- where it is for another life, it is dropped
+handled-walk : (mode : ℕ → Mode) (hand : Option InFlight) (clock : ℕ) (l : Lists) (front : Arrival) (h : MessageHeader)
+    (lacks : Bool) (answer : List ℕ) (b : Bool) → (h.to_life == l.life) ≡ b
+    → slice_get l.ring 0 ≡ Some front → front_header l.ring ≡ Some h → RightNode l
+    → Walks hand clock l (cond b (handling_by mode lacks answer h.kind l front.peer h
+    (front_body l.ring)) (plain l.me (Dropped StaleLife) ∷ []))
+handled-walk mode hand clock l front h lacks answer true e is reads s =
+    kind-walk mode hand clock l front h lacks answer h.kind refl
+    (record { is_front = is; reads = reads; for_us = eqb-true h.to_life l.life e }) s
+handled-walk mode hand clock l front h lacks answer false e is reads s =
+    (record { who = refl; may = tt }, tt, tt)
+
 pub handles-fine : (mode : ℕ → Mode) → Fine RightNode (Handles mode)
 handles-fine mode hand s x t i h =
-    let bytes = front-is s.lists.ring h.front h.is_front in
-    let reads : front_header s.lists.ring ≡ Some h.header = ap message_of bytes ∙ h.reads in
-    let walk = kind-walk mode hand s.clock s.lists h.front h.header h.lacks h.answer h.header.kind refl
-    (record { is_front = h.is_front; reads = reads }) i in
-    let same : handling_by mode h.lacks h.answer h.header.kind s.lists h.front.peer h.header
-    (front_body s.lists.ring) ≡ x =
-    ap (λ (b : List ℕ). handling_by mode h.lacks h.answer h.header.kind s.lists
-    h.front.peer h.header (body_of b)) bytes ∙ sym h.facts in
+    let l = s.lists in
+    let bytes = front-is l.ring h.front h.is_front in
+    let reads : front_header l.ring ≡ Some h.header = ap message_of bytes ∙ h.reads in
+    let walk = handled-walk mode hand s.clock l h.front h.header h.lacks h.answer
+    (h.header.to_life == l.life) refl h.is_front reads i in
+    let same : handled mode h.lacks h.answer l h.front.peer h.header (front_body l.ring) ≡ x =
+    ap (λ (b : List ℕ). handled mode h.lacks h.answer l h.front.peer h.header (body_of b)) bytes
+    ∙ sym h.facts in
     walked-goes RightNode right-stays hand s x t i
-    (subst (λ (y : List Fact). Walks hand s.clock s.lists y) same walk) h.goes
+    (subst (λ (y : List Fact). Walks hand s.clock l y) same walk) h.goes
 
 -- a poll at the node's clock
 pub poll-fine : (mode : ℕ → Mode) (worked : List WorkedJob)

@@ -1,7 +1,7 @@
 -- What is always so of the requests in the slots of a node, and of its jobs, by the rules alone.
 use Rattle.std.proofs.Common.{◌≡◌, ◌==◌, ◌<◌, ◌≤◌, ◌+◌, ◌-◌, ◌*◌, min, ◌⊎◌, inl, inr, ℕ, Bool, true}
 use Rattle.std.proofs.Common.{false, List, [], ◌++◌, length, Option, Some, None, refl, ap, ◌∙◌}
-use Rattle.std.proofs.Common.{subst, arith, leb-false}
+use Rattle.std.proofs.Common.{subst, arith}
 use Rattle.std.specs.Prelude.{count_by, option_map}
 use Rattle.std.specs.List.{find, list_any, AllByRecursion}
 use Rattle.std.proofs.lemmas.Bool.{eqb-true, and_parts}

@@ -253,7 +253,11 @@ flushed-then mode hand latest clock l front h v going answer owner (k ∷ ks) t 
   flushed-then mode hand (Some (plain l.me (Flushed owner k))) clock
       (after clock l (plain l.me (Flushed owner k))) front h v going answer owner ks
       (record {
-        is_front = record { is_front = t.is_front.is_front; reads = t.is_front.reads };
+        is_front = record {
+          is_front = t.is_front.is_front;
+          reads = t.is_front.reads;
+          for_us = t.is_front.for_us;
+        };
         found = t.found;
         of_peer = t.of_peer;
         takes = t.takes;

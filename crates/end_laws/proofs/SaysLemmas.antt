@@ -48,15 +48,18 @@ use Rattle.end_laws.proofs.Known.{Known, HasRun, SaysResponse, Says, Speaks, Goo
 use Rattle.end_laws.proofs.Known.{IsJoined, IsSession, Tells, GoodClient, GoodServed, GoodNode}
 use Rattle.end_laws.proofs.ListLemmas.{all-found}
 use Rattle.end_laws.proofs.ServerLemmas.{server-at}
+use Rattle.rpc_laws.specs.Endpoints.{Endpoint}
+use Rattle.rpc_laws.specs.Sessions.{is_with}
+use Rattle.end_laws.specs.TwoEnds.{peer_of}
 
 -- what a packet says
 abbrev pub PacketSays : Known → (from to : ℕ) → Packet → List ℕ → Type 0
 PacketSays k from to (Message m) body = Says m.kind k from to m body
 PacketSays k from to (Control c) body = Tells c.kind k from to c
 
-module _ (k : Known) (n : ℕ) where
+module _ (k : Known) (n : Endpoint) where
   abbrev OutSays : Outgoing → Type 0
-  OutSays out = PacketSays k n out.peer out.packet out.body
+  OutSays out = PacketSays k n.node out.peer out.packet out.body
 
   some-says : (a b : Outgoing) → Some a ≡ Some b → OutSays a → OutSays b
   some-says a b e h = let same : a ≡ b = cc in subst OutSays same h
@@ -91,6 +94,7 @@ module _ (k : Known) (n : ℕ) where
         body = [];
       }))
   client-says true i x c r j g joined begun = record {
+    life = n.life;
     session = x.way.number;
     start = record { way = x.way; what = c.what };
     begun = begun;
@@ -103,6 +107,7 @@ module _ (k : Known) (n : ℕ) where
     piece = refl;
   }
   client-says false i x c r j g joined begun = record {
+    life = n.life;
     session = x.way.number;
     credits = x.limit;
     end = joined.end ∙ ap (λ (s : ℕ). Some (record { home = n; client = s; credits = x.limit }))
@@ -137,7 +142,7 @@ module _ (k : Known) (n : ℕ) where
   -- a Response is of the answer of its run
   answer-says : (way : Way) (q : Served) (j : ℕ) (answer : List ℕ) → (g : GoodServed k n way q)
       → HasRun k n way.number q.number g.start.what answer
-      → SaysResponse k n way.peer (record {
+      → SaysResponse k n.node way.peer (record {
         kind = Response;
         req_type = q.req_type;
         size = length answer;
@@ -154,7 +159,7 @@ module _ (k : Known) (n : ℕ) where
         begun = g.begun;
         peer = sym (ap (λ (w : Way). w.peer) g.way_is);
         answer = answer;
-        ran = subst (λ (t : ℕ). HasRun k n t q.number a answer) (sym (ap (λ (w : Way). w.other) g.way_is)) run;
+        ran = subst (λ (w : Way). HasRun k (peer_of w) w.other q.number a answer) (sym g.way_is) run;
         size = refl;
         piece = ap (λ (s : ℕ). part answer (j + 1 - packet_count s)) g.size;
       }
@@ -239,45 +244,45 @@ module _ (k : Known) (n : ℕ) where
   owner-says l OfControl j out g h = cc
 
   control-speaks : (c : ControlHeader) (to : ℕ) (bytes : List ℕ) → decoded bytes ≡ Ok (Control c)
-      → Tells c.kind k n to c → Speaks k n to bytes
+      → Tells c.kind k n.node to c → Speaks k n.node to bytes
   control-speaks c to bytes e s = (
     subst (λ (o : Option MessageHeader). IfSome o
-        (λ h. Says h.kind k n to h (body_of bytes))) (sym (ap message_in e)) tt,
-    subst (λ (o : Option ControlHeader). IfSome o (λ h. Tells h.kind k n to h))
+        (λ h. Says h.kind k n.node to h (body_of bytes))) (sym (ap message_in e)) tt,
+    subst (λ (o : Option ControlHeader). IfSome o (λ h. Tells h.kind k n.node to h))
         (sym (ap control_in e)) s,
   )
 
   -- read back
   packet-speaks : (p : Packet) (to : ℕ) (head body : List ℕ) → InRange p → HasHead p head
-      → length head ≡ HEAD_BYTES → HasLength p (HEAD_BYTES + length body) → PacketSays k n to p body
-      → Speaks k n to (head ++ body)
+      → length head ≡ HEAD_BYTES → HasLength p (HEAD_BYTES + length body) → PacketSays k n.node to p body
+      → Speaks k n.node to (head ++ body)
   packet-speaks (Message m) to head body range has long len s =
       let reads : message_of (head ++ body) ≡ Some m =
       ap message_in (decoded-append (Message m) head body range has long len) in
-      let now : Says m.kind k n to m (body_of (head ++ body)) =
-      subst (λ (b : List ℕ). Says m.kind k n to m b)
+      let now : Says m.kind k n.node to m (body_of (head ++ body)) =
+      subst (λ (b : List ℕ). Says m.kind k n.node to m b)
       (sym (body_of-append head body long)) s in
       let none : control_of (head ++ body) ≡ None =
       ap control_in (decoded-append (Message m) head body range has long len) in (
         subst (λ (o : Option MessageHeader). IfSome o
-            (λ h. Says h.kind k n to h (body_of (head ++ body)))) (sym reads) now,
-        subst (λ (o : Option ControlHeader). IfSome o (λ h. Tells h.kind k n to h)) (sym none) tt,
+            (λ h. Says h.kind k n.node to h (body_of (head ++ body)))) (sym reads) now,
+        subst (λ (o : Option ControlHeader). IfSome o (λ h. Tells h.kind k n.node to h)) (sym none) tt,
       )
   packet-speaks (Control c) to head body range has long len s =
       control-speaks c to (head ++ body) (decoded-append (Control c) head body range has long len) s
 
   pub sent-speaks : (l : Lists) (peer : ℕ) (o : Owner) (j : ℕ) (head body : List ℕ) → GoodNode k n l
       → (m : MaySend l peer o j head body) → HasLength m.out.packet (HEAD_BYTES + length m.out.body)
-      → Speaks k n peer (head ++ body)
+      → Speaks k n.node peer (head ++ body)
   sent-speaks l peer o j head body g m len =
       let says = owner-says l o j m.out g m.own in
       let now = packet-speaks m.out.packet m.out.peer head m.out.body m.in_range m.has_head m.long len says in
-      subst (λ (p : ℕ). Speaks k n p (head ++ body)) (sym m.to_peer)
-      (subst (λ (b : List ℕ). Speaks k n m.out.peer (head ++ b)) (sym m.whole) now)
+      subst (λ (p : ℕ). Speaks k n.node p (head ++ body)) (sym m.to_peer)
+      (subst (λ (b : List ℕ). Speaks k n.node m.out.peer (head ++ b)) (sym m.whole) now)
 
   -- a session's own request says nothing of a session
-  request-tells : (own : ℕ) (state : SessionState) (way : Way) (credits to : ℕ)
-      (h : ControlHeader) → request_by own state way credits ≡ Some h → Tells h.kind k n to h
+  request-tells : (own : ℕ) (state : SessionState) (way : Way) (credits to : ℕ) (h : ControlHeader)
+      → request_by own state way credits ≡ Some h → Tells h.kind k n.node to h
   request-tells own Connecting way credits to h e =
       let same : record {
         kind = ConnectRequest;
@@ -288,7 +293,7 @@ module _ (k : Known) (n : ℕ) where
         from_life = own;
         to_life = None;
       }
-      ≡ h = cc in subst (λ (c : ControlHeader). Tells c.kind k n to c) same tt
+      ≡ h = cc in subst (λ (c : ControlHeader). Tells c.kind k n.node to c) same tt
   request-tells own Closing way credits to h e =
       let same : record {
         kind = DisconnectRequest;
@@ -299,44 +304,51 @@ module _ (k : Known) (n : ℕ) where
         from_life = own;
         to_life = Some way.life;
       }
-      ≡ h = cc in subst (λ (c : ControlHeader). Tells c.kind k n to c) same tt
+      ≡ h = cc in subst (λ (c : ControlHeader). Tells c.kind k n.node to c) same tt
   request-tells own _ way credits to h e = cc
 
-  confirm-tells : (l : Lists) (peer t : ℕ) (h : ControlHeader) (v : Server) → GoodNode k n l
-      → find (is_server t) l.servers ≡ Some v → is_end_of peer h.client v ≡ true
-      → IsSession k n t peer h.client v.credits
-  confirm-tells l peer t h v g found ends =
+  confirm-tells : (l : Lists) (peer to t : ℕ) (h : ControlHeader) (v : Server) → GoodNode k n l
+      → find (is_server t) l.servers ≡ Some v → is_end_of peer h.client to v ≡ true
+      → IsSession k n t (record { node = peer; life = to }) h.client v.credits
+  confirm-tells l peer to t h v g found ends =
       let at = server-at k n l.servers t v g.servers found in
-      let parts = and_parts (v.way.peer == peer) (v.way.other == h.client) ends in
-      rw (← at.1, ← eqb-true v.way.peer peer parts.0, ← eqb-true v.way.other h.client parts.1)
-      at.0.session
+      let parts = and_parts (v.way.peer == peer) (is_with h.client to v.way) ends in
+      let rest = and_parts (v.way.other == h.client) (v.way.life == to) parts.1 in
+      rw (
+        ← at.1,
+        ← eqb-true v.way.peer peer parts.0,
+        ← eqb-true v.way.other h.client rest.0,
+        ← eqb-true v.way.life to rest.1,
+      ) at.0.session
 
-  own-tells : (l : Lists) (peer : ℕ) (h : ControlHeader) → GoodNode k n l → OwnControl l peer h
-      → Tells h.kind k n peer h
-  own-tells l peer h g (OwnControl.asks x opened own) =
+  own-tells : (l : Lists) (peer : ℕ) (h : ControlHeader) → l.life ≡ n.life → GoodNode k n l
+      → OwnControl l peer h → Tells h.kind k n.node peer h
+  own-tells l peer h now g (OwnControl.asks x opened own) =
       request-tells l.life x.state x.way x.limit peer h own
-  own-tells l peer h g (OwnControl.confirms t v e found ends) =
-      subst (λ (c : ControlHeader). Tells c.kind k n peer c) (sym e)
-      (confirm-tells l peer t h v g found ends)
-  own-tells l peer h g (OwnControl.declines e none) =
-      subst (λ (c : ControlHeader). Tells c.kind k n peer c) (sym e) (λ one. absurd (omega arith))
-  own-tells l peer h g (OwnControl.disowns x opened e row) =
-      subst (λ (c : ControlHeader). Tells c.kind k n peer c) (sym e) tt
-  own-tells l peer h g (OwnControl.ends e none) =
-      subst (λ (c : ControlHeader). Tells c.kind k n peer c) (sym e) tt
-  own-tells l peer h g (OwnControl.misses e none) =
-      subst (λ (c : ControlHeader). Tells c.kind k n peer c) (sym e) tt
+  own-tells l peer h now g (OwnControl.confirms to t v e found ends) =
+      subst (λ (c : ControlHeader). Tells c.kind k n.node peer c) (sym e)
+      (subst (λ (w : ℕ). IsSession k (record { node = n.node; life = w }) t
+      (record { node = peer; life = to }) h.client v.credits) (sym now)
+      (confirm-tells l peer to t h v g found ends))
+  own-tells l peer h now g (OwnControl.declines to e none) =
+      subst (λ (c : ControlHeader). Tells c.kind k n.node peer c) (sym e) (λ one. absurd (omega arith))
+  own-tells l peer h now g (OwnControl.disowns to x opened e row) =
+      subst (λ (c : ControlHeader). Tells c.kind k n.node peer c) (sym e) tt
+  own-tells l peer h now g (OwnControl.ends to e none) =
+      subst (λ (c : ControlHeader). Tells c.kind k n.node peer c) (sym e) tt
+  own-tells l peer h now g (OwnControl.misses to e none) =
+      subst (λ (c : ControlHeader). Tells c.kind k n.node peer c) (sym e) tt
 
-  says-tells : (l : Lists) (peer : ℕ) (h : ControlHeader) → GoodNode k n l
-      → AsksAt l peer h ⊎ OwnControl l peer h → Tells h.kind k n peer h
-  says-tells l peer h g (inl a) =
+  says-tells : (l : Lists) (peer : ℕ) (h : ControlHeader) → l.life ≡ n.life → GoodNode k n l
+      → AsksAt l peer h ⊎ OwnControl l peer h → Tells h.kind k n.node peer h
+  says-tells l peer h now g (inl a) =
       let x = a.client in request-tells l.life x.state x.way x.limit peer h a.own
-  says-tells l peer h g (inr o) = own-tells l peer h g o
+  says-tells l peer h now g (inr o) = own-tells l peer h now g o
 
   -- a control packet that is sent says what is so
-  pub said-speaks : (l : Lists) (peer j : ℕ) (head body : List ℕ) → GoodNode k n l
-      → MaySay l peer j head body → Speaks k n peer (head ++ body)
-  said-speaks l peer j head body g m =
+  pub said-speaks : (l : Lists) (peer j : ℕ) (head body : List ℕ) → l.life ≡ n.life → GoodNode k n l
+      → MaySay l peer j head body → Speaks k n.node peer (head ++ body)
+  said-speaks l peer j head body now g m =
       let whole : head ++ body ≡ head = ap (λ (b : List ℕ). head ++ b) m.whole ∙ append-nil head in
       rw whole (control-speaks m.header peer head (spells-decoded (Control m.header) head m.spells)
-      (says-tells l peer m.header g m.own))
+      (says-tells l peer m.header now g m.own))

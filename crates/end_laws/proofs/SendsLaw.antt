@@ -1,51 +1,34 @@
 -- What is sent spells the packet of its owner.
 use Rattle.rpc_base.specs.declared.limits.Limits.{Limits}
-use Rattle.std.proofs.Common.{◌≡◌, ◌<◌, ◌+◌, ◌-◌, ℕ, nat_lt, Bool, true, false, cond, List, [], ◌∷◌}
+use Rattle.std.proofs.Common.{◌≡◌, ◌<◌, ◌+◌, ℕ, List, [], ◌∷◌}
 use Rattle.std.proofs.Common.{◌++◌, length, Option, Some, None, slice_get, refl, sym, ap, ◌∙◌}
 use Rattle.std.proofs.Common.{subst, arith, ◌⊎◌, inl, inr, leb}
-use Rattle.std.specs.Prelude.{option_map}
 use Rattle.std.specs.List.{find, slice_set, AllByRecursion}
 use Rattle.std.proofs.lemmas.Bool.{eqb-true}
-use Rattle.packet_header.specs.Header.{HasLength, MessageLength}
-use Rattle.packet_header.specs.Parts.{packet_count, part}
-use Rattle.packet_header.specs.declared.packet.Kind.TheVariants.{Request, Rfr, Cr, Response}
 use Rattle.packet_header.specs.declared.packet.ControlHeader.{ControlHeader}
-use Rattle.packet_header.specs.declared.packet.ControlKind.TheVariants.{ConnectRequest}
-use Rattle.packet_header.specs.declared.packet.ControlKind.TheVariants.{DisconnectRequest}
-use Rattle.packet_header.specs.declared.packet.Packet.TheVariants.{Message}
 use Rattle.packet_header.proofs.Heads.{spells-append}
-use Rattle.packet_header.proofs.PartsLemmas.{length-part, packet_count_above, response_length}
 use Rattle.rpc_base.proofs.TakingLemmas.{find-passes}
 use Rattle.rpc_base.specs.declared.event.Event.{Event}
 use Rattle.rpc_base.specs.declared.event.Event.TheVariants.{Sent}
 use Rattle.rpc_base.specs.declared.fact.Fact.{Fact}
 use Rattle.rpc_base.specs.declared.fact.Who.{Who}
-use Rattle.rpc_base.specs.declared.fact.Who.TheVariants.{Node, Net}
+use Rattle.rpc_base.specs.declared.fact.Who.TheVariants.{Net}
 use Rattle.rpc_base.specs.declared.owner.Owner.{Owner}
 use Rattle.rpc_base.specs.declared.owner.Owner.TheVariants.{Ask, Reply, Control}
-use Rattle.rpc_base.specs.declared.state.SessionState.{SessionState}
-use Rattle.rpc_base.specs.declared.state.SessionState.TheVariants.{Connecting, Closing}
 use Rattle.rpc_base.proofs.PlaceLemmas.{all-at, set-other}
 use Rattle.rpc_base.proofs.BasicLemmas.{at-most-one}
-use Rattle.rpc_laws.specs.declared.tables.Asking.{Asking}
-use Rattle.rpc_laws.specs.declared.tables.Call.{Call}
-use Rattle.rpc_laws.specs.declared.tables.Client.{Client}
 use Rattle.rpc_laws.specs.declared.tables.InFlight.{InFlight}
 use Rattle.rpc_laws.specs.declared.tables.Lists.{Lists}
 use Rattle.rpc_laws.specs.declared.tables.Outgoing.{Outgoing}
 use Rattle.rpc_laws.specs.declared.tables.Served.{Served}
 use Rattle.rpc_laws.specs.declared.tables.Server.{Server}
-use Rattle.rpc_laws.specs.declared.tables.Way.{Way}
-use Rattle.rpc_laws.specs.ControlSteps.{request_by}
 use Rattle.rpc_laws.specs.BufferSafety.{OwnControl, SpellsOwn, SentRight}
 use Rattle.rpc_laws.specs.BufferSafety.{changed, nodes_at}
-use Rattle.rpc_laws.specs.Calls.{is_active, asked_packets}
 use Rattle.rpc_laws.specs.Front.{front_header, front_body}
 use Rattle.rpc_laws.specs.Lives.{first_life}
 use Rattle.rpc_laws.specs.NodeLists.{after, new_lists}
 use Rattle.rpc_laws.specs.Pacing.{due_of}
-use Rattle.rpc_laws.specs.UsualLimits.{with_ring}
-use Rattle.rpc_laws.specs.Packets.{client_packet, call_packet, ask_packet, request_packet, reply_packet, owner_packet}
+use Rattle.rpc_laws.specs.Packets.{request_packet, reply_packet, owner_packet}
 use Rattle.rpc_laws.specs.Requests.{server_end, is_server, is_request, in_slot_of}
 use Rattle.rpc_laws.specs.Sessions.{is_client}
 use Rattle.end_laws.specs.Moments.{Moment, moved}
@@ -54,7 +37,7 @@ use Rattle.node_laws.proofs.LengthLemmas.{ask-length, HasBody, reply-length}
 use Rattle.node_laws.proofs.NumberLemmas.{numbered-found}
 use Rattle.node_laws.proofs.TimerLemmas.{own-names}
 use Rattle.end_laws.proofs.Allowed.{AsksAt, May, MaySend}
-use Rattle.end_laws.proofs.Courses.{made_as, resets, AtNode, Ends, Course, over, in_net, made, at_node, pairs}
+use Rattle.end_laws.proofs.Courses.{AtNode, Ends}
 use Rattle.end_laws.proofs.Courses.{client_fact, server_fact, paired, noted_at, moved-node}
 use Rattle.end_laws.proofs.JobLemmas.{jobs-right, jobs-added}
 use Rattle.end_laws.proofs.ListLemmas.{Placed, all-found, all-map, all-add}
@@ -64,8 +47,12 @@ use Rattle.end_laws.proofs.QueueLemmas.{queued-right, stood-added}
 use Rattle.end_laws.proofs.Rights.{SlotRight}
 use Rattle.end_laws.proofs.SessionLemmas.{Over, alone-after, made-alone, over-added}
 use Rattle.end_laws.proofs.SlotLemmas.{Apart, sound-stays, slot-of-request}
-use Rattle.end_laws.proofs.Valids.{AllValid, valid-net, valid-made, valid-node, valid-pair}
 use Rattle.end_laws.proofs.Walks.{Stays}
+use Rattle.rpc_base.specs.declared.limits.Limits.{Limits}
+use Rattle.rpc_base.specs.declared.event.Event.TheVariants.{Restarted}
+use Rattle.rpc_laws.specs.BufferSafety.{anew}
+use Rattle.rpc_laws.specs.NodeLists.{limits_of, restarted_lists}
+use Rattle.rpc_laws.specs.Facts.{plain}
 
 request-length : (l : Lists) (t r k : ℕ) (v : Server) (q : Option Served) (out : Outgoing)
     → RightNode l → Stood l.servers t r k → find (is_server t) l.servers ≡ Some v
@@ -166,15 +153,15 @@ right-stays hand clock l f a i = record {
       (front_body l.ring) a.may (i.alone t);
 }
 
-server-added : (n peer c credits used : ℕ) (xs : List Server) (o : Owner) (k : ℕ) → n ≡ used
+server-added : (n peer c credits life used : ℕ) (xs : List Server) (o : Owner) (k : ℕ) → n ≡ used
     → QueueRight xs used o k
-    → QueueRight (xs ++ server_end n peer c credits ∷ []) (used + 1) o k
-server-added n peer c credits used xs (Ask s r) k e h = tt
-server-added n peer c credits used xs Control k e h = tt
-server-added n peer c credits used xs (Reply t r) k e (inl o) =
-    inl (over-added t n peer c credits used xs e o)
-server-added n peer c credits used xs (Reply t r) k e (inr h) =
-    inr (stood-added xs (server_end n peer c credits) t r k h)
+    → QueueRight (xs ++ server_end n peer c credits life ∷ []) (used + 1) o k
+server-added n peer c credits life used xs (Ask s r) k e h = tt
+server-added n peer c credits life used xs Control k e h = tt
+server-added n peer c credits life used xs (Reply t r) k e (inl o) =
+    inl (over-added t n peer c credits life used xs e o)
+server-added n peer c credits life used xs (Reply t r) k e (inr h) =
+    inr (stood-added xs (server_end n peer c credits life) t r k h)
 
 -- so it does by a pairing
 pub right-client : (clock n m credits : ℕ) (client server : Lists) → RightNode client
@@ -187,11 +174,11 @@ pub right-served : (clock m n credits : ℕ) (client server : Lists) → RightNo
 right-served clock m n credits client server i = record {
   sound = sound-stays clock server (server_fact n m credits client server) i.sound;
   slots = all-add (λ v. AllByRecursion SlotRight v.slots) server.servers _ i.slots tt;
-  queue = all-map _ _ _ (λ q. server-added server.server_numbers n (length client.clients) credits
+  queue = all-map _ _ _ (λ q. server-added server.server_numbers n (length client.clients) credits client.life
       server.server_numbers server.servers q.owner q.number refl) i.queue;
-  jobs = jobs-added server.server_numbers n (length client.clients) credits server.server_numbers
+  jobs = jobs-added server.server_numbers n (length client.clients) credits client.life server.server_numbers
       server.servers server.jobs refl i.jobs;
-  alone = λ t. made-alone t server.server_numbers n (length client.clients) credits
+  alone = λ t. made-alone t server.server_numbers n (length client.clients) credits client.life
       server.server_numbers server.servers refl (i.alone t);
 }
 
@@ -208,8 +195,8 @@ right-noted w n l f a i =
 pub right-net : (w : Moment) (f : Fact) → f.who ≡ Net → AllRight w → AllRight (moved w f)
 right-net w f who i = subst (λ (p : Who). Placed (λ n l. RightNode l) (nodes_at w.clock p w.nodes f)) (sym who) i
 
-pub right-new : (me : ℕ) (limits : Limits) → RightNode (new_lists me first_life limits)
-right-new me limits = record {
+pub right-new : (me life : ℕ) (limits : Limits) → RightNode (new_lists me life limits)
+right-new me life limits = record {
   sound = tt;
   slots = tt;
   queue = tt;
@@ -221,7 +208,7 @@ pub right-made : (w : Moment) (limits : Limits) → AllRight w
     → Placed (λ n l. RightNode l) (w.nodes ++ new_lists (length w.nodes) first_life limits ∷ [])
 right-made w limits i =
     add-placed (λ n l. RightNode l) w.nodes (new_lists (length w.nodes) first_life limits)
-    (right-new (length w.nodes) limits) i
+    (right-new (length w.nodes) first_life limits) i
 
 pub right-paired : (w : Moment) (n m credits : ℕ) (client server : Lists)
     → Ends w n m credits client server → AllRight w → AllRight (paired w n m credits client server)
@@ -245,3 +232,11 @@ right-paired w n m credits client server e i =
     ap (λ (ns : List Lists). changed w.clock (slice_get ns m) m ns other) first
     ∙ ap (λ (o : Option Lists). changed w.clock o m nodes1 other) at in
     subst (λ (ns : List Lists). Placed (λ n l. RightNode l) ns) (sym all) placed2
+
+-- by a restart
+pub right-restart : (w : Moment) (n : ℕ) (l : Lists) → slice_get w.nodes n ≡ Some l → AllRight w
+    → AllRight (moved w (plain n (Restarted (l.life + 1))))
+right-restart w n l is i =
+    subst (λ (o : Option Lists). Placed (λ n l. RightNode l) (anew o n w.nodes)) (sym is)
+    (set-placed (λ n l. RightNode l) w.nodes n l (restarted_lists l) is
+    (right-new l.me (l.life + 1) (limits_of l)) (λ j z ne at. i j z at))

@@ -23,10 +23,10 @@ use Rattle.rpc_laws.specs.declared.tables.Way.{Way}
 use Rattle.rpc_laws.specs.Front.{front_header, front_body}
 use Rattle.rpc_laws.specs.Requests.{is_server, is_request, in_slot_of, first_packet, next_packet}
 use Rattle.rpc_laws.specs.Requests.{took_packet, given, servers_after}
-use Rattle.end_laws.specs.TwoEnds.{is_away}
+use Rattle.end_laws.specs.TwoEnds.{is_away, peer_of}
 use Rattle.end_laws.proofs.Allowed.{GoesOn, TakesOf, May}
 use Rattle.end_laws.proofs.ClientLemmas.{is_quiet, front-says}
-use Rattle.end_laws.proofs.Known.{Known, Later, Begin, End, IsWay, SaysRequest, Says, Speaks}
+use Rattle.end_laws.proofs.Known.{Known, Later, Begin, End, SaysRequest, Says, Speaks}
 use Rattle.end_laws.proofs.Known.{GoodServed, GoodServer}
 use Rattle.end_laws.proofs.KnownLemmas.{served-later, server-later, servers-later, session-later}
 use Rattle.end_laws.proofs.ListLemmas.{all-first, all-map, all-add}
@@ -34,11 +34,12 @@ use Rattle.end_laws.proofs.ListLemmas.{all-without, all-found}
 use Rattle.node_laws.proofs.TakenRights.{TakenRight}
 use Rattle.end_laws.proofs.Rights.{SlotRight, SlotsRight, Readable, front-right}
 use Rattle.end_laws.proofs.SlotLemmas.{any-find}
+use Rattle.rpc_laws.specs.Endpoints.{Endpoint}
 
 end-same : (a b : End) → Some a ≡ Some b → a.client ≡ b.client
 end-same a b e = let same : a ≡ b = cc in ap (λ (x : End). x.client) same
 
-module _ (k : Known) (n : ℕ) where
+module _ (k : Known) (n : Endpoint) where
   -- the server session that is found has the number
   pub server-at : (xs : List Server) (t : ℕ) (v : Server) → AllByRecursion (GoodServer k n) xs
       → find (is_server t) xs ≡ Some v → GoodServer k n v × (v.way.number ≡ t)
@@ -50,40 +51,60 @@ module _ (k : Known) (n : ℕ) where
   -- the call of a packet that is taken
   pub record OfCall (way : Way) (h : MessageHeader) (body : List ℕ) : Type 0 where
     pub start : Begin
-    pub begun : k.starts way.peer way.other h.request ≡ Some start
-    pub way_is : IsWay start.way way.other n way.number
+    pub begun : k.starts (peer_of way) way.other h.request ≡ Some start
+    pub way_is : start.way
+        ≡ record { number = way.other; peer = n.node; other = way.number; life = n.life }
     pub req_type : h.req_type ≡ start.what.req_type
     pub size : h.size ≡ length start.what.ask
     pub piece : body ≡ part start.what.ask h.number
 
+  ends-same : (a b : End) → Some a ≡ Some b → (a.home ≡ b.home) × (a.client ≡ b.client)
+  ends-same a b e = let same : a ≡ b = cc in
+      (ap (λ (x : End). x.home) same, ap (λ (x : End). x.client) same)
+
   of-call : (way : Way) (credits : ℕ) (h : MessageHeader) (from : ℕ) (body : List ℕ) → from
       ≡ way.peer
-      → way.number ≡ h.session
+      → way.number ≡ h.session → h.to_life ≡ n.life
       → k.ends n way.number 0 ≡ Some (record {
-        home = way.peer;
+        home = peer_of way;
         client = way.other;
         credits = credits;
       })
-      → SaysRequest k from n h body → OfCall way h body
-  of-call way credits h from body peer number end s =
+      → SaysRequest k from n.node h body → OfCall way h body
+  of-call way credits h from body peer number life end s =
+      let us : record { node = n.node; life = h.to_life } ≡ n =
+      ap (λ (w : ℕ). record { node = n.node; life = w }) life in
       let mine : k.ends n h.session 0 ≡ Some
-      (record { home = way.peer; client = way.other; credits = credits }) =
+      (record { home = peer_of way; client = way.other; credits = credits }) =
       subst (λ (t : ℕ). k.ends n t 0 ≡ Some
-      (record { home = way.peer; client = way.other; credits = credits })) number end in
-      let told = s.end in
-      let same : s.session ≡ way.other =
-      end-same (record { home = from; client = s.session; credits = s.credits })
-      (record { home = way.peer; client = way.other; credits = credits }) (sym told ∙ mine) in
+      (record { home = peer_of way; client = way.other; credits = credits })) number end in
+      let sender : Endpoint = record { node = from; life = s.life } in
+      let there : End = record { home = sender; client = s.session; credits = s.credits } in
+      let told : k.ends n h.session 0 ≡ Some there =
+      subst (λ (m : Endpoint). k.ends m h.session 0 ≡ Some there) us s.end in
+      let both = ends-same there
+      (record { home = peer_of way; client = way.other; credits = credits }) (sym told ∙ mine) in
+      let same : s.session ≡ way.other = both.1 in
       record {
         start = s.start;
-        begun = subst (λ (m : ℕ). k.starts m way.other h.request ≡ Some s.start) peer
-            (subst (λ (c : ℕ). k.starts from c h.request ≡ Some s.start) same s.begun);
-        way_is = s.way
-            ∙ (ap (λ (c : ℕ).
-            record { number = c; peer = n; other = h.session; life = s.start.way.life }) same
-            ∙ ap (λ (t : ℕ).
-            record { number = way.other; peer = n; other = t; life = s.start.way.life })
-            (sym number));
+        begun = subst (λ (m : Endpoint). k.starts m way.other h.request ≡ Some s.start) both.0
+            (subst (λ (c : ℕ). k.starts sender c h.request ≡ Some s.start) same s.begun);
+        way_is = s.way ∙ (ap (λ (c : ℕ). record {
+          number = c;
+          peer = n.node;
+          other = h.session;
+          life = h.to_life;
+        }) same ∙ (ap (λ (t : ℕ). record {
+          number = way.other;
+          peer = n.node;
+          other = t;
+          life = h.to_life;
+        }) (sym number) ∙ ap (λ (w : ℕ). record {
+          number = way.other;
+          peer = n.node;
+          other = way.number;
+          life = w;
+        }) life));
         req_type = s.req_type;
         size = s.size;
         piece = s.piece;
@@ -120,8 +141,8 @@ module _ (k : Known) (n : ℕ) where
       → GoodServed k n way (next_packet body q)
   next-request way h body q number taken here s g =
       let mine = g.begun in
-      let told : k.starts way.peer way.other q.number ≡ Some s.start =
-      subst (λ (r : ℕ). k.starts way.peer way.other r ≡ Some s.start)
+      let told : k.starts (peer_of way) way.other q.number ≡ Some s.start =
+      subst (λ (r : ℕ). k.starts (peer_of way) way.other r ≡ Some s.start)
       (sym number) s.begun in
       let same : s.start ≡ g.start = cc in
       let piece : body ≡ part g.start.what.ask q.taken =
@@ -173,41 +194,42 @@ module _ (k : Known) (n : ℕ) where
       (body : List ℕ) : Type 0 where
     pub peer : from ≡ way.peer
     pub number : way.number ≡ h.session
+    pub life : h.to_life ≡ n.life
     pub end : k.ends n way.number 0 ≡ Some
-        (record { home = way.peer; client = way.other; credits = credits })
-    pub says : Says h.kind k from n h body
+        (record { home = peer_of way; client = way.other; credits = credits })
+    pub says : Says h.kind k from n.node h body
     pub reads : Readable h body
 
   next-good : (kind : Kind) (way : Way) (credits : ℕ) (h : MessageHeader) (from : ℕ) (body : List ℕ)
       (q : Served)
-      → h.kind ≡ kind → from ≡ way.peer → way.number ≡ h.session
+      → h.kind ≡ kind → from ≡ way.peer → way.number ≡ h.session → h.to_life ≡ n.life
       → k.ends n way.number 0 ≡ Some (record {
-        home = way.peer;
+        home = peer_of way;
         client = way.other;
         credits = credits;
       })
-      → Says kind k from n h body → (h.kind ≡ Rfr → body ≡ []) → q.number ≡ h.request
+      → Says kind k from n.node h body → (h.kind ≡ Rfr → body ≡ []) → q.number ≡ h.request
       → h.number ≡ q.taken → GoesOn kind q h → (kind ≡ Request → h.number < packet_count h.size)
       → SlotRight q → GoodServed k n way q → GoodServed k n way (next_packet body q)
-  next-good Request way credits h from body q is peer number end s none of_request taken goes
+  next-good Request way credits h from body q is peer number life end s none of_request taken goes
       low right g =
       let lt = low refl in
       let size : packet_count h.size ≡ packet_count q.size = ap packet_count goes.1 in
       let less : q.taken < packet_count q.size = omega arith in
       next-request way h body q of_request taken (here-by q _ refl right less)
-      (of-call way credits h from body peer number end s) g
-  next-good Rfr way credits h from body q is peer number end s none of_request taken goes low
+      (of-call way credits h from body peer number life end s) g
+  next-good Rfr way credits h from body q is peer number life end s none of_request taken goes low
       right g =
       let low = goes.0 in
       let past : packet_count q.size ≤ q.taken = omega arith in
       next-rfr way body q (none is) past g
-  next-good Cr way credits h from body q is peer number end s none of_request taken goes low
+  next-good Cr way credits h from body q is peer number life end s none of_request taken goes low
       right g = absurd goes
-  next-good Response way credits h from body q is peer number end s none of_request taken goes
+  next-good Response way credits h from body q is peer number life end s none of_request taken goes
       low right g = absurd goes
 
   request-says : (kind : Kind) (from : ℕ) (h : MessageHeader) (body : List ℕ) → kind ≡ Request
-      → Says kind k from n h body → SaysRequest k from n h body
+      → Says kind k from n.node h body → SaysRequest k from n.node h body
   request-says Request from h body e s = s
   request-says Rfr from h body e s = cc
   request-says Cr from h body e s = cc
@@ -220,7 +242,7 @@ module _ (k : Known) (n : ℕ) where
       → AllByRecursion (GoodServed k n way) (took_packet h.request (Some h) body slots)
   took-good None way credits slots h from body t m right g =
       let none : list_any (is_request h.request) slots ≡ false = m.2 in
-      let first = first-good way h body m.1 (of-call way credits h from body t.peer t.number t.end
+      let first = first-good way h body m.1 (of-call way credits h from body t.peer t.number t.life t.end
       (request-says h.kind from h body m.0 t.says)) in
       rw none (all-add (GoodServed k n way) (without_first (in_slot_of h.request) slots)
       (first_packet h.request h body) (all-without (GoodServed k n way)
@@ -233,13 +255,13 @@ module _ (k : Known) (n : ℕ) where
       (λ z is z_good. let found = m.0 in
       let same : q ≡ z = cc in
       subst (λ (y : Served). GoodServed k n way y → GoodServed k n way (next_packet body y)) same
-      (next-good h.kind way credits h from body q refl t.peer t.number t.end t.says
+      (next-good h.kind way credits h from body q refl t.peer t.number t.life t.end t.says
       t.reads.none number
       m.1 m.2 t.reads.low (all-found SlotRight (is_request h.request) slots q right m.0))
       z_good) g)
 
 -- what is known becomes more
-module _ (j k : Known) (n : ℕ) (later : Later j k) where
+module _ (j k : Known) (n : Endpoint) (later : Later j k) where
   -- a request becomes a job
   given-good : (way : Way) (q : Served) → GoodServed j n way q → GoodServed j n way (given q)
   given-good way q g = record {
@@ -267,26 +289,26 @@ module _ (j k : Known) (n : ℕ) (later : Later j k) where
       subst (λ (y : Server). AllByRecursion (GoodServed j n y.way) y.slots
       → AllByRecursion (GoodServed k n y.way) (change y.slots)) same f h.slots in
       record {
-        session = session-later j k later n z.way.number z.way.peer z.way.other z.credits h.session;
+        session = session-later j k later n z.way.number (peer_of z.way) z.way.other z.credits h.session;
         slots = slots;
       }) g
 
   pub servers-quiet : (hand : Option InFlight) (l : Lists) (e : Event) (first second : List ℕ)
-      → is_quiet e ≡ true → May hand l e first second → SlotsRight l.servers
-      → AllByRecursion (λ a. Speaks j a.peer n a.bytes) l.ring
+      → is_quiet e ≡ true → l.life ≡ n.life → May hand l e first second → SlotsRight l.servers
+      → AllByRecursion (λ a. Speaks j a.peer n.node a.bytes) l.ring
       → AllByRecursion (GoodServer j n) l.servers
       → AllByRecursion (GoodServer k n) (servers_after e second (front_header l.ring)
       (front_body l.ring) l.servers)
-  servers-quiet hand l (PairedServer t peer s credits) first second quiet m right ring g =
+  servers-quiet hand l (PairedServer t peer s credits life) first second quiet life_is m right ring g =
       absurd (cc)
-  servers-quiet hand l (Accepted t peer s credits) first second quiet m right ring g = absurd (cc)
-  servers-quiet hand l (Ended t) first second quiet m right ring g =
+  servers-quiet hand l (Accepted t peer s credits life) first second quiet life_is m right ring g = absurd (cc)
+  servers-quiet hand l (Ended t) first second quiet life_is m right ring g =
       all-without (GoodServer k n) (is_server t) l.servers (servers-later j k later n l.servers g)
-  servers-quiet hand l (Took (Ask s r) i) first second quiet m right ring g =
+  servers-quiet hand l (Took (Ask s r) i) first second quiet life_is m right ring g =
       servers-later j k later n l.servers g
-  servers-quiet hand l (Took Control i) first second quiet m right ring g =
+  servers-quiet hand l (Took Control i) first second quiet life_is m right ring g =
       servers-later j k later n l.servers g
-  servers-quiet hand l (Took (Reply t r) i) first second quiet m right ring g =
+  servers-quiet hand l (Took (Reply t r) i) first second quiet life_is m right ring g =
       let v = m.server in
       let at = server-at j n l.servers t v g m.found in
       let good = at.0 in
@@ -296,6 +318,7 @@ module _ (j k : Known) (n : ℕ) (later : Later j k) where
       let taken : Taken j n v.way v.credits m.header m.front.peer (front_body l.ring) = record {
         peer = m.of_peer;
         number = at.1 ∙ m.of_session;
+        life = m.is_front.for_us ∙ life_is;
         end = good.session.end;
         says = front-says j n l m.front m.header m.is_front ring;
         reads = front-right l m.header m.is_front.reads;
@@ -305,12 +328,12 @@ module _ (j k : Known) (n : ℕ) (later : Later j k) where
       (all-map _ _ _ (served-later j k later n v.way)
       (took-good j n m.going v.way v.credits v.slots m.header m.front.peer (front_body l.ring) taken
       m.takes here slots))) g
-  servers-quiet hand l (Given t r) first second quiet m right ring g =
+  servers-quiet hand l (Given t r) first second quiet life_is m right ring g =
       let w = m.has in
       let v = w.server in
       slots-first t (at_first (is_request r) given) l.servers v w.found
       (λ slots. all-first (GoodServed j n v.way) (GoodServed k n v.way)
       (is_request r) given v.slots (served-later j k later n v.way)
       (λ z is z_good. served-later j k later n v.way (given z) (given-good v.way z z_good)) slots) g
-  servers-quiet hand l (Ran t r y) first second quiet m right ring g = absurd (cc)
-  servers-quiet hand l _ first second quiet m right ring g = servers-later j k later n l.servers g
+  servers-quiet hand l (Ran t r y) first second quiet life_is m right ring g = absurd (cc)
+  servers-quiet hand l _ first second quiet life_is m right ring g = servers-later j k later n l.servers g

@@ -113,11 +113,11 @@ module _ (t : ℕ) where
   abbrev one : Server → ℕ
   one v = cond (is_server t v) 1 0
 
-  pub made-alone : (n peer c credits used : ℕ) (xs : List Server) → n ≡ used
+  pub made-alone : (n peer c credits life used : ℕ) (xs : List Server) → n ≡ used
       → count_by (is_server t) xs + to_come used t ≤ 1
-      → count_by (is_server t) (xs ++ server_end n peer c credits ∷ []) + to_come (used + 1) t ≤ 1
-  made-alone n peer c credits used xs e h =
-      let push = sum_by_push one xs (server_end n peer c credits) in
+      → count_by (is_server t) (xs ++ server_end n peer c credits life ∷ []) + to_come (used + 1) t ≤ 1
+  made-alone n peer c credits life used xs e h =
+      let push = sum_by_push one xs (server_end n peer c credits life) in
       next-one t used n (count_by (is_server t) xs) _ e h (omega arith)
 
   kept-alone : (p : Server → Bool) (f : Server → Server) → ((v : Server) → (f v).way ≡ v.way)
@@ -131,9 +131,9 @@ module _ (t : ℕ) where
       → count_by (is_server t) l.servers + to_come l.server_numbers t ≤ 1
       → count_by (is_server t) (servers_after e second head body l.servers)
       + to_come (server_numbers_after e l.server_numbers) t ≤ 1
-  alone-after hand l (PairedServer n peer c credits) first second head body m h = absurd m
-  alone-after hand l (Accepted n peer c credits) first second head body m h =
-      made-alone n peer c credits l.server_numbers l.servers m.0 h
+  alone-after hand l (PairedServer n peer c credits life) first second head body m h = absurd m
+  alone-after hand l (Accepted n peer c credits life) first second head body m h =
+      made-alone n peer c credits life l.server_numbers l.servers m.0 h
   alone-after hand l (Ended n) first second head body m h =
       let fewer = sum-fewer (is_server n) one l.servers in omega arith
   alone-after hand l (Took (Reply n r) k) first second head body m h =
@@ -178,13 +178,13 @@ module _ (t : ℕ) where
   other-number n false e lt = refl
 
   -- what is over stays so where another session is made
-  pub over-added : (n peer c credits used : ℕ) (xs : List Server) → n ≡ used → Over xs used t
-      → Over (xs ++ server_end n peer c credits ∷ []) (used + 1) t
-  over-added n peer c credits used xs e h =
+  pub over-added : (n peer c credits life used : ℕ) (xs : List Server) → n ≡ used → Over xs used t
+      → Over (xs ++ server_end n peer c credits life ∷ []) (used + 1) t
+  over-added n peer c credits life used xs e h =
       let low = h.low in
       record {
         low = omega arith;
-        gone = none-add (is_server t) xs (server_end n peer c credits)
+        gone = none-add (is_server t) xs (server_end n peer c credits life)
             (other-number n (n == t) refl (omega arith)) h.gone;
       }
 
@@ -194,9 +194,9 @@ module _ (t : ℕ) where
       → Over l.servers l.server_numbers t
       → Over (servers_after e second head body l.servers)
       (server_numbers_after e l.server_numbers) t
-  over-after hand l (PairedServer n peer c credits) first second head body m h = absurd m
-  over-after hand l (Accepted n peer c credits) first second head body m h =
-      over-added n peer c credits l.server_numbers l.servers m.0 h
+  over-after hand l (PairedServer n peer c credits life) first second head body m h = absurd m
+  over-after hand l (Accepted n peer c credits life) first second head body m h =
+      over-added n peer c credits life l.server_numbers l.servers m.0 h
   over-after hand l (Ended n) first second head body m h =
       record { low = h.low; gone = none-left (is_server t) (is_server n) l.servers h.gone }
   over-after hand l (Took (Reply n r) k) first second head body m h =

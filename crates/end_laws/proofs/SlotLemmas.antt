@@ -168,8 +168,8 @@ Sound l = AllByRecursion (λ v. Apart v.slots) l.servers
 sound-servers : (e : Event) (answer : List ℕ) (head : Option MessageHeader) (body : List ℕ)
     (xs : List Server) → AllByRecursion (λ v. Apart v.slots) xs
     → AllByRecursion (λ v. Apart v.slots) (servers_after e answer head body xs)
-sound-servers (PairedServer t peer s credits) answer head body xs h = all-add (λ v. Apart v.slots) xs _ h tt
-sound-servers (Accepted t peer s credits) answer head body xs h = all-add (λ v. Apart v.slots) xs _ h tt
+sound-servers (PairedServer t peer s credits life) answer head body xs h = all-add (λ v. Apart v.slots) xs _ h tt
+sound-servers (Accepted t peer s credits life) answer head body xs h = all-add (λ v. Apart v.slots) xs _ h tt
 sound-servers (Ended t) answer head body xs h = all-without (λ v. Apart v.slots) (is_server t) xs h
 sound-servers (Took (Reply t r) k) answer head body xs h =
     all-first (λ v. Apart v.slots) (λ v. Apart v.slots) (is_server t) _ xs (λ v a. a)

@@ -18,7 +18,6 @@ use Rattle.rpc_laws.specs.BufferSafety.{changed, nodes_at}
 use Rattle.rpc_laws.specs.InFlight.{flight_at, flight_after_node, flight_after_net}
 use Rattle.rpc_laws.specs.Lives.{first_life}
 use Rattle.rpc_laws.specs.NodeLists.{after, new_lists}
-use Rattle.rpc_laws.specs.UsualLimits.{with_ring}
 use Rattle.rpc_laws.specs.Front.{is_message, is_control}
 use Rattle.rpc_laws.specs.Queues.{ring_after, inbox_after}
 use Rattle.end_laws.specs.Genuine.{Travels}
@@ -29,6 +28,11 @@ use Rattle.end_laws.proofs.ListLemmas.{Placed, all-append, all-map, all-add}
 use Rattle.end_laws.proofs.ListLemmas.{set-placed, add-placed}
 use Rattle.rpc_base.proofs.BasicLemmas.{if-map}
 use Rattle.rpc_base.proofs.PlaceLemmas.{all-at, set-other}
+use Rattle.rpc_base.specs.declared.event.Event.TheVariants.{Restarted}
+use Rattle.rpc_laws.specs.BufferSafety.{anew}
+use Rattle.rpc_laws.specs.NodeLists.{restarted_lists}
+use Rattle.rpc_laws.specs.Facts.{plain}
+use Rattle.std.proofs.Common.{◌+◌}
 
 module _ {A : Type 0} (P : A → Type 0) where
   all-take : (i : ℕ) (xs : List A) → AllByRecursion P xs → AllByRecursion P (take i xs)
@@ -189,6 +193,18 @@ module _ (P : ℕ → ℕ → List ℕ → Type 0) where
       → Placed InboxIs (w.nodes ++ new_lists (length w.nodes) first_life limits ∷ [])
   inboxes-made w limits t = add-placed InboxIs w.nodes
       (new_lists (length w.nodes) first_life limits) tt t.inboxes
+
+  -- a node is restarted
+  pub travels-restart : (w : Moment) (n : ℕ) (l : Lists) → slice_get w.nodes n ≡ Some l → Travels P w
+      → Travels P (moved w (plain n (Restarted (l.life + 1))))
+  travels-restart w n l is t = record {
+    flight = t.flight;
+    hand = t.hand;
+    rings = subst (λ (o : Option Lists). Placed RingIs (anew o n w.nodes)) (sym is)
+        (set-placed RingIs w.nodes n l (restarted_lists l) is tt (λ j z ne at. t.rings j z at));
+    inboxes = subst (λ (o : Option Lists). Placed InboxIs (anew o n w.nodes)) (sym is)
+        (set-placed InboxIs w.nodes n l (restarted_lists l) is tt (λ j z ne at. t.inboxes j z at));
+  }
 
   -- a node's fact that leaves its ring, or its inbox
   kept : (list : Lists → List Arrival) (nodes : List Lists) (n clock : ℕ) (l : Lists) (f : Fact)

@@ -1,6 +1,6 @@
 -- What the two ends of a session hold is of one call.
 use Rattle.rpc_laws.specs.UsualLimits.{with_ring}
-use Rattle.std.proofs.Common.{Bool, true, false, ◌≡◌, ℕ, suc, List, [], ◌∷◌, Option, Some, None, refl, sym, ap, subst, Contains}
+use Rattle.std.proofs.Common.{false, ◌≡◌, ℕ, suc, List, [], ◌∷◌, Option, Some, None, refl, sym, ap, subst, Contains}
 use Rattle.std.specs.Prelude.{IfSome}
 use Rattle.std.specs.List.{AllByRecursion}
 use Rattle.rpc_base.specs.declared.event.Event.TheVariants.{Ran}
@@ -13,11 +13,10 @@ use Rattle.rpc_laws.specs.declared.tables.Progress.{Progress}
 use Rattle.rpc_laws.specs.declared.tables.Served.{Served}
 use Rattle.rpc_laws.specs.declared.tables.Way.{Way}
 use Rattle.rpc_laws.specs.BufferSafety.{changed}
-use Rattle.rpc_laws.specs.Facts.{with_two}
 use Rattle.rpc_laws.specs.NodeLists.{after}
 use Rattle.rpc_laws.specs.OwnAnswer.{IsCallOf}
 use Rattle.end_laws.specs.Moments.{Moment, moved, Always}
-use Rattle.end_laws.specs.TwoEnds.{HoldsCall, IsOfCall, IsOfJob, IsOfRun, IsOfSession, TwoEnds}
+use Rattle.end_laws.specs.TwoEnds.{here, peer_of, HoldsCall, IsOfCall, IsOfJob, IsOfRun, IsOfSession, TwoEnds}
 use Rattle.end_laws.proofs.Valids.{AllValid, valid-net, valid-made, valid-node, valid-pair}
 use Rattle.end_laws.proofs.Courses.{made_as, resets, Ends, Course, over, in_net, made, at_node, pairs, client_fact, paired}
 use Rattle.end_laws.proofs.GoodSteps.{good-net, good-made, good-node}
@@ -30,6 +29,11 @@ use Rattle.end_laws.proofs.OwnLaw.{good-paired}
 use Rattle.end_laws.proofs.OwnLemmas.{call-of}
 use Rattle.end_laws.proofs.SendsLaw.{AllRight, right-noted, right-net, right-made, right-paired}
 use Rattle.rpc_base.proofs.BasicLemmas.{if-map}
+use Rattle.rpc_laws.specs.Endpoints.{Endpoint, Lived, noted_two, told}
+use Rattle.end_laws.proofs.SendsLaw.{right-restart}
+use Rattle.end_laws.proofs.Valids.{valid-restart}
+use Rattle.end_laws.proofs.GoodSteps.{good-restart}
+use Rattle.end_laws.proofs.Courses.{restarts}
 
 -- claims of each place are claims of all elements
 pub placed-all : {A : Type 0} (P : ℕ → A → Type 0) (Q : A → Type 0) (xs : List A)
@@ -38,25 +42,25 @@ placed-all P Q [] f h = tt
 placed-all P Q (x ∷ xs) f h = (f 0 x (h 0 x refl), placed-all (λ i. P (suc i)) Q xs (λ i. f (suc i)) (λ i. h (suc i)))
 
 module _ (k : Known) (is_true : IsTrue k) where
-  holds-of : (m : ℕ) (way : Way) (q : Served) → (g : GoodServed k m way q)
+  holds-of : (m : Endpoint) (way : Way) (q : Served) → (g : GoodServed k m way q)
       → HoldsCall k.past m way q g.start.what.number g.start.what.room g.start.what.ask
   holds-of m way q g =
       let a = g.start.what in
       record {
-        own = call-of k.past way.peer way.other q.number g.start a.number m way.number q.number
-            q.req_type a.ask (is_true.starts way.peer way.other q.number g.start g.begun) refl
-            (ap (λ (w : Way). w.peer) g.way_is)
+        own = call-of k.past (peer_of way) way.other q.number g.start a.number m way.number q.number
+            q.req_type a.ask (is_true.starts (peer_of way) way.other q.number g.start g.begun) refl
+            (ap peer_of g.way_is)
             (ap (λ (w : Way). w.other) g.way_is) refl (sym g.req_type) refl;
         size = g.size;
         parts = g.ask;
         answer = if-map (HasRun k m way.number q.number a)
-            (λ answer. Contains k.past (with_two m (Ran way.number q.number q.req_type) a.ask
+            (λ answer. Contains k.past (noted_two m (Ran way.number q.number q.req_type) a.ask
             answer)) q.answer (λ answer r. subst (λ (y : ℕ). Contains k.past
-            (with_two m (Ran way.number q.number y) a.ask answer)) (sym g.req_type)
+            (noted_two m (Ran way.number q.number y) a.ask answer)) (sym g.req_type)
             (ran-there (is_true.runs m way.number q.number _ r))) g.answer;
       }
 
-  served-of : (m : ℕ) (way : Way) (q : Served) → GoodServed k m way q → IsOfCall k.past m way q
+  served-of : (m : Endpoint) (way : Way) (q : Served) → GoodServed k m way q → IsOfCall k.past m way q
   served-of m way q g =
       record {
         call = g.start.what.number;
@@ -65,7 +69,7 @@ module _ (k : Known) (is_true : IsTrue k) where
         holds = holds-of m way q g;
       }
 
-  job-of-call : (m : ℕ) (job : Job) → GoodJob k m job → IsOfJob k.past m job
+  job-of-call : (m : Endpoint) (job : Job) → GoodJob k m job → IsOfJob k.past m job
   job-of-call m job g =
       let a = g.start.what in
       record {
@@ -74,7 +78,7 @@ module _ (k : Known) (is_true : IsTrue k) where
         room = a.room;
         own = call-of k.past g.end.home g.end.client job.request g.start a.number m job.session
             job.request job.req_type job.ask (is_true.starts g.end.home g.end.client job.request
-            g.start g.begun) refl (ap (λ (w : Way). w.peer) g.way_is)
+            g.start g.begun) refl (ap peer_of g.way_is)
             (ap (λ (w : Way). w.other) g.way_is) refl (sym g.req_type) (sym g.own);
       }
 
@@ -84,23 +88,23 @@ module _ (k : Known) (is_true : IsTrue k) where
   run-of way a p (Some size) h =
       record {
         answer = h.answer;
-        ran = ran-there (is_true.runs way.peer way.other p.request _ h.ran);
+        ran = ran-there (is_true.runs (peer_of way) way.other p.request _ h.ran);
         sized = h.sized;
         parts = h.taken;
       }
 
-  session-of : (n : ℕ) (way : Way) (a : Asking) (p : Progress) → GoodProgress k n way a p
+  session-of : (n : Endpoint) (way : Way) (a : Asking) (p : Progress) → GoodProgress k n way a p
       → IsOfSession k.past n way a p
   session-of n way a p g =
       let b : Begin = record { way = way; what = a } in
       record {
-        own = call-of k.past n way.number p.request b a.number way.peer way.other p.request
+        own = call-of k.past n way.number p.request b a.number (peer_of way) way.other p.request
             a.req_type a.ask (is_true.starts n way.number p.request b g.begun) refl refl refl refl
             refl refl;
         answer = run-of way a p p.answer g.answer;
       }
 
-  call-is : (n : ℕ) (way : Way) (c : Call) → GoodCall k n way c → IfSome c.progress (IsOfSession k.past n way c.what)
+  call-is : (n : Endpoint) (way : Way) (c : Call) → GoodCall k n way c → IfSome c.progress (IsOfSession k.past n way c.what)
   call-is n way c g = if-map (GoodProgress k n way c.what)
       (IsOfSession k.past n way c.what) c.progress (session-of n way c.what) g.progress
 
@@ -108,27 +112,27 @@ pub good-ends : (w : Moment) → AllRight w → Good w → TwoEnds w
 good-ends w i g =
     let k = g.known in
     record {
-      servers = λ m l is. subst (λ (past : List Fact). AllByRecursion
-          (λ v. AllByRecursion (IsOfCall past m v.way) v.slots) l.servers) g.past
-          (all-map (GoodServer k m) (λ v. AllByRecursion (IsOfCall k.past m v.way) v.slots)
-          l.servers (λ v s. all-map (GoodServed k m v.way)
-          (IsOfCall k.past m v.way) v.slots (served-of k g.is_true m v.way) s.slots)
+      servers = λ m l is. subst (λ (past : List Lived). AllByRecursion
+          (λ v. AllByRecursion (IsOfCall past (here m l) v.way) v.slots) l.servers) g.past
+          (all-map (GoodServer k (here m l)) (λ v. AllByRecursion (IsOfCall k.past (here m l) v.way) v.slots)
+          l.servers (λ v s. all-map (GoodServed k (here m l) v.way)
+          (IsOfCall k.past (here m l) v.way) v.slots (served-of k g.is_true (here m l) v.way) s.slots)
           ((g.nodes m l is).servers));
-      jobs = λ m l is. subst (λ (past : List Fact). AllByRecursion (IsOfJob past m) l.jobs.out) g.past
-          (all-map (GoodJob k m) (IsOfJob k.past m) l.jobs.out (job-of-call k g.is_true m) ((g.nodes m l is).jobs));
-      clients = λ n l is. subst (λ (past : List Fact). AllByRecursion
-          (λ x. AllByRecursion (λ c. IfSome c.progress (IsOfSession past n x.way c.what)) x.calls)
+      jobs = λ m l is. subst (λ (past : List Lived). AllByRecursion (IsOfJob past (here m l)) l.jobs.out) g.past
+          (all-map (GoodJob k (here m l)) (IsOfJob k.past (here m l)) l.jobs.out (job-of-call k g.is_true (here m l)) ((g.nodes m l is).jobs));
+      clients = λ n l is. subst (λ (past : List Lived). AllByRecursion
+          (λ x. AllByRecursion (λ c. IfSome c.progress (IsOfSession past (here n l) x.way c.what)) x.calls)
           l.clients) g.past
-          (placed-all (GoodClient k n) (λ x. AllByRecursion
-          (λ c. IfSome c.progress (IsOfSession k.past n x.way c.what)) x.calls) l.clients
-          (λ i x s. all-map (GoodCall k n x.way)
-          (λ c. IfSome c.progress (IsOfSession k.past n x.way c.what)) x.calls
-          (call-is k g.is_true n x.way) s.calls) ((g.nodes n l is).clients));
+          (placed-all (GoodClient k (here n l)) (λ x. AllByRecursion
+          (λ c. IfSome c.progress (IsOfSession k.past (here n l) x.way c.what)) x.calls) l.clients
+          (λ i x s. all-map (GoodCall k (here n l) x.way)
+          (λ c. IfSome c.progress (IsOfSession k.past (here n l) x.way c.what)) x.calls
+          (call-is k g.is_true (here n l) x.way) s.calls) ((g.nodes n l is).clients));
     }
 
 -- between the two facts of a pairing
-module _ (f : Fact) (past : List Fact) where
-  more-call : (n c m t r y room : ℕ) (ask : List ℕ) → IsCallOf past n c m t r y room ask
+module _ (f : Lived) (past : List Lived) where
+  more-call : (n : Endpoint) (c : ℕ) (m : Endpoint) (t r y room : ℕ) (ask : List ℕ) → IsCallOf past n c m t r y room ask
       → IsCallOf (f ∷ past) n c m t r y room ask
   more-call n c m t r y room ask h =
       record {
@@ -138,18 +142,18 @@ module _ (f : Fact) (past : List Fact) where
         begun = contains-more f _ past h.begun;
       }
 
-  more-holds : (m : ℕ) (way : Way) (q : Served) (call room : ℕ) (ask : List ℕ)
+  more-holds : (m : Endpoint) (way : Way) (q : Served) (call room : ℕ) (ask : List ℕ)
       → HoldsCall past m way q call room ask → HoldsCall (f ∷ past) m way q call room ask
   more-holds m way q call room ask h = record {
-    own = more-call way.peer call m way.number q.number q.req_type room ask h.own;
+    own = more-call (peer_of way) call m way.number q.number q.req_type room ask h.own;
     size = h.size;
     parts = h.parts;
-    answer = if-map (λ a. Contains past (with_two m (Ran way.number q.number q.req_type) ask a))
-        (λ a. Contains (f ∷ past) (with_two m (Ran way.number q.number q.req_type) ask a)) q.answer
+    answer = if-map (λ a. Contains past (noted_two m (Ran way.number q.number q.req_type) ask a))
+        (λ a. Contains (f ∷ past) (noted_two m (Ran way.number q.number q.req_type) ask a)) q.answer
         (λ a c. contains-more f _ past c) h.answer;
   }
 
-  more-served : (m : ℕ) (way : Way) (q : Served) → IsOfCall past m way q → IsOfCall (f ∷ past) m way q
+  more-served : (m : Endpoint) (way : Way) (q : Served) → IsOfCall past m way q → IsOfCall (f ∷ past) m way q
   more-served m way q h =
       record {
         call = h.call;
@@ -158,10 +162,10 @@ module _ (f : Fact) (past : List Fact) where
         holds = more-holds m way q h.call h.room h.ask h.holds;
       }
 
-  more-session : (n : ℕ) (way : Way) (a : Asking) (p : Progress) → IsOfSession past n way a p
+  more-session : (n : Endpoint) (way : Way) (a : Asking) (p : Progress) → IsOfSession past n way a p
       → IsOfSession (f ∷ past) n way a p
   more-session n way a p h = record {
-    own = more-call n a.number way.peer way.other p.request a.req_type a.room a.ask h.own;
+    own = more-call n a.number (peer_of way) way.other p.request a.req_type a.room a.ask h.own;
     answer = if-map (IsOfRun past way a p) (IsOfRun (f ∷ past) way a p) p.answer
         (λ size r. record {
           answer = r.answer;
@@ -171,7 +175,7 @@ module _ (f : Fact) (past : List Fact) where
         }) h.answer;
   }
 
-  more-jobs : (m : ℕ) (jobs : List Job) → AllByRecursion (IsOfJob past m) jobs
+  more-jobs : (m : Endpoint) (jobs : List Job) → AllByRecursion (IsOfJob past m) jobs
       → AllByRecursion (IsOfJob (f ∷ past) m) jobs
   more-jobs m jobs h =
       all-map (IsOfJob past m) (IsOfJob (f ∷ past) m) jobs
@@ -182,56 +186,57 @@ module _ (f : Fact) (past : List Fact) where
         own = more-call k.node k.call m j.session j.request j.req_type k.room j.ask k.own;
       }) h
 
-  abbrev JobsOf : List Fact → ℕ → Lists → Type 0
-  JobsOf p m l = AllByRecursion (IsOfJob p m) l.jobs.out
+  abbrev JobsOf : List Lived → ℕ → Lists → Type 0
+  JobsOf p m l = AllByRecursion (IsOfJob p (here m l)) l.jobs.out
 
-  abbrev ServersOf : List Fact → ℕ → Lists → Type 0
-  ServersOf p m l = AllByRecursion (λ v. AllByRecursion (IsOfCall p m v.way) v.slots) l.servers
+  abbrev ServersOf : List Lived → ℕ → Lists → Type 0
+  ServersOf p m l = AllByRecursion (λ v. AllByRecursion (IsOfCall p (here m l) v.way) v.slots) l.servers
 
-  abbrev ClientsOf : List Fact → ℕ → Lists → Type 0
+  abbrev ClientsOf : List Lived → ℕ → Lists → Type 0
   ClientsOf p n l = AllByRecursion (λ x. AllByRecursion
-      (λ c. IfSome c.progress (IsOfSession p n x.way c.what)) x.calls) l.clients
+      (λ c. IfSome c.progress (IsOfSession p (here n l) x.way c.what)) x.calls) l.clients
 
   more-servers : (m : ℕ) (l : Lists) → ServersOf past m l → ServersOf (f ∷ past) m l
   more-servers m l h =
-      all-map (λ v. AllByRecursion (IsOfCall past m v.way) v.slots)
-      (λ v. AllByRecursion (IsOfCall (f ∷ past) m v.way) v.slots) l.servers
-      (λ v s. all-map (IsOfCall past m v.way)
-      (IsOfCall (f ∷ past) m v.way) v.slots (more-served m v.way) s) h
+      all-map (λ v. AllByRecursion (IsOfCall past (here m l) v.way) v.slots)
+      (λ v. AllByRecursion (IsOfCall (f ∷ past) (here m l) v.way) v.slots) l.servers
+      (λ v s. all-map (IsOfCall past (here m l) v.way)
+      (IsOfCall (f ∷ past) (here m l) v.way) v.slots (more-served (here m l) v.way) s) h
 
   more-clients : (n : ℕ) (l : Lists) → ClientsOf past n l → ClientsOf (f ∷ past) n l
   more-clients n l h =
-      all-map (λ x. AllByRecursion (λ c. IfSome c.progress (IsOfSession past n x.way c.what))
-      x.calls) (λ x. AllByRecursion (λ c. IfSome c.progress (IsOfSession (f ∷ past) n x.way c.what))
-      x.calls) l.clients (λ x s. all-map (λ c. IfSome c.progress (IsOfSession past n x.way c.what))
-      (λ c. IfSome c.progress (IsOfSession (f ∷ past) n x.way c.what)) x.calls
-      (λ c t. if-map (IsOfSession past n x.way c.what)
-      (IsOfSession (f ∷ past) n x.way c.what) c.progress (more-session n x.way c.what) t) s) h
+      all-map (λ x. AllByRecursion (λ c. IfSome c.progress (IsOfSession past (here n l) x.way c.what))
+      x.calls) (λ x. AllByRecursion (λ c. IfSome c.progress (IsOfSession (f ∷ past) (here n l) x.way c.what))
+      x.calls) l.clients (λ x s. all-map (λ c. IfSome c.progress (IsOfSession past (here n l) x.way c.what))
+      (λ c. IfSome c.progress (IsOfSession (f ∷ past) (here n l) x.way c.what)) x.calls
+      (λ c t. if-map (IsOfSession past (here n l) x.way c.what)
+      (IsOfSession (f ∷ past) (here n l) x.way c.what) c.progress (more-session (here n l) x.way c.what) t) s) h
 
 between-ends : (w : Moment) (n m credits : ℕ) (client server : Lists)
     → Ends w n m credits client server → TwoEnds w
     → TwoEnds (moved w (client_fact n m credits client server))
 between-ends w n m credits client server e h =
     let one : Fact = client_fact n m credits client server in
+    let told_one : Lived = told w.past one in
     let nodes_are : changed w.clock (Some client) n w.nodes one ≡ (moved w one).nodes =
     ap (λ (o : Option Lists). changed w.clock o n w.nodes one) (sym e.is_client) in
     let new = all-add (λ x. AllByRecursion (λ c. IfSome c.progress
-    (IsOfSession (one ∷ w.past) n x.way c.what)) x.calls) client.clients _
-    (more-clients one w.past n client (h.clients n client e.is_client)) tt in
+    (IsOfSession (told_one ∷ w.past) (here n client) x.way c.what)) x.calls) client.clients _
+    (more-clients told_one w.past n client (h.clients n client e.is_client)) tt in
     record {
-      servers = subst (λ (ns : List Lists). Placed (ServersOf one w.past (one ∷ w.past)) ns) nodes_are
-          (set-placed (ServersOf one w.past (one ∷ w.past)) w.nodes n client
+      servers = subst (λ (ns : List Lists). Placed (ServersOf told_one w.past (told_one ∷ w.past)) ns) nodes_are
+          (set-placed (ServersOf told_one w.past (told_one ∷ w.past)) w.nodes n client
           (after w.clock client one) e.is_client
-          (more-servers one w.past n client (h.servers n client e.is_client))
-          (λ i l ne is. more-servers one w.past i l (h.servers i l is)));
-      jobs = subst (λ (ns : List Lists). Placed (JobsOf one w.past (one ∷ w.past)) ns) nodes_are
-          (set-placed (JobsOf one w.past (one ∷ w.past)) w.nodes n client (after w.clock client one)
-          e.is_client (more-jobs one w.past n client.jobs.out (h.jobs n client e.is_client))
-          (λ i l ne is. more-jobs one w.past i l.jobs.out (h.jobs i l is)));
-      clients = subst (λ (ns : List Lists). Placed (ClientsOf one w.past (one ∷ w.past)) ns) nodes_are
-          (set-placed (ClientsOf one w.past (one ∷ w.past)) w.nodes n client
+          (more-servers told_one w.past n client (h.servers n client e.is_client))
+          (λ i l ne is. more-servers told_one w.past i l (h.servers i l is)));
+      jobs = subst (λ (ns : List Lists). Placed (JobsOf told_one w.past (told_one ∷ w.past)) ns) nodes_are
+          (set-placed (JobsOf told_one w.past (told_one ∷ w.past)) w.nodes n client (after w.clock client one)
+          e.is_client (more-jobs told_one w.past (here n client) client.jobs.out (h.jobs n client e.is_client))
+          (λ i l ne is. more-jobs told_one w.past (here i l) l.jobs.out (h.jobs i l is)));
+      clients = subst (λ (ns : List Lists). Placed (ClientsOf told_one w.past (told_one ∷ w.past)) ns) nodes_are
+          (set-placed (ClientsOf told_one w.past (told_one ∷ w.past)) w.nodes n client
           (after w.clock client one) e.is_client new
-          (λ i l ne is. more-clients one w.past i l (h.clients i l is)));
+          (λ i l ne is. more-clients told_one w.past i l (h.clients i l is)));
     }
 
 pub course-ends : (w : Moment) (h : List Fact) (u : Moment) → Course false w h u → AllRight w → AllValid w
@@ -253,6 +258,11 @@ course-ends _ _ _ (at_node w n l f h u a c) i v g = (
   good-ends w i g,
   course-ends (moved w f) h u c (right-noted w n l f a i) (valid-node w n l f a v)
       (good-node w n l f a i v g),
+)
+course-ends _ _ _ (restarts w n l h u is me life c) i v g = (
+  good-ends w i g,
+  course-ends _ h u c (right-restart w n l is i) (valid-restart w n l is v)
+      (good-restart w n l is me g),
 )
 course-ends _ _ _ (pairs w n m credits client server h u e c) i v g = (
   good-ends w i g,

@@ -6,19 +6,22 @@ use Rattle.rpc_base.specs.declared.fact.Fact.{Fact}
 use Rattle.rpc_base.specs.declared.owner.Owner.{Owner}
 use Rattle.rpc_laws.specs.declared.tables.Lists.{Lists}
 use Rattle.rpc_laws.specs.BufferSafety.{SentRight}
+use Rattle.rpc_laws.specs.Endpoints.{Lived, noted_two}
 use Rattle.rpc_laws.specs.Facts.{with_two}
 use Rattle.end_laws.specs.Moments.{Moment, Always, first_moment, nodes_left}
 
 -- these bytes were sent by a node to a node: a Sent has them as head and body, and they spell a
 -- packet that its owner had by the lists before that Sent
-pub record WasSent (past : List Fact) (from to : ℕ) (bytes : List ℕ) : Type 0 where
-  pub later : List Fact
-  pub earlier : List Fact
+pub record WasSent (past : List Lived) (from to : ℕ) (bytes : List ℕ) : Type 0 where
+  pub later : List Lived
+  pub earlier : List Lived
+  pub life : ℕ
   pub owner : Owner
   pub number : ℕ
   pub head : List ℕ
   pub body : List ℕ
-  pub in_past : past ≡ later ++ with_two from (Sent to owner number) head body ∷ earlier
+  pub in_past : past ≡ later ++ noted_two (record { node = from; life = life })
+      (Sent to owner number) head body ∷ earlier
   pub own : SentRight (nodes_left earlier) from (Sent to owner number) head body
   pub whole : bytes ≡ head ++ body
 

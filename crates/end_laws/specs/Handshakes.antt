@@ -11,44 +11,52 @@ use Rattle.rpc_base.specs.declared.owner.Owner.TheVariants.{Control}
 use Rattle.rpc_base.specs.declared.state.SessionState.TheVariants.{Connecting}
 use Rattle.rpc_laws.specs.declared.tables.Client.{Client}
 use Rattle.rpc_laws.specs.declared.tables.Lists.{Lists}
-use Rattle.rpc_laws.specs.Facts.{plain, with_two}
+use Rattle.rpc_laws.specs.Endpoints.{Endpoint, Lived, noted, noted_two}
 use Rattle.rpc_laws.specs.Front.{control_of}
-use Rattle.rpc_laws.specs.Sessions.{is_connected}
+use Rattle.rpc_laws.specs.Sessions.{is_connected, is_with}
 use Rattle.end_laws.specs.Genuine.{Travels}
 use Rattle.end_laws.specs.Moments.{Moment, Always, first_moment}
 
--- node m made server session t for session s of node n, with so many credits: by pairing, or it
--- accepted it
-pub data IsMade (past : List Fact) (m t n s credits : ℕ) : Type 0 where
-  paired : Contains past (plain m (PairedServer t n s credits)) → IsMade past m t n s credits
-  accepted : Contains past (plain m (Accepted t n s credits)) → IsMade past m t n s credits
+-- endpoint m made server session t for session s of endpoint n, with so many credits: by pairing,
+-- or it accepted it
+pub data IsMade (past : List Lived) (m : Endpoint) (t : ℕ) (n : Endpoint) (s credits : ℕ)
+    : Type 0 where
+  paired : Contains past (noted m (PairedServer t n.node s credits n.life))
+      → IsMade past m t n s credits
+  accepted : Contains past (noted m (Accepted t n.node s credits n.life))
+      → IsMade past m t n s credits
 
--- a control packet names a server session that its sender made for its receiver's client session,
--- with the credits that it tells
-pub record NamesMade (past : List Fact) (from to : ℕ) (h : ControlHeader) : Type 0 where
+-- a control packet names a server session that its sender made, in the life that it tells, for its
+-- receiver's client session in the life that it goes to, with the credits that it tells
+pub record NamesMade (past : List Lived) (from to : ℕ) (h : ControlHeader) : Type 0 where
   pub server : ℕ
   pub names : h.server ≡ Some server
-  pub made : IsMade past from server to h.client h.credits
+  pub life : ℕ
+  pub goes_to : h.to_life ≡ Some life
+  pub made : IsMade past (record { node = from; life = h.from_life }) server
+      (record { node = to; life = life }) h.client h.credits
 
 -- so does each connect reply with status 0
-abbrev pub ConnectsMade : List Fact → (from to : ℕ) → List ℕ → Type 0
+abbrev pub ConnectsMade : List Lived → (from to : ℕ) → List ℕ → Type 0
 ConnectsMade past from to bytes =
     (h : ControlHeader) → control_of bytes ≡ Some h → h.kind ≡ ConnectReply → h.status ≡ 0
     → NamesMade past from to h
 
--- a client session isn't connected with server session t, and won't be
-pub record IsLetGo (x : Client) (t : ℕ) : Type 0 where
+-- a client session isn't connected with server session t in this life of its node, and won't be
+pub record IsLetGo (x : Client) (t life : ℕ) : Type 0 where
   pub opens : x.state ≡ Connecting → ⊥
-  pub apart : is_connected x.state ≡ true → x.way.other ≡ t → ⊥
+  pub apart : is_connected x.state ≡ true → is_with t life x.way ≡ true → ⊥
 
--- so it is of each client session of node n for which the node sent a request to disconnect server
--- session t
-abbrev pub LetsGo : List Fact → ℕ → Lists → Type 0
+-- so it is of each client session of node n for which the node, in its present life, sent a request
+-- to disconnect server session t
+abbrev pub LetsGo : List Lived → ℕ → Lists → Type 0
 LetsGo past n l =
     (peer number : ℕ) (head body : List ℕ)
-    → Contains past (with_two n (Sent peer Control number) head body) → (h : ControlHeader)
-    → control_of (head ++ body) ≡ Some h → h.kind ≡ DisconnectRequest → (t : ℕ)
-    → h.server ≡ Some t → AllByRecursion (λ x. x.way.number ≡ h.client → IsLetGo x t) l.clients
+    → Contains past
+    (noted_two (record { node = n; life = l.life }) (Sent peer Control number) head body)
+    → (h : ControlHeader) → control_of (head ++ body) ≡ Some h → h.kind ≡ DisconnectRequest
+    → (t life : ℕ) → h.server ≡ Some t → h.to_life ≡ Some life
+    → AllByRecursion (λ x. x.way.number ≡ h.client → IsLetGo x t life) l.clients
 
 -- both ends of each session agree so far
 pub record Agree (w : Moment) : Type 0 where

@@ -1,5 +1,6 @@
 -- Runs of several nodes together over a network that carries, loses, repeats and holds back copies
--- of what they send. Each node has its own limits, its own service and its own clock.
+-- of what they send. Each node has its own limits, its own service and its own clock, and lives its
+-- first life: none is restarted.
 use Rattle.std.specs.Prelude.{ℕ, ◌≡◌, ◌≢◌, ◌≤◌, ◌<◌, Some, None, List, [], ◌∷◌, ◌++◌, length, map}
 use Rattle.std.specs.Prelude.{slice_get, count_by}
 use Rattle.std.specs.List.{filter, remove, slice_set}
@@ -11,7 +12,6 @@ use Rattle.rpc_base.specs.declared.limits.Limits.{Limits}
 use Rattle.rpc_base.specs.declared.limits.TheConstants.{SESSION_NUMBERS}
 use Rattle.rpc_outside.specs.declared.service.Mode.{Mode}
 use Rattle.rpc_laws.specs.declared.tables.InFlight.{InFlight}
-use Rattle.rpc_laws.specs.declared.tables.Lists.{Lists}
 use Rattle.rpc_laws.specs.declared.tables.Timed.{Timed}
 use Rattle.rpc_laws.specs.AtMostOnce.{is_at, works_request}
 use Rattle.rpc_laws.specs.Deliveries.{Delivers}
@@ -24,9 +24,8 @@ use Rattle.rpc_laws.specs.OwnAnswer.{Own, OwnBy}
 use Rattle.rpc_laws.specs.Service.{Serving, Answers, plain_serving}
 use Rattle.rpc_laws.specs.GoBackN.{usual_timeout}
 use Rattle.rpc_laws.specs.Jobs.{usual_jobs}
-use Rattle.node_laws.specs.CallHistory.{latest_first}
 use Rattle.node_laws.specs.NodeRun.{Group, IsCredits, pairs_client, pairs_server, delivers}
-use Rattle.end_laws.specs.Moments.{Moment}
+use Rattle.end_laws.specs.Moments.{Moment, lived_first}
 
 -- what a node is made with, beside its ring: how many jobs may be out, its timeout, and its service
 pub record Party : Type 0 where
@@ -50,8 +49,8 @@ nobody = record { nodes = []; flight = [] }
 -- is delivered out of flight
 abbrev pub IsAlone : (mode : ℕ → Mode) (s : Timed) (x : List Fact) (t : Timed)
     → Group mode s x t → Type 0
-IsAlone mode s x t (pairs_client peer server credits may h) = ⊥
-IsAlone mode s x t (pairs_server peer client credits may h) = ⊥
+IsAlone mode s x t (pairs_client peer server credits life may h) = ⊥
+IsAlone mode s x t (pairs_server peer client credits life may h) = ⊥
 IsAlone mode s x t (delivers peer bytes h) = ⊥
 IsAlone mode s x t _ = Unit {0}
 
@@ -103,9 +102,11 @@ pub record PairsNodes (s : Joint) (x : List Fact) (t : Joint) : Type 0 where
   pub at_client : Fact
   pub at_server : Fact
   pub for_client : at_client ≡ plain client.lists.me
-      (PairedClient (length client.lists.clients) b server.lists.server_numbers credits)
+      (PairedClient (length client.lists.clients) b server.lists.server_numbers credits
+      server.lists.life)
   pub for_server : at_server ≡ plain server.lists.me
-      (PairedServer server.lists.server_numbers a (length client.lists.clients) credits)
+      (PairedServer server.lists.server_numbers a (length client.lists.clients) credits
+      client.lists.life)
   pub facts : x ≡ at_client ∷ at_server ∷ []
   pub left : t ≡ record s {
     nodes = slice_set (slice_set s.nodes a (noted_by client at_client)) b
@@ -206,7 +207,7 @@ moment_left h t = record {
   nodes = map (λ s. s.lists) t.nodes;
   flight = t.flight;
   hand = None;
-  past = latest_first [] h;
+  past = lived_first [] h;
 }
 
 -- a claim of a moment with those nodes, copies and facts, whatever is in hand
@@ -214,5 +215,5 @@ pub record LeavesAs (P : Moment → Type 0) (h : List Fact) (t : Joint) : Type 0
   pub moment : Moment
   pub nodes : moment.nodes ≡ map (λ s. s.lists) t.nodes
   pub flight : moment.flight ≡ t.flight
-  pub past : moment.past ≡ latest_first [] h
+  pub past : moment.past ≡ lived_first [] h
   pub holds : P moment

@@ -10,17 +10,18 @@ use Rattle.rpc_laws.specs.declared.tables.Arrival.{Arrival}
 use Rattle.rpc_laws.specs.declared.tables.InFlight.{InFlight}
 use Rattle.rpc_laws.specs.declared.tables.Lists.{Lists}
 use Rattle.rpc_laws.specs.BufferSafety.{clock_after, nodes_after}
+use Rattle.rpc_laws.specs.Endpoints.{Lived, told}
 use Rattle.rpc_laws.specs.InFlight.{flight_after}
 
 -- the clock of the world, the lists of each node, the copies in flight, the datagram that was taken
 -- last, out of flight to be delivered or out of an inbox to be handled, and the facts so far, the
--- newest first
+-- newest first, each with the life that its node had
 pub record Moment : Type 0 where
   pub clock : ℕ
   pub nodes : List Lists
   pub flight : List InFlight
   pub hand : Option InFlight
-  pub past : List Fact
+  pub past : List Lived
 
 -- Carried takes the copy of its number
 abbrev pub hand_of : Event → List InFlight → Option InFlight → Option InFlight
@@ -52,7 +53,7 @@ moved w f = record {
   nodes = nodes_after w.clock w.nodes f;
   flight = flight_after w.flight f;
   hand = hand_after f.who f.event w.nodes w.flight w.hand;
-  past = f ∷ w.past;
+  past = told w.past f ∷ w.past;
 }
 
 -- before the first fact
@@ -60,13 +61,18 @@ abbrev pub first_moment : Moment
 first_moment = record { clock = 0; nodes = []; flight = []; hand = None; past = [] }
 
 -- the world's clock and the nodes' lists that some facts leave, the newest first
-abbrev pub clock_left : List Fact → ℕ
+abbrev pub clock_left : List Lived → ℕ
 clock_left [] = 0
-clock_left (f ∷ past) = clock_after f.who f.event (clock_left past)
+clock_left (f ∷ past) = clock_after f.fact.who f.fact.event (clock_left past)
 
-abbrev pub nodes_left : List Fact → List Lists
+abbrev pub nodes_left : List Lived → List Lists
 nodes_left [] = []
-nodes_left (f ∷ past) = nodes_after (clock_left past) (nodes_left past) f
+nodes_left (f ∷ past) = nodes_after (clock_left past) (nodes_left past) f.fact
+
+-- these facts, each with the life of its node, and then the others before them, the newest first
+abbrev pub lived_first : List Lived → List Fact → List Lived
+lived_first past [] = past
+lived_first past (f ∷ h) = lived_first (told past f ∷ past) h
 
 -- a claim at each moment of a history, before its first fact and after each
 abbrev pub Always : (Moment → Type 0) → Moment → List Fact → Type 0

@@ -1,6 +1,6 @@
 -- Runs of nodes over wires of which nothing is known but that each datagram that comes was sent
 -- before, by its sender to its node: any number of times, late, and in any order.
-use Rattle.std.specs.Prelude.{ℕ, ◌≡◌, ◌≤◌, Some, List, [], ◌∷◌, ◌++◌, slice_get, count_by}
+use Rattle.std.specs.Prelude.{ℕ, ◌≡◌, ◌≤◌, Some, List, [], ◌++◌, slice_get, count_by}
 use Rattle.std.specs.List.{slice_set}
 use Rattle.rpc_base.specs.declared.fact.Fact.{Fact}
 use Rattle.rpc_laws.specs.declared.tables.InFlight.{InFlight}
