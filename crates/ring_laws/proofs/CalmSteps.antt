@@ -124,19 +124,19 @@ told : (clock : ℕ) (o : Option ControlHeader) (xs : List Client) → AllByRecu
 told clock None xs h = h
 told clock (Some c) xs h =
     changes (is_client c.client) (requests clock c) xs
-    (λ x k. told-by clock (is_request_of c.kind c.server x.state x.way.other) x k) h
+    (λ x k. told-by clock (is_request_of c.kind c.server c.to_life x.state x.way) x k) h
 
 pub calm-step : (clock : ℕ) (hand : Option InFlight) (l : Lists) (e : Event) (first second : List ℕ)
     → Lawful l e → no_roll e ≡ true → May hand l e first second → CalmNode l
     → AllByRecursion CalmClient (clients_after clock e first (front_header l.ring)
     (front_body l.ring) l.clients)
-calm-step clock hand l (PairedClient a p t c) first second n calm m h = absurd m
+calm-step clock hand l (PairedClient a p t c life) first second n calm m h = absurd m
 calm-step clock hand l (Rolled c posted got) first second n calm m h = cc
 calm-step clock hand l (Broken a) first second n calm m h = absurd (no-break l a m h)
 calm-step clock hand l (Opened a p c) first second n calm m h =
     all-add CalmClient l.clients _ h (record { idle = λ e. refl; calls = tt })
-calm-step clock hand l (Connected a t) first second n calm m h =
-    changes (is_client a) (connects t) l.clients
+calm-step clock hand l (Connected a t life) first second n calm m h =
+    changes (is_client a) (connects t life) l.clients
     (λ x k. record { idle = λ e. false-true (sym e); calls = k.calls }) h
 calm-step clock hand l (FailedNoRoom a) first second n calm m h =
     comes-idle a Failed l.clients n.client n.found

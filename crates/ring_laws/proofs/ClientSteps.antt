@@ -181,11 +181,11 @@ balance-of : (l : Lists) (v : Valid l) (s : ℕ) (x : Client) → find (is_clien
 balance-of l v s x found live =
     (all-found Sound (is_client s) l.clients x v.sound found).balance live
 
-joins-move : (l : Lists) (v : Valid l) (s t : ℕ) (x : Client) → find (is_client s) l.clients
+joins-move : (l : Lists) (v : Valid l) (s t life : ℕ) (x : Client) → find (is_client s) l.clients
     ≡ Some x
     → x.state ≡ Connecting
-    → free_in (connects t x) + limit_in x ≤ free_in x + limit_in (connects t x)
-joins-move l v s t x found e =
+    → free_in (connects t life x) + limit_in x ≤ free_in x + limit_in (connects t life x)
+joins-move l v s t life x found e =
     let balance = balance-of l v s x found (ap is_live e) in
     let two : limit_in x ≡ 0 = ap (λ (b : Bool). cond b x.limit 0) (ap is_connected e) in
     omega arith
@@ -273,37 +273,61 @@ no_roll _ = true
 abbrev pub ClientStep : Filter → ℕ → Option ℕ → Event → List ℕ → Lists → Type 0
 ClientStep p s due e first l =
     count (λ q. own_ask p s q.owner q.number) (queued_after e due l.queued)
-    + count (λ a. replies p s (message_of a.bytes)) (ring_after e first l.ring) + sent_ask p s e
-    + took_reply p s e ≤ client_packets p s l + posted_ask p s e + given_reply p s e first
+    + count (λ a. replies p l.life s (message_of a.bytes)) (ring_after e first l.ring) + sent_ask p s e
+    + took_reply p s e ≤ client_packets p s l + posted_ask p s e + given_reply p l.life s e first
 
 pub client-step : (p : Filter) (s : ℕ) (due : Option ℕ) (latest : Option Fact)
     (hand : Option InFlight) (l : Lists) (e : Event) (first second : List ℕ)
     → May hand l e first second → Linked latest l e first → ClientStep p s due e first l
-client-step p s due latest hand l (Posted (Ask a r) k) first second m o = let q = count-put (λ (q : Queued). own_ask p s q.owner q.number) (record { owner = Ask a r; number = k; due = due }) l.queued in omega arith
-client-step p s due latest hand l (Posted (Reply t r) k) first second m o = let q = count-put (λ (q : Queued). own_ask p s q.owner q.number) (record { owner = Reply t r; number = k; due = due }) l.queued in omega arith
+client-step p s due latest hand l (Posted (Ask a r) k) first second m o =
+    let q = count-put (λ (q : Queued). own_ask p s q.owner q.number)
+    (record { owner = Ask a r; number = k; due = due }) l.queued in
+    omega arith
+client-step p s due latest hand l (Posted (Reply t r) k) first second m o =
+    let q = count-put (λ (q : Queued). own_ask p s q.owner q.number)
+    (record { owner = Reply t r; number = k; due = due }) l.queued in
+    omega arith
 client-step p s due latest hand l (Posted Control k) first second m o = absurd m
-client-step p s due latest hand l (Flushed owner k) first second m o = let q = count-less (λ (q : Queued). own_ask p s q.owner q.number) (is_queued owner k) l.queued in omega arith
+client-step p s due latest hand l (Flushed owner k) first second m o =
+    let q = count-less (λ (q : Queued). own_ask p s q.owner q.number) (is_queued owner k) l.queued in
+    omega arith
 client-step p s due latest hand l (Sent peer (Ask a r) k) first second m o =
     let q = count-found (λ (q : Queued). own_ask p s q.owner q.number)
     (is_queued (Ask a r) k) l.queued _
     (front-queued l.queued (Ask a r) k m.due m.is_front) in
     omega arith
-client-step p s due latest hand l (Sent peer (Reply t r) k) first second m o = let q = count-less (λ (q : Queued). own_ask p s q.owner q.number) (is_queued (Reply t r) k) l.queued in omega arith
-client-step p s due latest hand l (Sent peer Control k) first second m o = let q = count-less (λ (q : Queued). own_ask p s q.owner q.number) (is_queued Control k) l.queued in omega arith
-client-step p s due latest hand l (Arrived peer) first second m o = let r = count-arrived (replies p s) (is_message first) (record { peer = peer; bytes = first }) l.ring in omega arith
-client-step p s due latest hand l (Polled now) first second m o = let q = count-ready (own_ask p s) now l.queued in omega arith
+client-step p s due latest hand l (Sent peer (Reply t r) k) first second m o =
+    let q = count-less (λ (q : Queued). own_ask p s q.owner q.number) (is_queued (Reply t r) k) l.queued in
+    omega arith
+client-step p s due latest hand l (Sent peer Control k) first second m o =
+    let q = count-less (λ (q : Queued). own_ask p s q.owner q.number) (is_queued Control k) l.queued in
+    omega arith
+client-step p s due latest hand l (Arrived peer) first second m o =
+    let r = count-arrived (replies p l.life s) (is_message first) (record { peer = peer; bytes = first }) l.ring in
+    omega arith
+client-step p s due latest hand l (Polled now) first second m o =
+    let q = count-ready (own_ask p s) now l.queued in
+    omega arith
 client-step p s due latest hand l (Took (Ask a r) k) first second m o =
     let h = m.header in
     let kind = turn-replies _ _ _ h _ m.of_turn in
     let number : k ≡ h.number = sym (o h m.is_front.reads) in
-    let front = front-counts (replies p s) l.ring m.front h m.is_front.is_front m.is_front.reads in
-    let counted : cond {A = ℕ} (replies p s (Some h)) 1 0 ≡ cond (a == s && p r k) 1 0 =
-    rw (kind, m.of_session, m.of_request, number) refl in
+    let front = front-counts (replies p l.life s) l.ring m.front h m.is_front.is_front m.is_front.reads in
+    let counted : cond {A = ℕ} (replies p l.life s (Some h)) 1 0 ≡ cond (a == s && p r k) 1 0 =
+    rw (kind, m.is_front.for_us, eq-eqb l.life l.life refl, m.of_session, m.of_request, number) refl in
     omega arith
-client-step p s due latest hand l (Took (Reply t r) k) first second m o = let d = count-drop (λ (a : Arrival). replies p s (message_of a.bytes)) l.ring in omega arith
-client-step p s due latest hand l (Took Control k) first second m o = let d = count-drop (λ (a : Arrival). replies p s (message_of a.bytes)) l.ring in omega arith
-client-step p s due latest hand l (Again owner k) first second m o = let d = count-drop (λ (a : Arrival). replies p s (message_of a.bytes)) l.ring in omega arith
-client-step p s due latest hand l (Dropped why) first second m o = let d = count-drop (λ (a : Arrival). replies p s (message_of a.bytes)) l.ring in omega arith
+client-step p s due latest hand l (Took (Reply t r) k) first second m o =
+    let d = count-drop (λ (a : Arrival). replies p l.life s (message_of a.bytes)) l.ring in
+    omega arith
+client-step p s due latest hand l (Took Control k) first second m o =
+    let d = count-drop (λ (a : Arrival). replies p l.life s (message_of a.bytes)) l.ring in
+    omega arith
+client-step p s due latest hand l (Again owner k) first second m o =
+    let d = count-drop (λ (a : Arrival). replies p l.life s (message_of a.bytes)) l.ring in
+    omega arith
+client-step p s due latest hand l (Dropped why) first second m o =
+    let d = count-drop (λ (a : Arrival). replies p l.life s (message_of a.bytes)) l.ring in
+    omega arith
 client-step p s due latest hand l _ first second m o = omega arith
 
 -- a credit for each packet
@@ -346,9 +370,9 @@ told-credit : (clock s : ℕ) (o : Option ControlHeader) (xs : List Client)
 told-credit clock s None xs = omega arith
 told-credit clock s (Some h) xs =
     free-kept s (is_client h.client) (requests clock h) xs
-    (λ c. told-number clock (is_request_of h.kind h.server c.state c.way.other) c)
-    (λ c. told-in free_in clock (is_request_of h.kind h.server c.state c.way.other) c refl)
-    (λ c. told-in limit_in clock (is_request_of h.kind h.server c.state c.way.other) c refl)
+    (λ c. told-number clock (is_request_of h.kind h.server h.to_life c.state c.way) c)
+    (λ c. told-in free_in clock (is_request_of h.kind h.server h.to_life c.state c.way) c refl)
+    (λ c. told-in limit_in clock (is_request_of h.kind h.server h.to_life c.state c.way) c refl)
 
 -- a new session is Connecting
 new-idle : (s : ℕ) (xs : List Client) (c : Client) → free_in c ≡ 0 → limit_in c ≡ 0
@@ -380,12 +404,12 @@ CreditStep clock s e first l =
 pub credit-step : (clock s : ℕ) (hand : Option InFlight) (l : Lists) (e : Event)
     (first second : List ℕ) → Valid l → Lawful l e → no_roll e ≡ true
     → ((a : ℕ) → e ≡ Broken a → ⊥) → May hand l e first second → CreditStep clock s e first l
-credit-step clock s hand l (PairedClient a p t c) first second v n calm whole m = absurd m
+credit-step clock s hand l (PairedClient a p t c life) first second v n calm whole m = absurd m
 credit-step clock s hand l (Opened a p c) first second v n calm whole m =
     let k = new-idle s l.clients (opened_end a p c) refl refl in omega arith
-credit-step clock s hand l (Connected a t) first second v n calm whole m =
-    let k = moves-credit s a (connects t) l.clients n.client (λ c. refl) n.found
-    (joins-move l v a t n.client n.found n.stands) in
+credit-step clock s hand l (Connected a t life) first second v n calm whole m =
+    let k = moves-credit s a (connects t life) l.clients n.client (λ c. refl) n.found
+    (joins-move l v a t life n.client n.found n.stands) in
     omega arith
 credit-step clock s hand l (FailedNoRoom a) first second v n calm whole m =
     let k = moves-credit s a (comes_to Failed) l.clients n.client (λ c. refl) n.found

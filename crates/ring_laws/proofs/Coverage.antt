@@ -19,6 +19,7 @@ use Rattle.rpc_laws.specs.declared.tables.Lists.{Lists}
 use Rattle.rpc_laws.specs.declared.tables.Server.{Server}
 use Rattle.rpc_laws.specs.Front.{is_message}
 use Rattle.rpc_laws.specs.Groups.{live_credits}
+use Rattle.rpc_laws.specs.Lives.{first_life}
 use Rattle.rpc_laws.specs.Requests.{is_server}
 use Rattle.rpc_laws.specs.Sessions.{is_client, is_connected}
 use Rattle.node_laws.proofs.NumberLemmas.{numbered-at, numbered-found}
@@ -29,8 +30,8 @@ use Rattle.end_laws.specs.Kinds.{is_ask}
 use Rattle.end_laws.specs.Moments.{Moment}
 use Rattle.end_laws.proofs.Allowed.{is_carried}
 use Rattle.end_laws.proofs.Courses.{latest}
-use Rattle.end_laws.proofs.Known.{End, Good, LiveAt}
-use Rattle.end_laws.proofs.ClientLemmas.{is-joined}
+use Rattle.end_laws.specs.TwoEnds.{peer_of}
+use Rattle.end_laws.proofs.Known.{End, Good}
 use Rattle.end_laws.proofs.ListLemmas.{all-add, Placed}
 use Rattle.end_laws.proofs.ServerLemmas.{server-at}
 use Rattle.end_laws.proofs.TwoEndsLaw.{placed-all}
@@ -48,7 +49,9 @@ use Rattle.ring_laws.proofs.Counting.{value}
 use Rattle.ring_laws.proofs.Loads.{all, asks, carried, client_packets, Filter, limit, limit_in}
 use Rattle.ring_laws.proofs.Loads.{limit_of, load}
 use Rattle.ring_laws.proofs.Loads.{on_way, Pairing, replies, server_packets, Within}
-use Rattle.ring_laws.proofs.Standing.{Alive, Comes, EndOf, FitsIn, GoneAt, JoinedTo, LetsGoCopy}
+use Rattle.ring_laws.proofs.FirstLives.{first, FirstLives, good-first}
+use Rattle.ring_laws.proofs.Standing.{Alive, Comes, EndOf, FitsIn, GoneAt, joined-end, JoinedTo}
+use Rattle.ring_laws.proofs.Standing.{LetsGoCopy, LivesIn}
 
 -- a ring holds messages alone
 abbrev pub AllMessages : List Arrival → Type 0
@@ -57,6 +60,7 @@ AllMessages ring = AllByRecursion (λ a. is_message a.bytes ≡ true) ring
 -- what is so at each calm moment
 pub record Met (w : Moment) : Type 0 where
   pub good : Good w
+  pub lives : FirstLives w
   pub comes : Travels (Comes w.nodes) w
   pub leaves : Travels (LetsGoCopy w.nodes) w
   pub alive : Alive good.known w.nodes
@@ -66,31 +70,35 @@ pub record Met (w : Moment) : Type 0 where
 
 -- the two ends of a session that is joined
 abbrev pub joined-ends : ℕ → ℕ → ℕ → ℕ → Pairing
-joined-ends n s m t = record { home = n; client = s; node = m; session = t }
+joined-ends n s m t = record {
+  home = n;
+  home_life = first_life;
+  client = s;
+  node = m;
+  node_life = first_life;
+  session = t;
+}
 
 -- what is known where a client session is joined
 pub record Joint (w : Moment) (g : Good w) (n s m t credits : ℕ) : Type 0 where
-  pub end : g.known.ends m t 0 ≡ Some (record { home = n; client = s; credits = credits })
+  pub end : g.known.ends (first m) t 0
+      ≡ Some (record { home = first n; client = s; credits = credits })
   pub fits : FitsIn g.known w.nodes (joined-ends n s m t)
 
 -- a session's limit is that of its client end, while it is connected
-pub joint-of : (w : Moment) (g : Good w) (n s m t : ℕ) → (j : JoinedTo w.nodes n s m t)
-    → Joint w g n s m t j.client.limit
-joint-of w g n s m t j =
-    let x = j.client in
-    let good = (g.nodes n j.lists j.is_node).clients s x j.is_there in
-    let own = (is-joined g.known n s x j.joined good).end in
-    let end : g.known.ends m t 0 ≡ Some (record { home = n; client = s; credits = x.limit }) =
-    subst (λ (i : ℕ). g.known.ends i t 0
-    ≡ Some (record { home = n; client = s; credits = x.limit })) j.peer
-    (subst (λ (i : ℕ). g.known.ends x.way.peer i 0
-    ≡ Some (record { home = n; client = s; credits = x.limit })) j.other own) in
+pub joint-of : (w : Moment) (g : Good w) → FirstLives w → (n s m t : ℕ)
+    → (j : JoinedTo w.nodes n s m t) → Joint w g n s m t j.client.limit
+joint-of w g lives n s m t j =
+    let own : End = record { home = first n; client = s; credits = j.client.limit } in
+    let end : g.known.ends (first m) t 0 ≡ Some own = joined-end w g lives n s m t j in
     record {
       end = end;
       fits = record {
-        server = λ e is. let same : record { home = n; client = s; credits = x.limit } ≡ e = cc in
+        server = λ e is. let same : own ≡ e = cc in
             (ap (λ (z : End). z.home) (sym same), ap (λ (z : End). z.client) (sym same));
         client = λ a b h. same-ends a b h;
+        home_life = refl;
+        node_life = refl;
       };
     }
   where
@@ -131,7 +139,7 @@ pub is-asking : (w : Moment) (v : AllValid w) (met : Met w) (n s m t : ℕ)
     → 1 ≤ load all (joined-ends n s m t) w → is_connected j.client.state ≡ true
 is-asking w v met n s m t j some =
     let x = joined-ends n s m t in
-    let within = met.within x (joint-of w met.good n s m t j).fits in
+    let within = met.within x (joint-of w met.good met.lives n s m t j).fits in
     let lim = limit-is w v n s m t j in
     on-way-by (is_connected j.client.state) j.client.limit (omega arith)
 
@@ -142,57 +150,55 @@ pub record ServerEnd (w : Moment) (n s m t credits : ℕ) : Type 0 where
   pub server : Server
   pub found : find (is_server t) lists.servers ≡ Some server
   pub home : server.way.peer ≡ n
+  pub home_life : server.way.life ≡ first_life
   pub client : server.way.other ≡ s
   pub credits_are : server.credits ≡ credits
 
 pub server-end : (w : Moment) (met : Met w) (n s m t : ℕ) (j : JoinedTo w.nodes n s m t)
     → is_connected j.client.state ≡ true → ServerEnd w n s m t j.client.limit
-server-end w met n s m t j state = by (met.alive m t _ joint.end)
+server-end w met n s m t j state = by (met.alive (first m) t _ joint.end)
   where
     joint : Joint w met.good n s m t j.client.limit
-    joint = joint-of w met.good n s m t j
+    joint = joint-of w met.good met.lives n s m t j
 
-    by : LiveAt w.nodes m t ⊎ GoneAt w.nodes n s t → ServerEnd w n s m t j.client.limit
+    by : LivesIn w.nodes (first m) t ⊎ GoneAt w.nodes (first n) s t first_life
+        → ServerEnd w n s m t j.client.limit
     by (inl live) =
         let k = met.good.known in
-        let at = server-at k m live.lists.servers t live.server
-        (met.good.nodes m live.lists live.is_node).servers
-        live.found in
-        let own : k.ends m t 0 ≡ Some (record {
-          home = live.server.way.peer;
-          client = live.server.way.other;
-          credits = live.server.credits;
-        }) = subst (λ (i : ℕ). k.ends m i 0 ≡ Some (record {
-          home = live.server.way.peer;
-          client = live.server.way.other;
-          credits = live.server.credits;
-        })) at.1 at.0.session.end in
+        let lists = live.lists in
+        let has = live.there (met.lives.nodes m lists live.is_node) in
+        let v = has.0 in
+        let at = server-at k (first m) lists.servers t v
+        (good-first w met.good met.lives m lists live.is_node).servers has.1 in
+        let e : End = record { home = peer_of v.way; client = v.way.other; credits = v.credits } in
+        let own : k.ends (first m) t 0 ≡ Some e =
+        subst (λ (i : ℕ). k.ends (first m) i 0 ≡ Some e) at.1 at.0.session.end in
         let end = joint.end in
-        let same : record {
-          home = live.server.way.peer;
-          client = live.server.way.other;
-          credits = live.server.credits;
-        } ≡ record { home = n; client = s; credits = j.client.limit } = cc in
+        let same : e ≡ record { home = first n; client = s; credits = j.client.limit } = cc in
         record {
-          lists = live.lists;
+          lists = lists;
           is_node = live.is_node;
-          server = live.server;
-          found = live.found;
-          home = ap (λ (z : End). z.home) same;
+          server = v;
+          found = has.1;
+          home = ap (λ (z : End). z.home.node) same;
+          home_life = ap (λ (z : End). z.home.life) same;
           client = ap (λ (z : End). z.client) same;
           credits_are = ap (λ (z : End). z.credits) same;
         }
-    by (inr gone) =
-        let node = gone.is_node in
+    by (inr over) =
+        let node = over.is_node in
         let mine = j.is_node in
-        let lists : gone.lists ≡ j.lists = cc in
-        let there : slice_get j.lists.clients s ≡ Some gone.gone.client =
-        subst (λ (z : Lists). slice_get z.clients s ≡ Some gone.gone.client)
-        lists gone.gone.is_there in
+        let lists : over.lists ≡ j.lists = cc in
+        let gone = over.gone (met.lives.nodes n over.lists over.is_node) in
+        let there : slice_get j.lists.clients s ≡ Some gone.client =
+        subst (λ (z : Lists). slice_get z.clients s ≡ Some gone.client) lists gone.is_there in
         let own = j.is_there in
-        let client : gone.gone.client ≡ j.client = cc in
-        absurd (gone.gone.let_go.apart (ap (λ (z : Client). is_connected z.state) client ∙ state)
-        (ap (λ (z : Client). z.way.other) client ∙ j.other))
+        let client : gone.client ≡ j.client = cc in
+        let other = ap (λ (z : Client). z.way.other) client ∙ j.other in
+        let life = ap (λ (z : Client). z.way.life) client ∙ j.life in
+        absurd (gone.let_go.apart (ap (λ (z : Client). is_connected z.state) client ∙ state)
+        (and_from (gone.client.way.other == t) (gone.client.way.life == first_life)
+        (eq-eqb gone.client.way.other t other) (eq-eqb gone.client.way.life first_life life)))
 
 some-at : {A : Type 0} (p : A → Bool) (xs : List A) (i : ℕ) (x : A) → slice_get xs i ≡ Some x
     → p x ≡ true → some_of p xs ≡ true
@@ -256,21 +262,22 @@ none-or : (n : ℕ) → (n ≡ 0) ⊎ (1 ≤ n)
 none-or zero = inl refl
 none-or (suc n) = inr (omega arith)
 
-asks-session : (p : Filter) (t : ℕ) (o : Option MessageHeader) (h : MessageHeader) → o ≡ Some h
-    → asks p t o ≡ true → (is_ask h.kind ≡ true) × (h.session ≡ t)
-asks-session p t None h e a = cc
-asks-session p t (Some g) h e a =
+asks-session : (p : Filter) (life t : ℕ) (o : Option MessageHeader) (h : MessageHeader)
+    → o ≡ Some h → asks p life t o ≡ true → (is_ask h.kind ≡ true) × (h.session ≡ t)
+asks-session p life t None h e a = cc
+asks-session p life t (Some g) h e a =
     let same : g ≡ h = cc in
     let parts = and_parts (is_ask g.kind) _ a in
-    let more = and_parts (g.session == t) _ parts.1 in (
+    let lives = and_parts (g.to_life == life) _ parts.1 in
+    let more = and_parts (g.session == t) _ lives.1 in (
       ap (λ (z : MessageHeader). is_ask z.kind) (sym same) ∙ parts.0,
       ap (λ (z : MessageHeader). z.session) (sym same) ∙ eqb-true g.session t more.0,
     )
 
-asks-header : (p : Filter) (t : ℕ) (o : Option MessageHeader) → asks p t o ≡ true
+asks-header : (p : Filter) (life t : ℕ) (o : Option MessageHeader) → asks p life t o ≡ true
     → (h : MessageHeader) × (o ≡ Some h)
-asks-header p t None a = cc
-asks-header p t (Some h) a = (h, refl)
+asks-header p life t None a = cc
+asks-header p life t (Some h) a = (h, refl)
 
 module _ (w : Moment) (valid : AllValid w) (met : Met w) (n : ℕ) (l : Lists)
     (is : slice_get w.nodes n ≡ Some l)
@@ -282,10 +289,10 @@ module _ (w : Moment) (valid : AllValid w) (met : Met w) (n : ℕ) (l : Lists)
   coming = l.ring ++ record { peer = peer; bytes = bytes } ∷ []
 
   abbrev counts-ask : Server → Arrival → Bool
-  counts-ask v a = asks all v.way.number (message_of a.bytes)
+  counts-ask v a = asks all first_life v.way.number (message_of a.bytes)
 
   abbrev counts-reply : Client → Arrival → Bool
-  counts-reply c a = replies all c.way.number (message_of a.bytes)
+  counts-reply c a = replies all first_life c.way.number (message_of a.bytes)
 
   in-hand : Comes w.nodes peer n bytes
   in-hand = subst (λ (o : Option InFlight). IfSome o (λ c. Comes w.nodes c.from c.to c.bytes))
@@ -298,54 +305,69 @@ module _ (w : Moment) (valid : AllValid w) (met : Met w) (n : ℕ) (l : Lists)
   carried-is : carried w ≡ record { from = peer; to = n; bytes = bytes } ∷ []
   carried-is = rw (due, hand) refl
 
+  life-here : l.life ≡ first_life
+  life-here = met.lives.nodes n l is
+
   self-and : (b : Bool) → (n == n && b) ≡ b
   self-and b = ap (λ a. a && b) (eq-eqb n n refl)
 
   -- what comes counts for its session
-  asks-load : (from s t : ℕ) → count (λ a. asks all t (message_of a.bytes)) coming ≤ load all
-      (joined-ends from s n t) w
+  asks-load : (from s t : ℕ) → count (λ a. asks all first_life t (message_of a.bytes)) coming
+      ≤ load all (joined-ends from s n t) w
   asks-load from s t =
       let x = joined-ends from s n t in
       let part : value (server_packets all t) (slice_get w.nodes n) ≡ server_packets all t l =
       ap (value (server_packets all t)) is in
       let way : on_way all x (carried w) ≡ on_way all x
       (record { from = peer; to = n; bytes = bytes } ∷ []) = ap (on_way all x) carried-is in
-      let mine : cond {A = ℕ} (n == n && asks all t (message_of bytes)) 1 0
-      ≡ cond (asks all t (message_of bytes)) 1 0 =
-      ap {B = ℕ} (λ (b : Bool). cond b 1 0) (self-and (asks all t (message_of bytes))) in
-      let more = count-add (λ (a : Arrival). asks all t (message_of a.bytes)) l.ring
+      let mine : cond {A = ℕ} (n == n && asks all first_life t (message_of bytes)) 1 0
+      ≡ cond (asks all first_life t (message_of bytes)) 1 0 =
+      ap {B = ℕ} (λ (b : Bool). cond b 1 0) (self-and (asks all first_life t (message_of bytes))) in
+      let more = count-add (λ (a : Arrival). asks all first_life t (message_of a.bytes)) l.ring
       (record { peer = peer; bytes = bytes }) in
+      let own : count (λ a. asks all l.life t (message_of a.bytes)) l.ring
+      ≡ count (λ a. asks all first_life t (message_of a.bytes)) l.ring =
+      ap (λ (life : ℕ). count (λ (a : Arrival). asks all life t (message_of a.bytes)) l.ring)
+      life-here in
       omega arith
 
-  replies-load : (s m t : ℕ) → count (λ a. replies all s (message_of a.bytes)) coming ≤ load all
-      (joined-ends n s m t) w
+  replies-load : (s m t : ℕ) → count (λ a. replies all first_life s (message_of a.bytes)) coming
+      ≤ load all (joined-ends n s m t) w
   replies-load s m t =
       let x = joined-ends n s m t in
       let part : value (client_packets all s) (slice_get w.nodes n) ≡ client_packets all s l =
       ap (value (client_packets all s)) is in
       let way : on_way all x (carried w) ≡ on_way all x
       (record { from = peer; to = n; bytes = bytes } ∷ []) = ap (on_way all x) carried-is in
-      let mine : cond {A = ℕ} (n == n && replies all s (message_of bytes)) 1 0
-      ≡ cond (replies all s (message_of bytes)) 1 0 =
-      ap {B = ℕ} (λ (b : Bool). cond b 1 0) (self-and (replies all s (message_of bytes))) in
-      let more = count-add (λ (a : Arrival). replies all s (message_of a.bytes)) l.ring
+      let mine : cond {A = ℕ} (n == n && replies all first_life s (message_of bytes)) 1 0
+      ≡ cond (replies all first_life s (message_of bytes)) 1 0 =
+      ap {B = ℕ} (λ (b : Bool). cond b 1 0)
+      (self-and (replies all first_life s (message_of bytes))) in
+      let more = count-add (λ (a : Arrival). replies all first_life s (message_of a.bytes)) l.ring
       (record { peer = peer; bytes = bytes }) in
+      let own : count (λ a. replies all l.life s (message_of a.bytes)) l.ring
+      ≡ count (λ a. replies all first_life s (message_of a.bytes)) l.ring =
+      ap (λ (life : ℕ). count (λ (a : Arrival). replies all life s (message_of a.bytes)) l.ring)
+      life-here in
       omega arith
 
   -- each counts for one session that is there
   counts-by : (i : ℕ) (a : Arrival) (h : MessageHeader) (b : Bool) → slice_get coming i ≡ Some a
-      → is_ask h.kind ≡ b → message_of a.bytes ≡ Some h → EndOf w.nodes a.peer n b h.session
-      → (some_of (λ v. counts-ask v a) l.servers || some_of (λ c. counts-reply c a) l.clients)
+      → is_ask h.kind ≡ b → message_of a.bytes ≡ Some h → h.to_life ≡ first_life
+      → EndOf w.nodes a.peer n b h.session → (some_of (λ v. counts-ask v a) l.servers
+      || some_of (λ c. counts-reply c a) l.clients)
       ≡ true
-  counts-by i a h true at kind read end =
+  counts-by i a h true at kind read life end =
       let s = end.0 in
       let t = h.session in
       let j = end.1 in
-      let passes : asks all t (message_of a.bytes) ≡ true =
-      ap (asks all t) read
-      ∙ and_from (is_ask h.kind) (h.session == t && true) kind
-      (and_from (h.session == t) true (eq-eqb h.session t refl) refl) in
-      let here = count-one (λ (z : Arrival). asks all t (message_of z.bytes))
+      let passes : asks all first_life t (message_of a.bytes) ≡ true =
+      ap (asks all first_life t) read
+      ∙ and_from (is_ask h.kind) (h.to_life == first_life && (h.session == t && true)) kind
+      (and_from (h.to_life == first_life) (h.session == t && true)
+      (eq-eqb h.to_life first_life life)
+      (and_from (h.session == t) true (eq-eqb h.session t refl) refl)) in
+      let here = count-one (λ (z : Arrival). asks all first_life t (message_of z.bytes))
       coming i a at passes in
       let few = asks-load a.peer s t in
       let state = is-asking w valid met a.peer s n t j (omega arith) in
@@ -357,10 +379,10 @@ module _ (w : Moment) (valid : AllValid w) (met : Met w) (n : ℕ) (l : Lists)
       let number : e.server.way.number ≡ t = eqb-true e.server.way.number t
       (find-passes (is_server t) l.servers e.server found) in
       let own : counts-ask e.server a ≡ true =
-      ap (λ (k : ℕ). asks all k (message_of a.bytes)) number ∙ passes in
+      ap (λ (k : ℕ). asks all first_life k (message_of a.bytes)) number ∙ passes in
       let some = some-found (λ v. counts-ask v a) (is_server t) l.servers e.server found own in
       rw some refl
-  counts-by i a h false at kind read end =
+  counts-by i a h false at kind read life end =
       let s = h.session in
       let m = a.peer in
       let j = end.1 in
@@ -372,10 +394,13 @@ module _ (w : Moment) (valid : AllValid w) (met : Met w) (n : ℕ) (l : Lists)
       numbered-at client_no 0 s l.clients j.client (valid n l is).numbered there in
       let number_is : j.client.way.number ≡ s = omega arith in
       let passes : counts-reply j.client a ≡ true =
-      ap (replies all j.client.way.number) read
-      ∙ and_from (not (is_ask h.kind)) (h.session == j.client.way.number && true) (ap not kind)
+      ap (replies all first_life j.client.way.number) read
+      ∙ and_from (not (is_ask h.kind))
+      (h.to_life == first_life && (h.session == j.client.way.number && true)) (ap not kind)
+      (and_from (h.to_life == first_life) (h.session == j.client.way.number && true)
+      (eq-eqb h.to_life first_life life)
       (and_from (h.session == j.client.way.number) true
-      (eq-eqb h.session j.client.way.number (sym number_is)) refl) in
+      (eq-eqb h.session j.client.way.number (sym number_is)) refl)) in
       or-right (some_of (λ v. counts-ask v a) l.servers) _
       (some-at (λ c. counts-reply c a) l.clients s j.client there passes)
 
@@ -390,7 +415,8 @@ module _ (w : Moment) (valid : AllValid w) (met : Met w) (n : ℕ) (l : Lists)
       (λ i a at. let come = all-at (λ a. Comes w.nodes a.peer n a.bytes) coming i a all-come at in
       let read = header-of (message_of a.bytes)
       (all-at (λ a. is_message a.bytes ≡ true) coming i a reads at) in
-      counts-by i a read.0 (is_ask read.0.kind) at refl read.1 (come read.0 read.1)) (λ i a at. at)
+      let told = come read.0 read.1 in
+      counts-by i a read.0 (is_ask read.0.kind) at refl read.1 told.0 told.1) (λ i a at. at)
     where
       header-of : (o : Option MessageHeader) → is_some o ≡ true → (h : MessageHeader) × (o ≡ Some h)
       header-of None e = cc
@@ -407,12 +433,13 @@ module _ (w : Moment) (valid : AllValid w) (met : Met w) (n : ℕ) (l : Lists)
       by (inr some) =
           let one = counted-at (counts-ask v) coming some in
           let a = one.1.0 in
-          let head = asks-header all v.way.number (message_of a.bytes) one.1.1.1 in
-          let of = asks-session all v.way.number (message_of a.bytes) head.0 head.1 one.1.1.1 in
+          let head = asks-header all first_life v.way.number (message_of a.bytes) one.1.1.1 in
+          let of = asks-session all first_life v.way.number (message_of a.bytes) head.0 head.1
+          one.1.1.1 in
           let come = all-at (λ a. Comes w.nodes a.peer n a.bytes)
           coming one.0 a all-come one.1.1.0 in
           let end = subst (λ (b : Bool). EndOf w.nodes a.peer n b head.0.session) of.0
-          (come head.0 head.1) in
+          (come head.0 head.1).1 in
           let s = end.0 in
           let t = v.way.number in
           let j : JoinedTo w.nodes a.peer s n t =
@@ -428,64 +455,94 @@ module _ (w : Moment) (valid : AllValid w) (met : Met w) (n : ℕ) (l : Lists)
           let credits : v.credits ≡ j.client.limit = ap (λ (z : Server). z.credits) (sym same)
           ∙ e.credits_are in
           let within = met.within (joined-ends a.peer s n t)
-          (joint-of w met.good a.peer s n t j).fits in
+          (joint-of w met.good met.lives a.peer s n t j).fits in
           let lim = limit-is w valid a.peer s n t j in
           let whole : limit_in j.client ≡ j.client.limit =
           ap (λ (b : Bool). cond b j.client.limit 0) state in
           omega arith
 
+  -- a reply that counts for a session
+  record IsReply (c : Client) (a : Arrival) : Type 0 where
+    header : MessageHeader
+    reads : message_of a.bytes ≡ Some header
+    kind : is_ask header.kind ≡ false
+    session : header.session ≡ c.way.number
+
+  is-reply : (c : Client) (a : Arrival) → counts-reply c a ≡ true → IsReply c a
+  is-reply c a = by (message_of a.bytes) refl
+    where
+      by : (o : Option MessageHeader) → message_of a.bytes ≡ o
+          → replies all first_life c.way.number o ≡ true → IsReply c a
+      by None reads e = cc
+      by (Some h) reads e =
+          let parts = and_parts (not (is_ask h.kind)) _ e in
+          let lives = and_parts (h.to_life == first_life) _ parts.1 in
+          let more = and_parts (h.session == c.way.number) _ lives.1 in
+          record {
+            header = h;
+            reads = reads;
+            kind = not-true (is_ask h.kind) parts.0;
+            session = eqb-true h.session c.way.number more.0;
+          }
+
+  -- where some count, the session is joined with the node of one of them
+  joined-of : (s : ℕ) (c : Client) → c.way.number ≡ s → 1 ≤ count (counts-reply c) coming
+      → (m : ℕ) × ((t : ℕ) × JoinedTo w.nodes n s m t)
+  joined-of s c number some =
+      let one = counted-at (counts-reply c) coming some in
+      let a = one.1.0 in
+      let reply = is-reply c a one.1.1.1 in
+      let h = reply.header in
+      let come = all-at (λ a. Comes w.nodes a.peer n a.bytes) coming one.0 a all-come one.1.1.0 in
+      let end : EndOf w.nodes a.peer n false h.session =
+      subst (λ (b : Bool). EndOf w.nodes a.peer n b h.session) reply.kind
+      (come h reply.reads).1 in (
+        a.peer,
+        (
+          end.0,
+          subst (λ (i : ℕ). JoinedTo w.nodes n i a.peer end.0) (reply.session ∙ number) end.1,
+        ),
+      )
+
+  -- its limit is what may count for it
+  joined-few : (s m t : ℕ) (c : Client) → slice_get l.clients s ≡ Some c → c.way.number ≡ s
+      → JoinedTo w.nodes n s m t → 1 ≤ count (counts-reply c) coming
+      → count (counts-reply c) coming ≤ live_credits c
+  joined-few s m t c at number j some =
+      let node = j.is_node in
+      let lists : j.lists ≡ l = cc in
+      let there : slice_get l.clients s ≡ Some j.client =
+      subst (λ (z : Lists). slice_get z.clients s ≡ Some j.client) lists j.is_there in
+      let same : j.client ≡ c = cc in
+      let few = replies-load s m t in
+      let counted : count (counts-reply c) coming
+      ≡ count (λ a. replies all first_life s (message_of a.bytes)) coming =
+      ap (λ (k : ℕ). count (λ (a : Arrival). replies all first_life k (message_of a.bytes)) coming)
+      number in
+      let state = is-asking w valid met n s m t j (omega arith) in
+      let within = met.within (joined-ends n s m t)
+      (joint-of w met.good met.lives n s m t j).fits in
+      let lim = limit-is w valid n s m t j in
+      let whole : limit_in j.client ≡ j.client.limit =
+      ap (λ (b : Bool). cond b j.client.limit 0) state in
+      let live : live_credits j.client ≡ j.client.limit =
+      ap (λ (b : Bool). cond b j.client.limit 0) (connected-live j.client.state state) in
+      let credits : live_credits c ≡ j.client.limit = ap live_credits (sym same) ∙ live in
+      omega arith
+
   client-few : (s : ℕ) (c : Client) → slice_get l.clients s ≡ Some c
       → count (counts-reply c) coming ≤ live_credits c
   client-few s c at = by (none-or (count (counts-reply c) coming))
     where
-      replies-session : (o : Option MessageHeader) → replies all c.way.number o ≡ true
-          → (h : MessageHeader) × ((o ≡ Some h)
-          × ((is_ask h.kind ≡ false) × (h.session ≡ c.way.number)))
-      replies-session None e = cc
-      replies-session (Some h) e =
-          let parts = and_parts (not (is_ask h.kind)) _ e in
-          let more = and_parts (h.session == c.way.number) _ parts.1 in
-          (h, (refl, (not-true (is_ask h.kind) parts.0, eqb-true h.session c.way.number more.0)))
-
       by : (count (counts-reply c) coming ≡ 0) ⊎ (1 ≤ count (counts-reply c) coming)
           → count (counts-reply c) coming ≤ live_credits c
       by (inl none) = omega arith
       by (inr some) =
-          let one = counted-at (counts-reply c) coming some in
-          let a = one.1.0 in
-          let head = replies-session (message_of a.bytes) one.1.1.1 in
-          let come = all-at (λ a. Comes w.nodes a.peer n a.bytes)
-          coming one.0 a all-come one.1.1.0 in
-          let h = head.0 in
-          let end = subst (λ (b : Bool). EndOf w.nodes a.peer n b h.session) head.1.1.0
-          (come h head.1.0) in
           let number : c.way.number ≡ 0 + s =
           numbered-at client_no 0 s l.clients c (valid n l is).numbered at in
           let number_is : c.way.number ≡ s = omega arith in
-          let session : h.session ≡ s = head.1.1.1 ∙ number_is in
-          let t = end.0 in
-          let j : JoinedTo w.nodes n s a.peer t =
-          subst (λ (i : ℕ). JoinedTo w.nodes n i a.peer t) session end.1 in
-          let node = j.is_node in
-          let lists : j.lists ≡ l = cc in
-          let there : slice_get l.clients s ≡ Some j.client =
-          subst (λ (z : Lists). slice_get z.clients s ≡ Some j.client) lists j.is_there in
-          let same : j.client ≡ c = cc in
-          let few = replies-load s a.peer t in
-          let counted : count (counts-reply c) coming
-          ≡ count (λ a. replies all s (message_of a.bytes)) coming =
-          ap (λ (k : ℕ). count (λ (a : Arrival). replies all k (message_of a.bytes)) coming)
-          number_is in
-          let state = is-asking w valid met n s a.peer t j (omega arith) in
-          let within = met.within (joined-ends n s a.peer t)
-          (joint-of w met.good n s a.peer t j).fits in
-          let lim = limit-is w valid n s a.peer t j in
-          let whole : limit_in j.client ≡ j.client.limit =
-          ap (λ (b : Bool). cond b j.client.limit 0) state in
-          let live : live_credits j.client ≡ j.client.limit =
-          ap (λ (b : Bool). cond b j.client.limit 0) (connected-live j.client.state state) in
-          let credits : live_credits c ≡ j.client.limit = ap live_credits (sym same) ∙ live in
-          omega arith
+          let j = joined-of s c number_is some in
+          joined-few s j.0 j.1.0 c at number_is j.1.1 some
 
   own-found : (i : ℕ) (v : Server) → slice_get l.servers i ≡ Some v
       → find (is_server v.way.number) l.servers ≡ Some v

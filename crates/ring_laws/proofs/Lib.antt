@@ -3,6 +3,8 @@ pub mod ClientReach
 pub mod ClientSteps
 pub mod Counting
 pub mod Coverage
+pub mod FirstLives
+pub mod FirstSteps
 pub mod Frames
 pub mod JointTidy
 pub mod Loads

@@ -27,11 +27,13 @@ use Rattle.end_laws.proofs.Allowed.{is_owed, is_carried}
 use Rattle.end_laws.proofs.Courses.{latest}
 use Rattle.ring_laws.proofs.Counting.{count, value, count-add}
 
--- the two ends of a session: its client end, and its server end
+-- the two ends of a session, its client end and its server end, each with the life of its node
 pub record Pairing : Type 0 where
   pub home : ℕ
+  pub home_life : ℕ
   pub client : ℕ
   pub node : ℕ
+  pub node_life : ℕ
   pub session : ℕ
 
 -- which packets count, by request and number
@@ -42,15 +44,17 @@ Filter = ℕ → ℕ → Bool
 abbrev pub all : Filter
 all r k = true
 
--- a packet for a server session
-abbrev pub asks : Filter → ℕ → Option MessageHeader → Bool
-asks p t None = false
-asks p t (Some h) = is_ask h.kind && (h.session == t && p h.request h.number)
+-- a packet for a server session of this life of its node
+abbrev pub asks : Filter → (life t : ℕ) → Option MessageHeader → Bool
+asks p life t None = false
+asks p life t (Some h) =
+    is_ask h.kind && (h.to_life == life && (h.session == t && p h.request h.number))
 
--- a packet for a client session
-abbrev pub replies : Filter → ℕ → Option MessageHeader → Bool
-replies p s None = false
-replies p s (Some h) = not (is_ask h.kind) && (h.session == s && p h.request h.number)
+-- a packet for a client session of this life of its node
+abbrev pub replies : Filter → (life s : ℕ) → Option MessageHeader → Bool
+replies p life s None = false
+replies p life s (Some h) =
+    not (is_ask h.kind) && (h.to_life == life && (h.session == s && p h.request h.number))
 
 abbrev pub own_ask : Filter → ℕ → Owner → ℕ → Bool
 own_ask p s (Ask session r) k = session == s && p r k
@@ -68,13 +72,13 @@ own_job p t j = j.session == t && p j.request (packet_count (length j.ask) - 1)
 abbrev pub client_packets : Filter → ℕ → Lists → ℕ
 client_packets p s l =
     count (λ q. own_ask p s q.owner q.number) l.queued
-    + count (λ a. replies p s (message_of a.bytes)) l.ring
+    + count (λ a. replies p l.life s (message_of a.bytes)) l.ring
 
 -- packets of server session t in a node: replies that it queued, requests that are jobs, and packets in its ring
 abbrev pub server_packets : Filter → ℕ → Lists → ℕ
 server_packets p t l =
     count (λ q. own_reply p t q.owner q.number) l.queued + count (own_job p t) l.jobs.out
-    + count (λ a. asks p t (message_of a.bytes)) l.ring
+    + count (λ a. asks p l.life t (message_of a.bytes)) l.ring
 
 -- the credits of a session that may ask, so one that is connected
 abbrev pub free_in : Client → ℕ
@@ -109,23 +113,25 @@ sent_reply p t (Sent peer o k) = cond (own_reply p t o k) 1 0
 sent_reply p t _ = 0
 
 -- what it is given for one
-abbrev pub given_reply : Filter → ℕ → Event → List ℕ → ℕ
-given_reply p s (Arrived peer) bytes = cond (replies p s (message_of bytes)) 1 0
-given_reply p s _ bytes = 0
+abbrev pub given_reply : Filter → (life s : ℕ) → Event → List ℕ → ℕ
+given_reply p life s (Arrived peer) bytes = cond (replies p life s (message_of bytes)) 1 0
+given_reply p life s _ bytes = 0
 
-abbrev pub given_ask : Filter → ℕ → Event → List ℕ → ℕ
-given_ask p t (Arrived peer) bytes = cond (asks p t (message_of bytes)) 1 0
-given_ask p t _ bytes = 0
+abbrev pub given_ask : Filter → (life t : ℕ) → Event → List ℕ → ℕ
+given_ask p life t (Arrived peer) bytes = cond (asks p life t (message_of bytes)) 1 0
+given_ask p life t _ bytes = 0
 
 -- copies on their way to one end or the other
-abbrev pub ask_to : Filter → ℕ → ℕ → InFlight → Bool
-ask_to p m t c = c.to == m && asks p t (message_of c.bytes)
+abbrev pub ask_to : Filter → (m life t : ℕ) → InFlight → Bool
+ask_to p m life t c = c.to == m && asks p life t (message_of c.bytes)
 
-abbrev pub reply_to : Filter → ℕ → ℕ → InFlight → Bool
-reply_to p n s c = c.to == n && replies p s (message_of c.bytes)
+abbrev pub reply_to : Filter → (n life s : ℕ) → InFlight → Bool
+reply_to p n life s c = c.to == n && replies p life s (message_of c.bytes)
 
 abbrev pub on_way : Filter → Pairing → List InFlight → ℕ
-on_way p x copies = count (ask_to p x.node x.session) copies + count (reply_to p x.home x.client) copies
+on_way p x copies =
+    count (ask_to p x.node x.node_life x.session) copies
+    + count (reply_to p x.home x.home_life x.client) copies
 
 -- the copy that is out of flight and not delivered yet
 abbrev pub carried : Moment → List InFlight

@@ -2,7 +2,7 @@
 use Rattle.std.proofs.Common.{None, false, true, Bool}
 use Rattle.std.proofs.Common.{sym}
 use Rattle.std.proofs.Common.{find}
-use Rattle.std.proofs.Common.{is_some}
+use Rattle.std.proofs.Common.{inl, is_some}
 use Rattle.std.proofs.Common.{◌≡◌, ◌+◌, ◌≤◌, ◌==◌, ◌&&◌, ℕ, zero, suc, Bool, true, false, not, cond}
 use Rattle.std.proofs.Common.{List, [], ◌∷◌, Option, Some, slice_get, refl, ap, ◌∙◌, subst, arith}
 use Rattle.std.proofs.Common.{eq-eqb, length, ◌-◌}
@@ -21,9 +21,11 @@ use Rattle.rpc_laws.specs.declared.tables.Server.{Server}
 use Rattle.packet_header.specs.Parts.{packet_count}
 use Rattle.rpc_base.specs.declared.owner.Owner.{Owner}
 use Rattle.rpc_base.specs.declared.owner.Owner.TheVariants.{Ask, Reply, Control}
+use Rattle.rpc_laws.specs.Lives.{first_life}
 use Rattle.rpc_laws.specs.Queues.{is_queued}
 use Rattle.end_laws.specs.Kinds.{is_ask}
 use Rattle.end_laws.specs.Moments.{Moment}
+use Rattle.end_laws.specs.TwoEnds.{here}
 use Rattle.end_laws.proofs.TwoEndsLaw.{placed-all}
 use Rattle.ring_laws.specs.PairsOnce.{is_asking, is_replying, is_job_of, AreEndsOf, IsOpen}
 use Rattle.ring_laws.specs.PairsOnce.{IsOpenAt, IsOpenOwner, IsOpenJob, IsTidy}
@@ -47,7 +49,8 @@ use Rattle.ring_laws.proofs.Coverage.{count-one, is-asking, joined-ends, Met, se
 use Rattle.ring_laws.proofs.Loads.{all, ask_to, asks, client_packets, Filter, load, own_ask, own_job, own_reply}
 use Rattle.ring_laws.proofs.Loads.{replies, reply_to, server_packets}
 use Rattle.ring_laws.proofs.QueuedReplies.{AllRepliesStand, replies-to}
-use Rattle.ring_laws.proofs.Standing.{Comes, EndOf, FitsIn, JoinedTo, slot-joined, started}
+use Rattle.ring_laws.proofs.FirstLives.{first, joined-first}
+use Rattle.ring_laws.proofs.Standing.{Comes, EndOf, FitsIn, JoinedTo, slot-joined, started-at}
 use Rattle.ring_laws.proofs.PairPlaces.{Pairs, StandsIn, stands-once}
 
 count-cons : {A : Type 0} (p : A → Bool) (x : A) (xs : List A) → count_by p (x ∷ xs) ≡ cond (p x) 1 0 + count_by p xs
@@ -100,8 +103,10 @@ module _ (u : Moment) (met : Met u) (valid : AllValid u) (pairs : Pairs met.good
           server_there = e.found;
           peer = j.peer;
           other = j.other;
+          peer_life = j.life ∙ sym (met.lives.nodes to e.lists e.is_node);
           home = e.home;
           number = e.client;
+          home_life = e.home_life ∙ sym (met.lives.nodes from j.lists j.is_node);
         };
         connected = state;
         comes = (refl, refl);
@@ -128,8 +133,10 @@ module _ (u : Moment) (met : Met u) (valid : AllValid u) (pairs : Pairs met.good
           server_there = e.found;
           peer = j.peer;
           other = j.other;
+          peer_life = j.life ∙ sym (met.lives.nodes from e.lists e.is_node);
           home = e.home;
           number = e.client;
+          home_life = e.home_life ∙ sym (met.lives.nodes to j.lists j.is_node);
         };
         connected = state;
         comes = (refl, refl);
@@ -158,7 +165,8 @@ module _ (u : Moment) (met : Met u) (valid : AllValid u) (pairs : Pairs met.good
   open-flight i c h true is reads kind o =
       let to = o.comes.0 in
       let session = o.comes.1 in
-      let once = stands-once u met.good valid pairs o.home o.number o.client o.item o.node o.other o.server
+      let once = stands-once u met.good met.lives met.comes valid pairs
+      o.home o.number o.client o.item o.node o.other o.server
       o.end o.ends h.request h.number in
       let passes : (c.to == o.node && is_asking o.other h.request h.number (message_of c.bytes))
       ≡ true = and_from (c.to == o.node) _ (eq-eqb c.to o.node to)
@@ -186,7 +194,8 @@ module _ (u : Moment) (met : Met u) (valid : AllValid u) (pairs : Pairs met.good
   open-flight i c h false is reads kind o =
       let to = o.comes.0 in
       let session = o.comes.1 in
-      let once = stands-once u met.good valid pairs o.home o.number o.client o.item o.node o.other o.server
+      let once = stands-once u met.good met.lives met.comes valid pairs
+      o.home o.number o.client o.item o.node o.other o.server
       o.end o.ends h.request h.number in
       let passes : (c.to == o.home && is_replying o.number h.request h.number
       (message_of c.bytes)) ≡ true = and_from (c.to == o.home) _ (eq-eqb c.to o.home to)
@@ -220,7 +229,8 @@ module _ (u : Moment) (met : Met u) (valid : AllValid u) (pairs : Pairs met.good
   open-ring n l i a h true node is reads kind o =
       let to = o.comes.0 in
       let session = o.comes.1 in
-      let once = stands-once u met.good valid pairs o.home o.number o.client o.item o.node o.other o.server
+      let once = stands-once u met.good met.lives met.comes valid pairs
+      o.home o.number o.client o.item o.node o.other o.server
       o.end o.ends h.request h.number in
       let again : slice_get u.nodes n ≡ Some o.server = ap (slice_get u.nodes) to ∙ o.ends.is_server in
       let same : l ≡ o.server = cc in
@@ -249,7 +259,8 @@ module _ (u : Moment) (met : Met u) (valid : AllValid u) (pairs : Pairs met.good
   open-ring n l i a h false node is reads kind o =
       let to = o.comes.0 in
       let session = o.comes.1 in
-      let once = stands-once u met.good valid pairs o.home o.number o.client o.item o.node o.other o.server
+      let once = stands-once u met.good met.lives met.comes valid pairs
+      o.home o.number o.client o.item o.node o.other o.server
       o.end o.ends h.request h.number in
       let again : slice_get u.nodes n ≡ Some o.client = ap (slice_get u.nodes) to ∙ o.ends.is_client in
       let same : l ≡ o.client = cc in
@@ -283,7 +294,8 @@ module _ (u : Moment) (met : Met u) (valid : AllValid u) (pairs : Pairs met.good
   open-ask n l i s r k due node is o =
       let to = o.comes.0 in
       let session = o.comes.1 in
-      let once = stands-once u met.good valid pairs o.home o.number o.client o.item o.node o.other o.server
+      let once = stands-once u met.good met.lives met.comes valid pairs
+      o.home o.number o.client o.item o.node o.other o.server
       o.end o.ends r k in
       let again : slice_get u.nodes n ≡ Some o.client = ap (slice_get u.nodes) to ∙ o.ends.is_client in
       let same : l ≡ o.client = cc in
@@ -318,7 +330,8 @@ module _ (u : Moment) (met : Met u) (valid : AllValid u) (pairs : Pairs met.good
   open-reply n l i t r k due node is o =
       let to = o.comes.0 in
       let session = o.comes.1 in
-      let once = stands-once u met.good valid pairs o.home o.number o.client o.item o.node o.other o.server
+      let once = stands-once u met.good met.lives met.comes valid pairs
+      o.home o.number o.client o.item o.node o.other o.server
       o.end o.ends r k in
       let again : slice_get u.nodes n ≡ Some o.server = ap (slice_get u.nodes) to ∙ o.ends.is_server in
       let same : l ≡ o.server = cc in
@@ -355,7 +368,8 @@ module _ (u : Moment) (met : Met u) (valid : AllValid u) (pairs : Pairs met.good
       let session = o.comes.1 in
       let r = j.request in
       let k = packet_count (length j.ask) - 1 in
-      let once = stands-once u met.good valid pairs o.home o.number o.client o.item o.node o.other o.server
+      let once = stands-once u met.good met.lives met.comes valid pairs
+      o.home o.number o.client o.item o.node o.other o.server
       o.end o.ends r k in
       let again : slice_get u.nodes n ≡ Some o.server = ap (slice_get u.nodes) to ∙ o.ends.is_server in
       let same : l ≡ o.server = cc in
@@ -382,48 +396,54 @@ module _ (u : Moment) (met : Met u) (valid : AllValid u) (pairs : Pairs met.good
         unanswered = once.unanswered (omega arith);
       }
 
-  asks-all : (t : ℕ) (bytes : List ℕ) (h : MessageHeader) → message_of bytes ≡ Some h → is_ask h.kind ≡ true
-      → h.session ≡ t → asks all t (message_of bytes) ≡ true
-  asks-all t bytes h reads kind session =
-      ap (asks all t) reads ∙ and_from (is_ask h.kind) _ kind
-      (and_from (h.session == t) true (eq-eqb h.session t session) refl)
+  asks-all : (life t : ℕ) (bytes : List ℕ) (h : MessageHeader) → message_of bytes ≡ Some h
+      → is_ask h.kind ≡ true → h.to_life ≡ life → h.session ≡ t
+      → asks all life t (message_of bytes) ≡ true
+  asks-all life t bytes h reads kind goes session =
+      ap (asks all life t) reads ∙ and_from (is_ask h.kind) _ kind
+      (and_from (h.to_life == life) _ (eq-eqb h.to_life life goes)
+      (and_from (h.session == t) true (eq-eqb h.session t session) refl))
 
-  replies-all : (s : ℕ) (bytes : List ℕ) (h : MessageHeader) → message_of bytes ≡ Some h → is_ask h.kind ≡ false
-      → h.session ≡ s → replies all s (message_of bytes) ≡ true
-  replies-all s bytes h reads kind session =
-      ap (replies all s) reads ∙ and_from (not (is_ask h.kind)) _ (ap not kind)
-      (and_from (h.session == s) true (eq-eqb h.session s session) refl)
+  replies-all : (life s : ℕ) (bytes : List ℕ) (h : MessageHeader) → message_of bytes ≡ Some h
+      → is_ask h.kind ≡ false → h.to_life ≡ life → h.session ≡ s
+      → replies all life s (message_of bytes) ≡ true
+  replies-all life s bytes h reads kind goes session =
+      ap (replies all life s) reads ∙ and_from (not (is_ask h.kind)) _ (ap not kind)
+      (and_from (h.to_life == life) _ (eq-eqb h.to_life life goes)
+      (and_from (h.session == s) true (eq-eqb h.session s session) refl))
 
   flight-session : (i : ℕ) (c : InFlight) (h : MessageHeader) (b : Bool) → slice_get u.flight i ≡ Some c
-      → message_of c.bytes ≡ Some h → is_ask h.kind ≡ b → EndOf u.nodes c.from c.to b h.session
-      → OfSession u c.to b h.session
-  flight-session i c h true is reads kind end =
+      → message_of c.bytes ≡ Some h → is_ask h.kind ≡ b → h.to_life ≡ first_life
+      → EndOf u.nodes c.from c.to b h.session → OfSession u c.to b h.session
+  flight-session i c h true is reads kind life end =
       let t = h.session in
-      let passes : ask_to all c.to t c ≡ true =
-      and_from (c.to == c.to) _ (self c.to) (asks-all t c.bytes h reads kind refl) in
-      let here = count-one (ask_to all c.to t) u.flight i c is passes in
+      let passes : ask_to all c.to first_life t c ≡ true =
+      and_from (c.to == c.to) _ (self c.to) (asks-all first_life t c.bytes h reads kind life refl) in
+      let here = count-one (ask_to all c.to first_life t) u.flight i c is passes in
       of-ask c.from c.to end.0 t end.1 (omega arith)
-  flight-session i c h false is reads kind end =
+  flight-session i c h false is reads kind life end =
       let s = h.session in
-      let passes : reply_to all c.to s c ≡ true =
-      and_from (c.to == c.to) _ (self c.to) (replies-all s c.bytes h reads kind refl) in
-      let here = count-one (reply_to all c.to s) u.flight i c is passes in
+      let passes : reply_to all c.to first_life s c ≡ true =
+      and_from (c.to == c.to) _ (self c.to)
+      (replies-all first_life s c.bytes h reads kind life refl) in
+      let here = count-one (reply_to all c.to first_life s) u.flight i c is passes in
       of-reply c.from c.to s end.0 end.1 (omega arith)
 
   ring-session : (n : ℕ) (l : Lists) (i : ℕ) (a : Arrival) (h : MessageHeader) (b : Bool)
       → slice_get u.nodes n ≡ Some l → slice_get l.ring i ≡ Some a → message_of a.bytes ≡ Some h
-      → is_ask h.kind ≡ b → EndOf u.nodes a.peer n b h.session → OfSession u n b h.session
-  ring-session n l i a h true node is reads kind end =
+      → is_ask h.kind ≡ b → h.to_life ≡ l.life → EndOf u.nodes a.peer n b h.session
+      → OfSession u n b h.session
+  ring-session n l i a h true node is reads kind life end =
       let t = h.session in
-      let here = count-one (λ (z : Arrival). asks all t (message_of z.bytes)) l.ring i a is
-      (asks-all t a.bytes h reads kind refl) in
+      let here = count-one (λ (z : Arrival). asks all l.life t (message_of z.bytes)) l.ring i a is
+      (asks-all l.life t a.bytes h reads kind life refl) in
       let part : value (server_packets all t) (slice_get u.nodes n) ≡ server_packets all t l =
       ap (value (server_packets all t)) node in
       of-ask a.peer n end.0 t end.1 (omega arith)
-  ring-session n l i a h false node is reads kind end =
+  ring-session n l i a h false node is reads kind life end =
       let s = h.session in
-      let here = count-one (λ (z : Arrival). replies all s (message_of z.bytes)) l.ring i a is
-      (replies-all s a.bytes h reads kind refl) in
+      let here = count-one (λ (z : Arrival). replies all l.life s (message_of z.bytes)) l.ring i a
+      is (replies-all l.life s a.bytes h reads kind life refl) in
       let part : value (client_packets all s) (slice_get u.nodes n) ≡ client_packets all s l =
       ap (value (client_packets all s)) node in
       of-reply a.peer n s end.0 end.1 (omega arith)
@@ -432,8 +452,11 @@ module _ (u : Moment) (met : Met u) (valid : AllValid u) (pairs : Pairs met.good
   none-node : (s n : ℕ) → ((a b : ℕ) → JoinedTo u.nodes n s a b → ⊥)
       → FitsIn met.good.known u.nodes (joined-ends n s (length u.nodes) 0)
   none-node s n none_joined = record {
-    server = λ e is. let none = met.good.unmade.ends (length u.nodes) 0 (omega arith) in absurd (cc);
+    server = λ e is. let none = met.good.unmade.ends (first (length u.nodes)) 0
+        (inl (omega arith)) in absurd (cc);
     client = λ a b j. absurd (none_joined a b j);
+    home_life = refl;
+    node_life = refl;
   }
 
   queued-here : (n : ℕ) (l : Lists) (i s r k m t : ℕ) (due : Option ℕ) → slice_get u.nodes n ≡ Some l
@@ -488,6 +511,7 @@ module _ (u : Moment) (met : Met u) (valid : AllValid u) (pairs : Pairs met.good
             joined = e;
             peer = refl;
             other = refl;
+            life = joined-first u met.good met.lives n s l c node is e;
           },
         ),
       )
@@ -499,8 +523,8 @@ module _ (u : Moment) (met : Met u) (valid : AllValid u) (pairs : Pairs met.good
           let same : j.client ≡ c = cc in
           false-true (sym e ∙ (ap (λ (z : Client). is_joined z.state) (sym same) ∙ j.joined))) in
           let tied = ((met.good.nodes n l node).clients s c is).tied in
-          let unjoined : IsUnjoined met.good.known n s c =
-          subst (λ (b : Bool). Tied b met.good.known n s c) e tied in
+          let unjoined : IsUnjoined met.good.known (here n l) s c =
+          subst (λ (b : Bool). Tied b met.good.known (here n l) s c) e tied in
           let found : find (is_client s) l.clients ≡ Some c =
           sym (numbered-get client_no 0 s s l.clients (valid n l node).numbered (omega arith)) ∙ is in
           let stands : Stands k r (Some c) = subst (λ (o : Option Client). Stands k r o) found inside in
@@ -523,7 +547,7 @@ module _ (u : Moment) (met : Met u) (valid : AllValid u) (pairs : Pairs met.good
       → OfSession u n true t
   queued-reply stand n l i t r k due node at =
       let to = replies-to l i t r k due (stand n l node) at in
-      let j = slot-joined u met.good n l t (is_request r) to.server to.request node to.found to.is_there in
+      let j = slot-joined u met.good met.lives n l t (is_request r) to.server to.request node to.found to.is_there in
       let one : own_reply all t (Reply t r) k ≡ true = and_from (t == t) true (self t) refl in
       let here = count-one (λ (q : Queued). own_reply all t q.owner q.number) l.queued i _ at one in
       let part : value (server_packets all t) (slice_get u.nodes n) ≡ server_packets all t l =
@@ -533,18 +557,21 @@ module _ (u : Moment) (met : Met u) (valid : AllValid u) (pairs : Pairs met.good
   job-session : (n : ℕ) (l : Lists) (i : ℕ) (j : Job) → slice_get u.nodes n ≡ Some l
       → slice_get l.jobs.out i ≡ Some j → OfSession u n true j.session
   job-session n l i j node at =
-      let good = all-at (GoodJob met.good.known n) l.jobs.out i j (met.good.nodes n l node).jobs at in
-      let began = started u met.good good.end.home good.end.client j.request good.start good.begun in
+      let good = all-at (GoodJob met.good.known (here n l)) l.jobs.out i j
+      (met.good.nodes n l node).jobs at in
+      let home = good.end.home.node in
+      let began = started-at u met.good met.lives good.end.home good.end.client j.request
+      good.start good.begun in
       let peer : good.start.way.peer ≡ n = ap (λ (w : Way). w.peer) good.way_is in
       let other : good.start.way.other ≡ j.session = ap (λ (w : Way). w.other) good.way_is in
-      let joined : JoinedTo u.nodes good.end.home good.end.client n j.session =
-      subst (λ (a : ℕ). JoinedTo u.nodes good.end.home good.end.client a j.session) peer
-      (subst (λ (a : ℕ). JoinedTo u.nodes good.end.home good.end.client good.start.way.peer a) other began) in
+      let joined : JoinedTo u.nodes home good.end.client n j.session =
+      subst (λ (a : ℕ). JoinedTo u.nodes home good.end.client a j.session) peer
+      (subst (λ (a : ℕ). JoinedTo u.nodes home good.end.client good.start.way.peer a) other began) in
       let one : own_job all j.session j ≡ true = and_from (j.session == j.session) true (self j.session) refl in
       let here = count-one (own_job all j.session) l.jobs.out i j at one in
       let part : value (server_packets all j.session) (slice_get u.nodes n) ≡ server_packets all j.session l =
       ap (value (server_packets all j.session)) node in
-      of-ask good.end.home n good.end.client j.session joined (omega arith)
+      of-ask home n good.end.client j.session joined (omega arith)
 
   open-owner : AllRepliesStand u → (n : ℕ) (l : Lists) (i : ℕ) (o : Owner) (k : ℕ) (due : Option ℕ)
       → slice_get u.nodes n ≡ Some l
@@ -564,18 +591,21 @@ module _ (u : Moment) (met : Met u) (valid : AllValid u) (pairs : Pairs met.good
 
   pub is-tidy : AllRepliesStand u → IsTidy u
   is-tidy stand = record {
-    once = λ n s client x m i server v e r k. stands-once u met.good valid pairs n s client x m i server v e r k;
+    once = λ n s client x m i server v e r k.
+        stands-once u met.good met.lives met.comes valid pairs
+        n s client x m i server v e r k;
     flight = placed-all (λ i c. slice_get u.flight i ≡ Some c) _ u.flight (λ i c is message.
         let comes = all-at (λ (c : InFlight). Comes u.nodes c.from c.to c.bytes) u.flight i c met.comes.flight is in
         let h = header-of c.bytes message in
         open-flight i c h.0 (is_ask h.0.kind) is h.1 refl
-        (flight-session i c h.0 (is_ask h.0.kind) is h.1 refl (comes h.0 h.1)))
+        (flight-session i c h.0 (is_ask h.0.kind) is h.1 refl (comes h.0 h.1).0 (comes h.0 h.1).1))
         (λ i c is. is);
     rings = λ n l node. placed-all (λ i a. slice_get l.ring i ≡ Some a) (λ a. IsOpen u n a.bytes) l.ring (λ i a is.
         let comes = all-at (λ (a : Arrival). Comes u.nodes a.peer n a.bytes) l.ring i a (met.comes.rings n l node) is in
         let h = header-of a.bytes (all-at (λ (a : Arrival). is_message a.bytes ≡ true) l.ring i a (met.rings n l node) is) in
         open-ring n l i a h.0 (is_ask h.0.kind) node is h.1 refl
-        (ring-session n l i a h.0 (is_ask h.0.kind) node is h.1 refl (comes h.0 h.1)))
+        (ring-session n l i a h.0 (is_ask h.0.kind) node is h.1 refl
+        ((comes h.0 h.1).0 ∙ sym (met.lives.nodes n l node)) (comes h.0 h.1).1))
         (λ i a is. is);
     queued = λ n l node. placed-all (λ i q. slice_get l.queued i ≡ Some q)
         (λ q. IsOpenOwner u n q.owner q.number) l.queued (λ i q is.

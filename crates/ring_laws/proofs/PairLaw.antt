@@ -12,6 +12,7 @@ use Rattle.rpc_base.specs.declared.fact.Who.TheVariants.{Node, Net}
 use Rattle.rpc_base.specs.declared.owner.Owner.TheVariants.{Ask}
 use Rattle.rpc_laws.specs.declared.tables.Lists.{Lists}
 use Rattle.rpc_laws.specs.BufferSafety.{changed}
+use Rattle.rpc_laws.specs.Endpoints.{told}
 use Rattle.rpc_laws.specs.Facts.{plain, with_two}
 use Rattle.rpc_laws.specs.Lives.{first_life}
 use Rattle.rpc_laws.specs.NodeLists.{after, new_lists}
@@ -22,16 +23,19 @@ use Rattle.node_laws.proofs.WindowLemmas.{window-made}
 use Rattle.rpc_laws.specs.UsualLimits.{with_ring}
 use Rattle.end_laws.specs.Moments.{Moment, moved, Always, first_moment}
 use Rattle.end_laws.proofs.Allowed.{is_packet}
-use Rattle.end_laws.proofs.Courses.{made_as, made_at, resets, AtNode, Ends, Course, over, in_net, made, at_node, pairs}
+use Rattle.end_laws.proofs.Courses.{made_as, made_at, resets, AtNode, Ends, Course, over, in_net}
+use Rattle.end_laws.proofs.Courses.{made, at_node, pairs, restarts}
 use Rattle.end_laws.proofs.Courses.{client_fact, server_fact, paired, noted_at, moved-node}
 use Rattle.end_laws.proofs.ListLemmas.{add-keeps}
 use Rattle.end_laws.proofs.QueueLemmas.{RightNode}
 use Rattle.end_laws.proofs.SendsLaw.{AllRight, right-noted, right-net, right-made, right-paired}
+use Rattle.end_laws.proofs.SendsLaw.{right-restart}
 use Rattle.ring_laws.specs.CalmRing.{Calm}
 use Rattle.ring_laws.specs.PairsOnce.{IsTidy}
 use Rattle.ring_laws.proofs.CalmSteps.{CalmNode}
 use Rattle.ring_laws.proofs.ClientSteps.{no_roll}
 use Rattle.ring_laws.proofs.Coverage.{Met}
+use Rattle.ring_laws.proofs.FirstLives.{FirstLives}
 use Rattle.ring_laws.proofs.Loads.{Pairing, posted_ask, took_reply}
 use Rattle.ring_laws.proofs.Loads.{load}
 use Rattle.ring_laws.proofs.OpenLaw.{is-tidy}
@@ -50,6 +54,7 @@ use Rattle.end_laws.proofs.Known.{Good}
 use Rattle.end_laws.proofs.ListLemmas.{all-map}
 use Rattle.end_laws.proofs.SessionLemmas.{none-made}
 use Rattle.end_laws.proofs.Valids.{AllValid, valid-net, valid-made, valid-node, valid-pair}
+use Rattle.end_laws.proofs.Valids.{valid-restart}
 use Rattle.ring_laws.specs.PairsOnce.{AreEndsOf, IsOpen, IsOpenAt, IsOpenOwner, places}
 use Rattle.ring_laws.proofs.QueuedReplies.{AllRepliesStand, replies-first, replies-net, replies-node}
 use Rattle.ring_laws.proofs.QueuedReplies.{replies-made, replies-pair}
@@ -58,7 +63,7 @@ use Rattle.ring_laws.proofs.Standing.{FitsIn}
 use Rattle.ring_laws.proofs.PairPlaces.{StandsIn, PairAt, Pairs}
 use Rattle.ring_laws.proofs.PairSteps.{Standing, standing-after}
 use Rattle.ring_laws.proofs.RingLaw.{met-net, met-node, met-made, met-pair, rough-roll}
-use Rattle.ring_laws.proofs.RingLaw.{rough-repeat, calm-parts}
+use Rattle.ring_laws.proofs.RingLaw.{rough-repeat, calm-parts, no-restart}
 use Rattle.ring_laws.proofs.WithinSteps.{no_repeat, own-fact, load-noted, load-net}
 use Rattle.ring_laws.proofs.WithinSteps.{nodes-net, load-made, load-pair, lists1, lists2, nodes1}
 use Rattle.ring_laws.proofs.WithinSteps.{nodes2, is_server1, paired-nodes}
@@ -94,7 +99,8 @@ pair-made w limits x r k h =
 
 -- a fact of a node
 module _ (w : Moment) (n : ℕ) (l : Lists) (e : Event) (first second : List ℕ) (x : Pairing)
-    (a : AtNode w n l (with_two n e first second)) (g : Good w) (i : RightNode l)
+    (a : AtNode w n l (with_two n e first second)) (g : Good w) (lives : FirstLives w)
+    (i : RightNode l)
     (v : Valid l) (quiet : CalmNode l) (calm : no_roll e ≡ true) (fits : FitsIn g.known w.nodes x)
     (r k : ℕ) where
   abbrev pub noted : Moment
@@ -103,7 +109,7 @@ module _ (w : Moment) (n : ℕ) (l : Lists) (e : Event) (first second : List ℕ
   pair-by : (b : Bool) → (n == x.home) ≡ b → PairAt w x r k → PairAt noted x r k
   pair-by true t h =
       let p = is_packet r k in
-      let step = load-noted w n l e first second x a g i p fits in
+      let step = load-noted w n l e first second x a g lives i p fits in
       let home : n ≡ x.home = eqb-true n x.home t in
       let less : load p x noted + took_reply p x.client e ≤ load p x w + posted_ask p x.client e =
       subst (λ (b : Bool). load p x noted + cond b (took_reply p x.client e) 0 ≤ load p x w
@@ -119,7 +125,7 @@ module _ (w : Moment) (n : ℕ) (l : Lists) (e : Event) (first second : List ℕ
       (new.0, λ some. subst (λ (o : Option Lists). StandsIn o x.client r k) (sym now) (new.1 some))
   pair-by false t h =
       let p = is_packet r k in
-      let step = load-noted w n l e first second x a g i p fits in
+      let step = load-noted w n l e first second x a g lives i p fits in
       let less : load p x noted + 0 ≤ load p x w + 0 =
       subst (λ (b : Bool). load p x noted + cond b (took_reply p x.client e) 0 ≤ load p x w
       + cond b (posted_ask p x.client e) 0) t step in
@@ -133,12 +139,12 @@ module _ (w : Moment) (n : ℕ) (l : Lists) (e : Event) (first second : List ℕ
   pair-noted h = pair-by (n == x.home) refl h
 
 pair-node : (w : Moment) (n : ℕ) (l : Lists) (f : Fact) (x : Pairing) (r k : ℕ) → AtNode w n l f
-    → (g : Good w) → RightNode l → Valid l → CalmNode l → no_roll f.event ≡ true
+    → (g : Good w) → FirstLives w → RightNode l → Valid l → CalmNode l → no_roll f.event ≡ true
     → FitsIn g.known w.nodes x → PairAt w x r k → PairAt (moved w f) x r k
-pair-node w n l f x r k a g i v quiet calm fits h =
+pair-node w n l f x r k a g lives i v quiet calm fits h =
     let e = own-fact f (Node n) (a.allowed.who ∙ ap Node a.me) in
     let at : AtNode w n l (with_two n f.event f.first f.second) = subst (AtNode w n l) e a in
-    let p = pair-noted w n l f.event f.first f.second x at g i v quiet calm fits r k h in
+    let p = pair-noted w n l f.event f.first f.second x at g lives i v quiet calm fits r k h in
     subst (λ (u : Moment). PairAt u x r k) (sym (moved-node w n l f a))
     (subst (λ (z : Fact). PairAt (noted_at w n l z) x r k) (sym e) p)
 
@@ -164,7 +170,7 @@ module _ (w : Moment) (n m credits : ℕ) (client server : Lists) (ends : Ends w
       let old : InWindow client.clients (Ask x.client r) k =
       subst (λ (o : Option Lists). StandsIn o x.client r k) was h in
       subst (λ (o : Option Lists). StandsIn o x.client r k) (sym now)
-      (window-made (length client.clients) m server.server_numbers credits client.clients
+      (window-made (length client.clients) m server.server_numbers credits server.life client.clients
       (Ask x.client r) k old)
   stands-one x r k false t h =
       subst (λ (o : Option Lists). StandsIn o x.client r k)
@@ -210,6 +216,7 @@ module _ (w : Moment) (n m credits : ℕ) (client server : Lists) (ends : Ends w
   record Was (i : ℕ) (now : Lists) : Type 0 where
     lists : Lists
     is_node : slice_get w.nodes i ≡ Some lists
+    life : now.life ≡ lists.life
     queued : now.queued ≡ lists.queued
     ring : now.ring ≡ lists.ring
     jobs : now.jobs ≡ lists.jobs
@@ -240,12 +247,14 @@ module _ (w : Moment) (n m credits : ℕ) (client server : Lists) (ends : Ends w
           subst (Was i) same (record {
             lists = client;
             is_node = ap (slice_get w.nodes) at ∙ ends.is_client;
+            life = refl;
             queued = refl;
             ring = refl;
             jobs = refl;
             servers = refl;
             clients = λ s c h. elim (last-or client.clients
-                (client_end (length client.clients) m server.server_numbers credits) s c h) [
+                (client_end (length client.clients) m server.server_numbers credits server.life) s
+                c h) [
                   | inl old ↦ inl old
                   | inr new ↦ inr (ap (λ (z : Client). z.way.peer) (sym new), ap (λ (z : Client). z.way.other) (sym new))
                 ];
@@ -254,6 +263,7 @@ module _ (w : Moment) (n m credits : ℕ) (client server : Lists) (ends : Ends w
           record {
             lists = now;
             is_node = sym (set-other w.nodes n i (lists1 w n m credits client server ends) (eqb-false i n e)) ∙ is;
+            life = refl;
             queued = refl;
             ring = refl;
             jobs = refl;
@@ -277,8 +287,10 @@ module _ (w : Moment) (n m credits : ℕ) (client server : Lists) (ends : Ends w
           server_there = ap (find (is_server t)) (sym b.servers) ∙ e.server_there;
           peer = e.peer;
           other = e.other;
+          peer_life = e.peer_life ∙ b.life;
           home = e.home;
           number = e.number;
+          home_life = e.home_life ∙ a.life;
         }
         | inr new ↦ absurd (no-server right j t other v e.server_there b (sym e.peer ∙ new.0) (sym e.other ∙ new.1))
       ]
@@ -303,6 +315,7 @@ module _ (w : Moment) (n m credits : ℕ) (client server : Lists) (ends : Ends w
   record Now (i : ℕ) (l : Lists) : Type 0 where
     lists : Lists
     is_node : slice_get (nodes1 w n m credits client server ends) i ≡ Some lists
+    life : lists.life ≡ l.life
     servers : lists.servers ≡ l.servers
     clients : (s : ℕ) (c : Client) → slice_get l.clients s ≡ Some c → slice_get lists.clients s ≡ Some c
 
@@ -319,6 +332,7 @@ module _ (w : Moment) (n m credits : ℕ) (client server : Lists) (ends : Ends w
             lists = lists1 w n m credits client server ends;
             is_node = ap (slice_get (nodes1 w n m credits client server ends)) at
                 ∙ set-here w.nodes n client (lists1 w n m credits client server ends) ends.is_client;
+            life = refl;
             servers = refl;
             clients = λ s c h. add-keeps client.clients _ s c h;
           })
@@ -326,6 +340,7 @@ module _ (w : Moment) (n m credits : ℕ) (client server : Lists) (ends : Ends w
           record {
             lists = l;
             is_node = set-other w.nodes n i (lists1 w n m credits client server ends) (eqb-false i n e) ∙ is;
+            life = refl;
             servers = refl;
             clients = λ s c h. h;
           }
@@ -347,8 +362,10 @@ module _ (w : Moment) (n m credits : ℕ) (client server : Lists) (ends : Ends w
             server_there = ap (find (is_server t)) b.servers ∙ e.server_there;
             peer = e.peer;
             other = e.other;
+            peer_life = e.peer_life ∙ sym b.life;
             home = e.home;
             number = e.number;
+            home_life = e.home_life ∙ sym a.life;
           },
         ),
       )
@@ -451,7 +468,7 @@ tidy-node w n l f a i v calm t =
     let z = met-node w n l f a i v calm t.met in
     record {
       met = z.met;
-      pairs = λ x fits r k. pair-node w n l f x r k a t.met.good (i n l a.is_node) (v n l a.is_node)
+      pairs = λ x fits r k. pair-node w n l f x r k a t.met.good t.met.lives (i n l a.is_node) (v n l a.is_node)
           (t.met.calm n l a.is_node) calm (z.fits x fits) (t.pairs x (z.fits x fits) r k);
       replies = replies-node w n l f a v t.replies;
     }
@@ -477,26 +494,38 @@ course-pairs _ _ _ (made_as w limits h u is c) i v t = absurd (cc)
 course-pairs _ _ _ (resets w clock h u is c) i v t = absurd (cc)
 course-pairs _ _ _ (in_net w f h u who c) i v t = (
   λ calm. tidy-once w v (t calm),
-  course-pairs (moved w f) h u c (right-net w f who i) (valid-net w f who v) (λ calm. let parts = calm-parts f w.past calm in tidy-net w f who (rough-repeat f.event parts.0) (t parts.1)),
+  course-pairs (moved w f) h u c (right-net w f who i) (valid-net w f who v)
+      (λ calm. let parts = calm-parts w.past f calm in
+      tidy-net w f who (rough-repeat f.event parts.0) (t parts.1)),
 )
 course-pairs _ _ _ (made w ring h u c) i v t = (
   λ calm. tidy-once w v (t calm),
-  course-pairs _ h u c (right-made w (with_ring ring) i) (valid-made w (with_ring ring) v) (λ calm. let parts = calm-parts (plain (length w.nodes) (Made ring)) w.past calm in tidy-made w (with_ring ring) (t parts.1)),
+  course-pairs _ h u c (right-made w (with_ring ring) i) (valid-made w (with_ring ring) v)
+      (λ calm. let parts = calm-parts w.past (plain (length w.nodes) (Made ring)) calm in
+      tidy-made w (with_ring ring) (t parts.1)),
+)
+course-pairs _ _ _ (restarts w n l h u is me life c) i v t = (
+  λ calm. tidy-once w v (t calm),
+  course-pairs _ h u c (right-restart w n l is i) (valid-restart w n l is v)
+      (λ calm. absurd (no-restart n (l.life + 1) w.past calm)),
 )
 course-pairs _ _ _ (at_node w n l f h u a c) i v t = (
   λ calm. tidy-once w v (t calm),
-  course-pairs (moved w f) h u c (right-noted w n l f a i) (valid-node w n l f a v) (λ calm. let parts = calm-parts f w.past calm in tidy-node w n l f a i v (rough-roll f.event parts.0) (t parts.1)),
+  course-pairs (moved w f) h u c (right-noted w n l f a i) (valid-node w n l f a v)
+      (λ calm. let parts = calm-parts w.past f calm in
+      tidy-node w n l f a i v (rough-roll f.event parts.0) (t parts.1)),
 )
 course-pairs _ _ _ (pairs w n m credits client server h u e c) i v t = (
   λ calm. tidy-once w v (t calm),
   (
-    λ calm. let parts = calm-parts (client_fact n m credits client server) w.past calm in
+    λ calm. let parts = calm-parts w.past (client_fact n m credits client server) calm in
         between-tidy w n m credits client server e i (tidy-once w v (t parts.1)),
     course-pairs (paired w n m credits client server) h u c
         (right-paired w n m credits client server e i)
         (valid-pair w n m credits client server e v)
-        (λ calm. let parts = calm-parts (server_fact n m credits client server) (client_fact n m credits client server ∷ w.past) calm in
-        let before = t (calm-parts (client_fact n m credits client server) w.past parts.1).1 in
+        (λ calm. let parts = calm-parts (told w.past (client_fact n m credits client server) ∷ w.past)
+        (server_fact n m credits client server) calm in
+        let before = t (calm-parts w.past (client_fact n m credits client server) parts.1).1 in
         tidy-pair w n m credits client server e i v before),
   ),
 )

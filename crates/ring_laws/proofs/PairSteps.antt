@@ -163,9 +163,9 @@ standing-after clock (Posted (Ask a request) number) first l s r k old new v cal
     posts-by clock first l v a number request s r k old new _ refl may (omega arith) h
 standing-after clock (Took (Ask a request) number) first l s r k old new v calm may roll le h =
     takes-by clock first l v a number request s r k old new _ refl may (omega arith) h
-standing-after clock (PairedClient n peer t credits) first l s r k old new v calm may roll le h =
+standing-after clock (PairedClient n peer t credits life) first l s r k old new v calm may roll le h =
     kept old new l.clients _ s r k (omega arith) h
-    (window-made n peer t credits l.clients (Ask s r) k)
+    (window-made n peer t credits life l.clients (Ask s r) k)
 standing-after clock (Opened n peer credits) first l s r k old new v calm may roll le h =
     kept old new l.clients _ s r k (omega arith) h
     (window-opened n peer credits l.clients (Ask s r) k)
@@ -184,9 +184,9 @@ standing-after clock (ClosedHeard n) first l s r k old new v calm may roll le h 
 standing-after clock (ClosedUnheard n) first l s r k old new v calm may roll le h =
     kept old new l.clients _ s r k (omega arith) h
     (window-kept (is_client n) (comes_to Closed) (λ x. refl) (λ x. refl) l.clients (Ask s r) k)
-standing-after clock (IsConnected n t) first l s r k old new v calm may roll le h =
+standing-after clock (IsConnected n t life) first l s r k old new v calm may roll le h =
     kept old new l.clients _ s r k (omega arith) h
-    (window-kept (is_client n) (connects t) (λ x. refl) (λ x. refl) l.clients (Ask s r) k)
+    (window-kept (is_client n) (connects t life) (λ x. refl) (λ x. refl) l.clients (Ask s r) k)
 standing-after clock (Asked c n y room) first l s r k old new v calm may roll le h =
     kept old new l.clients _ s r k (omega arith) h
     (window-asked (record { number = c; req_type = y; room = room; ask = first }) n l.clients

@@ -6,7 +6,6 @@ use Rattle.std.proofs.Common.{Option, Some, None, slice_get, refl, sym, ap, â—Œâ
 use Rattle.std.specs.List.{find, list_any}
 use Rattle.std.proofs.lemmas.Bool.{and_from}
 use Rattle.rpc_base.specs.Owners.{same_owner}
-use Rattle.rpc_base.specs.declared.event.Event.TheVariants.{Made}
 use Rattle.rpc_base.specs.declared.fact.Fact.{Fact}
 use Rattle.rpc_base.specs.declared.fact.Who.TheVariants.{Net}
 use Rattle.rpc_base.specs.declared.owner.Owner.TheVariants.{Reply}
@@ -15,13 +14,11 @@ use Rattle.rpc_laws.specs.declared.tables.Lists.{Lists}
 use Rattle.rpc_laws.specs.declared.tables.Queued.{Queued}
 use Rattle.rpc_laws.specs.declared.tables.Served.{Served}
 use Rattle.rpc_laws.specs.declared.tables.Server.{Server}
-use Rattle.rpc_laws.specs.Facts.{plain}
 use Rattle.rpc_laws.specs.Front.{front_body}
 use Rattle.rpc_laws.specs.Lives.{first_life}
 use Rattle.rpc_laws.specs.NodeLists.{after, new_lists}
 use Rattle.rpc_laws.specs.Pacing.{due_of}
 use Rattle.rpc_laws.specs.Requests.{is_request, is_server, request_of}
-use Rattle.rpc_laws.specs.UsualLimits.{with_ring}
 use Rattle.node_laws.proofs.Allowed.{Allowed}
 use Rattle.node_laws.proofs.LookLemmas.{request_on}
 use Rattle.node_laws.proofs.StandLemmas.{Standing, standing-after}

@@ -43,6 +43,7 @@ pub record OutTo (way : Way) (kind : Bool) (r k : ℕ) (out : Outgoing) : Type 0
   pub request : header.request ≡ r
   pub number : header.number ≡ k
   pub peer : out.peer ≡ way.peer
+  pub life : header.to_life ≡ way.life
 
 some-out : (way : Way) (kind : Bool) (r k : ℕ) (a b : Outgoing) → Some a ≡ Some b
     → OutTo way kind r k a → OutTo way kind r k b
@@ -85,6 +86,7 @@ client-out true way a r k =
       request = refl;
       number = refl;
       peer = refl;
+      life = refl;
     }
 client-out false way a r k =
     record {
@@ -95,6 +97,7 @@ client-out false way a r k =
       request = refl;
       number = refl;
       peer = refl;
+      life = refl;
     }
 
 -- it goes from this client session, and from this call of it
@@ -162,6 +165,7 @@ server-out true way q k answer out h =
       request = refl;
       number = refl;
       peer = refl;
+      life = refl;
     })
 server-out false way q k None out h = cc
 server-out false way q k (Some a) out h =
@@ -173,6 +177,7 @@ server-out false way q k (Some a) out h =
       request = refl;
       number = refl;
       peer = refl;
+      life = refl;
     })
 
 -- it goes from this server session, and from this request of it

@@ -1,7 +1,7 @@
 -- The other direction: a packet of a server session that leaves its node is sent, dropped or flushed.
 use Rattle.ring_laws.proofs.ClientSteps.{control-out}
 use Rattle.std.proofs.Common.{◌≡◌, ◌+◌, ◌≤◌, ◌==◌, ◌&&◌, ℕ, Bool, true, false, cond, List, []}
-use Rattle.std.proofs.Common.{◌∷◌, drop, Option, Some, None, refl, ap, arith}
+use Rattle.std.proofs.Common.{◌∷◌, drop, eq-eqb, Option, Some, None, refl, ap, arith}
 use Rattle.std.specs.Prelude.{option_to_list}
 use Rattle.std.specs.List.{find}
 use Rattle.std.proofs.lemmas.Bool.{eqb-true, and_parts, both_ways}
@@ -36,15 +36,16 @@ one-count a b e = ap {B = ℕ} (λ (c : Bool). cond c 1 0) e
 
 -- what a fact takes out of the ring or the queue otherwise
 abbrev pub spilt_ask : Filter → ℕ → Event → Lists → ℕ
-spilt_ask p t (Dropped why) l = cond (asks p t (front_header l.ring)) 1 0
+spilt_ask p t (Dropped why) l = cond (asks p l.life t (front_header l.ring)) 1 0
 spilt_ask p t (Flushed o k) l = cond (own_reply p t o k) 1 0
 spilt_ask p t _ l = 0
 
-drop-counts : (p : Filter) (t : ℕ) (ring : List Arrival)
-    → count (λ a. asks p t (message_of a.bytes)) ring ≤ count (λ a. asks p t (message_of a.bytes))
-    (drop 1 ring) + cond (asks p t (front_header ring)) 1 0
-drop-counts p t [] = omega arith
-drop-counts p t (d ∷ ds) = omega arith
+pub drop-counts : (p : Filter) (life t : ℕ) (ring : List Arrival)
+    → count (λ a. asks p life t (message_of a.bytes)) ring
+    ≤ count (λ a. asks p life t (message_of a.bytes)) (drop 1 ring)
+    + cond (asks p life t (front_header ring)) 1 0
+drop-counts p life t [] = omega arith
+drop-counts p life t (d ∷ ds) = omega arith
 
 same-reply : (p : Filter) (t : ℕ) (a b : Owner) (n k : ℕ) → same_owner a b ≡ true → (n == k) ≡ true
     → own_reply p t a n ≡ own_reply p t b k
@@ -82,15 +83,18 @@ is_other _ = true
 -- all others, where nothing is owed
 abbrev pub ServerReach : Filter → ℕ → Option ℕ → Event → List ℕ → Lists → Type 0
 ServerReach p t due e first l =
-    server_packets p t l + given_ask p t e first ≤ count (λ q. own_reply p t q.owner q.number)
+    server_packets p t l + given_ask p l.life t e first ≤ count (λ q. own_reply p t q.owner q.number)
     (queued_after e due l.queued) + count (own_job p t) (jobs_after e l.servers l.jobs).out
-    + count (λ a. asks p t (message_of a.bytes)) (ring_after e first l.ring)
+    + count (λ a. asks p l.life t (message_of a.bytes)) (ring_after e first l.ring)
     + cond (owes p t e first) 1 0 + sent_reply p t e + spilt_ask p t e l
 
 pub server-reach : (p : Filter) (t : ℕ) (due : Option ℕ) (hand : Option InFlight) (l : Lists)
     (e : Event) (first second : List ℕ) → May hand l e first second → is_other e ≡ true
     → ServerReach p t due e first l
-server-reach p t due hand l (Posted (Ask s r) k) first second m plain = let q = count-put (λ (q : Queued). own_reply p t q.owner q.number) (record { owner = Ask s r; number = k; due = due }) l.queued in omega arith
+server-reach p t due hand l (Posted (Ask s r) k) first second m plain =
+    let q = count-put (λ (q : Queued). own_reply p t q.owner q.number)
+    (record { owner = Ask s r; number = k; due = due }) l.queued in
+    omega arith
 server-reach p t due hand l (Posted (Reply s r) k) first second m plain = absurd (both_ways false refl plain)
 server-reach p t due hand l (Posted Control k) first second m plain = absurd m
 server-reach p t due hand l (Given s r) first second m plain = absurd (both_ways false refl plain)
@@ -109,31 +113,35 @@ server-reach p t due hand l (Sent peer (Ask s r) k) first second m plain =
     (is_queued (Ask s r) k) l.queued _
     (front-queued l.queued (Ask s r) k m.due m.is_front) in
     omega arith
-server-reach p t due hand l (Arrived peer) first second m plain = let r = count-arrives (asks p t) refl (record { peer = peer; bytes = first }) l.ring in omega arith
+server-reach p t due hand l (Arrived peer) first second m plain =
+    let r = count-arrives (asks p l.life t) refl (record { peer = peer; bytes = first }) l.ring in
+    omega arith
 server-reach p t due hand l (Took (Reply s r) k) first second m plain =
     let h = m.header in
     let kind = taken-kind m.going m.server.slots h m.takes in
-    let front = front-counts (asks p t) l.ring m.front h m.is_front.is_front m.is_front.reads in
-    let counted : cond {A = ℕ} (asks p t (Some h)) 1 0 ≡ cond (s == t && p r k) 1 0 =
-    rw (kind, m.of_session, m.of_request, m.of_number) refl in
+    let front = front-counts (asks p l.life t) l.ring m.front h m.is_front.is_front m.is_front.reads in
+    let counted : cond {A = ℕ} (asks p l.life t (Some h)) 1 0 ≡ cond (s == t && p r k) 1 0 =
+    rw (kind, m.is_front.for_us, eq-eqb l.life l.life refl, m.of_session, m.of_request, m.of_number) refl in
     omega arith
 server-reach p t due hand l (Took (Ask s r) k) first second m plain =
     let h = m.header in
     let kind = turn-replies _ _ _ h _ m.of_turn in
-    let front = front-counts (asks p t) l.ring m.front h m.is_front.is_front m.is_front.reads in
-    let counted : cond {A = ℕ} (asks p t (Some h)) 1 0 ≡ 0 = rw kind refl in
+    let front = front-counts (asks p l.life t) l.ring m.front h m.is_front.is_front m.is_front.reads in
+    let counted : cond {A = ℕ} (asks p l.life t (Some h)) 1 0 ≡ 0 = rw kind refl in
     omega arith
 server-reach p t due hand l (Took Control k) first second m plain = absurd m
 server-reach p t due hand l (Again (Reply s r) k) first second m plain =
     let h = m.header in
-    let front = front-counts (asks p t) l.ring m.front h m.is_front.is_front m.is_front.reads in
-    let counted : cond {A = ℕ} (asks p t (Some h)) 1 0 ≡ cond (s == t && p r k) 1 0 =
-    rw (m.asks, m.of_session, m.of_request, m.of_number) refl in
+    let front = front-counts (asks p l.life t) l.ring m.front h m.is_front.is_front m.is_front.reads in
+    let counted : cond {A = ℕ} (asks p l.life t (Some h)) 1 0 ≡ cond (s == t && p r k) 1 0 =
+    rw (m.asks, m.is_front.for_us, eq-eqb l.life l.life refl, m.of_session, m.of_request, m.of_number) refl in
     omega arith
 server-reach p t due hand l (Again (Ask s r) k) first second m plain = absurd (both_ways false refl plain)
 server-reach p t due hand l (Again Control k) first second m plain = absurd (both_ways false refl plain)
-server-reach p t due hand l (Dropped why) first second m plain = let d = drop-counts p t l.ring in omega arith
-server-reach p t due hand l (Polled now) first second m plain = let q = count-ready (own_reply p t) now l.queued in omega arith
+server-reach p t due hand l (Dropped why) first second m plain = let d = drop-counts p l.life t l.ring in omega arith
+server-reach p t due hand l (Polled now) first second m plain =
+    let q = count-ready (own_reply p t) now l.queued in
+    omega arith
 server-reach p t due hand l (Sent peer Control k) first second m plain =
     let q = control-out (own_reply p t) (λ n. refl) k l.queued in omega arith
 server-reach p t due hand l _ first second m plain = omega arith

@@ -1,6 +1,6 @@
 -- A fact of a node adds nothing to what a server session has, but a packet that arrives.
 use Rattle.std.proofs.Common.{◌≡◌, ◌+◌, ◌-◌, ◌≤◌, ◌==◌, ◌&&◌, inl, inr, ℕ, true, cond, List}
-use Rattle.std.proofs.Common.{length, Option, Some, None, refl, ap, arith}
+use Rattle.std.proofs.Common.{eq-eqb, length, Option, Some, None, refl, ap, arith}
 use Rattle.std.proofs.lemmas.Bool.{eqb-true, and_parts}
 use Rattle.packet_header.specs.Parts.{packet_count}
 use Rattle.packet_header.specs.Reading.{message_of}
@@ -92,48 +92,71 @@ abbrev pub ServerStep : Filter → ℕ → Option ℕ → Option Fact → Event 
 ServerStep p t due latest e first l =
     count (λ q. own_reply p t q.owner q.number) (queued_after e due l.queued)
     + count (own_job p t) (jobs_after e l.servers l.jobs).out
-    + count (λ a. asks p t (message_of a.bytes)) (ring_after e first l.ring)
+    + count (λ a. asks p l.life t (message_of a.bytes)) (ring_after e first l.ring)
     + cond (owes p t e first) 1 0 + sent_reply p t e ≤ server_packets p t l
-    + cond (is_owed p l.me t latest) 1 0 + given_ask p t e first
+    + cond (is_owed p l.me t latest) 1 0 + given_ask p l.life t e first
 
 pub server-step : (p : Filter) (t : ℕ) (due : Option ℕ) (latest : Option Fact)
     (hand : Option InFlight) (l : Lists) (e : Event) (first second : List ℕ)
     → May hand l e first second → Linked latest l e first → ServerStep p t due latest e first l
-server-step p t due latest hand l (Posted (Ask s r) k) first second m o = let q = count-put (λ (q : Queued). own_reply p t q.owner q.number) (record { owner = Ask s r; number = k; due = due }) l.queued in omega arith
+server-step p t due latest hand l (Posted (Ask s r) k) first second m o =
+    let q = count-put (λ (q : Queued). own_reply p t q.owner q.number)
+    (record { owner = Ask s r; number = k; due = due }) l.queued in
+    omega arith
 server-step p t due latest hand l (Posted (Reply s r) k) first second m o =
     let q = count-put (λ (q : Queued). own_reply p t q.owner q.number)
     (record { owner = Reply s r; number = k; due = due }) l.queued in
     let w = owed-counts p l.me s r k t latest o in
     omega arith
 server-step p t due latest hand l (Posted Control k) first second m o = absurd m
-server-step p t due latest hand l (Flushed owner k) first second m o = let q = count-less (λ (q : Queued). own_reply p t q.owner q.number) (is_queued owner k) l.queued in omega arith
+server-step p t due latest hand l (Flushed owner k) first second m o =
+    let q = count-less (λ (q : Queued). own_reply p t q.owner q.number) (is_queued owner k) l.queued in
+    omega arith
 server-step p t due latest hand l (Sent peer (Reply s r) k) first second m o =
     let q = count-found (λ (q : Queued). own_reply p t q.owner q.number)
     (is_queued (Reply s r) k) l.queued _
     (front-queued l.queued (Reply s r) k m.due m.is_front) in
     omega arith
-server-step p t due latest hand l (Sent peer (Ask s r) k) first second m o = let q = count-less (λ (q : Queued). own_reply p t q.owner q.number) (is_queued (Ask s r) k) l.queued in omega arith
-server-step p t due latest hand l (Sent peer Control k) first second m o = let q = count-less (λ (q : Queued). own_reply p t q.owner q.number) (is_queued Control k) l.queued in omega arith
-server-step p t due latest hand l (Arrived peer) first second m o = let r = count-arrived (asks p t) (is_message first) (record { peer = peer; bytes = first }) l.ring in omega arith
-server-step p t due latest hand l (Polled now) first second m o = let q = count-ready (own_reply p t) now l.queued in omega arith
+server-step p t due latest hand l (Sent peer (Ask s r) k) first second m o =
+    let q = count-less (λ (q : Queued). own_reply p t q.owner q.number) (is_queued (Ask s r) k) l.queued in
+    omega arith
+server-step p t due latest hand l (Sent peer Control k) first second m o =
+    let q = count-less (λ (q : Queued). own_reply p t q.owner q.number) (is_queued Control k) l.queued in
+    omega arith
+server-step p t due latest hand l (Arrived peer) first second m o =
+    let r = count-arrived (asks p l.life t) (is_message first) (record { peer = peer; bytes = first }) l.ring in
+    omega arith
+server-step p t due latest hand l (Polled now) first second m o =
+    let q = count-ready (own_reply p t) now l.queued in
+    omega arith
 server-step p t due latest hand l (Took (Reply s r) k) first second m o =
     let h = m.header in
     let kind = taken-kind m.going m.server.slots h m.takes in
-    let front = front-counts (asks p t) l.ring m.front h m.is_front.is_front m.is_front.reads in
-    let counted : cond {A = ℕ} (asks p t (Some h)) 1 0 ≡ cond (s == t && p r k) 1 0 =
-    rw (kind, m.of_session, m.of_request, m.of_number) refl in
+    let front = front-counts (asks p l.life t) l.ring m.front h m.is_front.is_front m.is_front.reads in
+    let counted : cond {A = ℕ} (asks p l.life t (Some h)) 1 0 ≡ cond (s == t && p r k) 1 0 =
+    rw (kind, m.is_front.for_us, eq-eqb l.life l.life refl, m.of_session, m.of_request, m.of_number) refl in
     omega arith
-server-step p t due latest hand l (Took (Ask s r) k) first second m o = let d = count-drop (λ (a : Arrival). asks p t (message_of a.bytes)) l.ring in omega arith
-server-step p t due latest hand l (Took Control k) first second m o = let d = count-drop (λ (a : Arrival). asks p t (message_of a.bytes)) l.ring in omega arith
+server-step p t due latest hand l (Took (Ask s r) k) first second m o =
+    let d = count-drop (λ (a : Arrival). asks p l.life t (message_of a.bytes)) l.ring in
+    omega arith
+server-step p t due latest hand l (Took Control k) first second m o =
+    let d = count-drop (λ (a : Arrival). asks p l.life t (message_of a.bytes)) l.ring in
+    omega arith
 server-step p t due latest hand l (Again (Reply s r) k) first second m o =
     let h = m.header in
-    let front = front-counts (asks p t) l.ring m.front h m.is_front.is_front m.is_front.reads in
-    let counted : cond {A = ℕ} (asks p t (Some h)) 1 0 ≡ cond (s == t && p r k) 1 0 =
-    rw (m.asks, m.of_session, m.of_request, m.of_number) refl in
+    let front = front-counts (asks p l.life t) l.ring m.front h m.is_front.is_front m.is_front.reads in
+    let counted : cond {A = ℕ} (asks p l.life t (Some h)) 1 0 ≡ cond (s == t && p r k) 1 0 =
+    rw (m.asks, m.is_front.for_us, eq-eqb l.life l.life refl, m.of_session, m.of_request, m.of_number) refl in
     omega arith
-server-step p t due latest hand l (Again (Ask s r) k) first second m o = let d = count-drop (λ (a : Arrival). asks p t (message_of a.bytes)) l.ring in omega arith
-server-step p t due latest hand l (Again Control k) first second m o = let d = count-drop (λ (a : Arrival). asks p t (message_of a.bytes)) l.ring in omega arith
-server-step p t due latest hand l (Dropped why) first second m o = let d = count-drop (λ (a : Arrival). asks p t (message_of a.bytes)) l.ring in omega arith
+server-step p t due latest hand l (Again (Ask s r) k) first second m o =
+    let d = count-drop (λ (a : Arrival). asks p l.life t (message_of a.bytes)) l.ring in
+    omega arith
+server-step p t due latest hand l (Again Control k) first second m o =
+    let d = count-drop (λ (a : Arrival). asks p l.life t (message_of a.bytes)) l.ring in
+    omega arith
+server-step p t due latest hand l (Dropped why) first second m o =
+    let d = count-drop (λ (a : Arrival). asks p l.life t (message_of a.bytes)) l.ring in
+    omega arith
 server-step p t due latest hand l (Given s r) first second m o =
     let j = count-append (own_job p t) l.jobs.out (new_job s r l.servers) in
     let new = new-counts p l s r t o.has in

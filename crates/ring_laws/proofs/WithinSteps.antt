@@ -4,6 +4,7 @@ use Rattle.rpc_base.specs.declared.event.Event.TheVariants.{Broken}
 use Rattle.node_laws.specs.Valid.{Valid}
 use Rattle.end_laws.proofs.Known.{Good}
 use Rattle.ring_laws.proofs.Loads.{free_in, limit_in}
+use Rattle.ring_laws.proofs.FirstLives.{FirstLives}
 use Rattle.ring_laws.proofs.Standing.{FitsIn}
 use Rattle.std.proofs.Common.{◌≡◌, ◌+◌, ◌≤◌, ◌==◌, ◌&&◌, ℕ, zero, suc, Bool, true, false, cond}
 use Rattle.std.proofs.Common.{List, [], ◌∷◌, ◌++◌, length, Option, Some, None, slice_get, refl, sym}
@@ -12,7 +13,7 @@ use Rattle.std.specs.Prelude.{option_to_list}
 use Rattle.std.specs.List.{find, slice_set}
 use Rattle.std.proofs.lemmas.Bool.{eqb-true, eqb-false}
 use Rattle.rpc_base.specs.declared.event.Event.{Event}
-use Rattle.rpc_base.specs.declared.event.Event.TheVariants.{Made, Carried, Lost, Repeated}
+use Rattle.rpc_base.specs.declared.event.Event.TheVariants.{Carried, Lost, Repeated}
 use Rattle.rpc_base.specs.declared.fact.Fact.{Fact}
 use Rattle.rpc_base.specs.declared.fact.Who.{Who}
 use Rattle.rpc_base.specs.declared.fact.Who.TheVariants.{Node, Net}
@@ -20,12 +21,11 @@ use Rattle.rpc_laws.specs.declared.tables.Client.{Client}
 use Rattle.rpc_laws.specs.declared.tables.InFlight.{InFlight}
 use Rattle.rpc_laws.specs.declared.tables.Lists.{Lists}
 use Rattle.rpc_laws.specs.BufferSafety.{changed, nodes_at}
-use Rattle.rpc_laws.specs.Facts.{plain, with_two}
+use Rattle.rpc_laws.specs.Facts.{with_two}
 use Rattle.rpc_laws.specs.InFlight.{flight_after_net}
 use Rattle.rpc_laws.specs.Lives.{first_life}
 use Rattle.rpc_laws.specs.NodeLists.{after, new_lists}
 use Rattle.rpc_laws.specs.Pacing.{due_of}
-use Rattle.rpc_laws.specs.UsualLimits.{with_ring}
 use Rattle.rpc_laws.specs.Sessions.{is_client, client_end}
 use Rattle.end_laws.specs.Moments.{Moment, moved, hand_of}
 use Rattle.end_laws.proofs.Allowed.{is_owed, owes, carries}
@@ -74,7 +74,8 @@ abbrev of-limit : Pairing → Lists → ℕ
 of-limit x l = limit_of x.client l.clients
 
 module _ (w : Moment) (n : ℕ) (l : Lists) (e : Event) (first second : List ℕ) (x : Pairing)
-    (a : AtNode w n l (with_two n e first second)) (g : Good w) (i : RightNode l) where
+    (a : AtNode w n l (with_two n e first second)) (g : Good w) (lives : FirstLives w)
+    (i : RightNode l) where
   abbrev now : Lists
   now = after w.clock l (with_two n e first second)
 
@@ -82,7 +83,7 @@ module _ (w : Moment) (n : ℕ) (l : Lists) (e : Event) (first second : List ℕ
     node-client : (b : Bool) → (n == x.home) ≡ b
         → client_part p x (slice_set w.nodes n now) + if_at b (sent_ask p x.client e)
         + if_at b (took_reply p x.client e) ≤ client_part p x w.nodes
-        + if_at b (posted_ask p x.client e) + if_at b (given_reply p x.client e first)
+        + if_at b (posted_ask p x.client e) + if_at b (given_reply p l.life x.client e first)
     node-client true t =
         let step = client-step p x.client (due_of w.clock e l.paces)
         (latest w.past) w.hand l e first second a.allowed.may a.linked in
@@ -94,7 +95,7 @@ module _ (w : Moment) (n : ℕ) (l : Lists) (e : Event) (first second : List ℕ
     node-server : (b : Bool) → (n == x.node) ≡ b
         → server_part p x (slice_set w.nodes n now) + cond (b && owes p x.session e first) 1 0
         + if_at b (sent_reply p x.session e) ≤ server_part p x w.nodes + owed p x w
-        + if_at b (given_ask p x.session e first)
+        + if_at b (given_ask p l.life x.session e first)
     node-server true t =
         let step = server-step p x.session (due_of w.clock e l.paces)
         (latest w.past) w.hand l e first second a.allowed.may a.linked in
@@ -115,8 +116,18 @@ module _ (w : Moment) (n : ℕ) (l : Lists) (e : Event) (first second : List ℕ
     load-noted fits =
         let c = node-client (n == x.home) refl in
         let s = node-server (n == x.node) refl in
-        let f = flight-node p w g n l x a.is_node fits i w.hand e first second a.allowed.may in
+        let f = flight-node p w g lives n l x a.is_node fits i w.hand e first second
+        a.allowed.may in
         let given = hand-gives p x w n l e first second a.me a.allowed.may a.linked in
+        let life = lives.nodes n l a.is_node in
+        let home : if_at (n == x.home) (given_reply p l.life x.client e first)
+        ≡ if_at (n == x.home) (given_reply p x.home_life x.client e first) =
+        ap (λ (k : ℕ). if_at (n == x.home) (given_reply p k x.client e first))
+        (life ∙ sym fits.home_life) in
+        let node : if_at (n == x.node) (given_ask p l.life x.session e first)
+        ≡ if_at (n == x.node) (given_ask p x.node_life x.session e first) =
+        ap (λ (k : ℕ). if_at (n == x.node) (given_ask p k x.session e first))
+        (life ∙ sym fits.node_life) in
         omega arith
 
   node-credit : Valid l → no_roll e ≡ true → ((s : ℕ) → e ≡ Broken s → ⊥) → (b : Bool)
@@ -151,13 +162,13 @@ pub own-fact : (f : Fact) (who : Who) → f.who ≡ who
 own-fact f who e = ap (λ (p : Who). record { who = p; event = f.event; first = f.first; second = f.second }) e
 
 pub within-node : (w : Moment) (n : ℕ) (l : Lists) (f : Fact) (x : Pairing) → AtNode w n l f
-    → (g : Good w) → RightNode l → Valid l → no_roll f.event ≡ true
+    → (g : Good w) → FirstLives w → RightNode l → Valid l → no_roll f.event ≡ true
     → ((s : ℕ) → f.event ≡ Broken s → ⊥) → FitsIn g.known w.nodes x → Within w x
     → Within (moved w f) x
-within-node w n l f x a g i v calm whole fits h =
+within-node w n l f x a g lives i v calm whole fits h =
     let e = own-fact f (Node n) (a.allowed.who ∙ ap Node a.me) in
     let at : AtNode w n l (with_two n f.event f.first f.second) = subst (AtNode w n l) e a in
-    let k = within-noted w n l f.event f.first f.second x at g i v calm whole fits h in
+    let k = within-noted w n l f.event f.first f.second x at g lives i v calm whole fits h in
     subst (λ (v : Moment). Within v x) (sym (moved-node w n l f a))
     (subst (λ (g : Fact). Within (noted_at w n l g) x) (sym e) k)
 
@@ -171,12 +182,12 @@ net-keeps : (p : Filter) (x : Pairing) (e : Event) (copies : List InFlight) (han
     → on_way p x (flight_after_net e copies) + on_way p x
     (cond (carries Net e) (option_to_list (hand_of e copies hand)) []) ≤ on_way p x copies
 net-keeps p x (Carried i) copies hand calm =
-    let a = count-remove (ask_to p x.node x.session) copies i in
-    let b = count-remove (reply_to p x.home x.client) copies i in
+    let a = count-remove (ask_to p x.node x.node_life x.session) copies i in
+    let b = count-remove (reply_to p x.home x.home_life x.client) copies i in
     omega arith
 net-keeps p x (Lost i) copies hand calm =
-    let a = count-remove (ask_to p x.node x.session) copies i in
-    let b = count-remove (reply_to p x.home x.client) copies i in
+    let a = count-remove (ask_to p x.node x.node_life x.session) copies i in
+    let b = count-remove (reply_to p x.home x.home_life x.client) copies i in
     omega arith
 net-keeps p x (Repeated i) copies hand calm = cc
 net-keeps p x _ copies hand calm = omega arith
@@ -287,7 +298,7 @@ module _ (w : Moment) (n m credits : ℕ) (client server : Lists) (ends : Ends w
       let new_limit = here-now (of-limit x) w.nodes n x.home client lists1 ends.is_client t in
       let old_limit = here-was (of-limit x) w.nodes n x.home client ends.is_client t in
       let k = new-value x.client client.clients
-      (client_end (length client.clients) m server.server_numbers credits) refl in
+      (client_end (length client.clients) m server.server_numbers credits server.life) refl in
       omega arith
   pair-free x false t =
       let a = there-same (of-free x) w.nodes n x.home lists1 t in

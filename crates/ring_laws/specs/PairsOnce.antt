@@ -1,5 +1,5 @@
--- While no datagram was repeated and no call rolled back, a packet that is on its way is
--- unanswered, and stands in one place only.
+-- While no datagram was repeated, no call rolled back and no node restarted, a packet that is on its
+-- way is unanswered, and stands in one place only.
 use Rattle.std.specs.Prelude.{ℕ, ◌≡◌, ◌≤◌, ◌<◌, ◌+◌, ◌-◌, ◌==◌, ◌&&◌, not, Bool}
 use Rattle.std.specs.Prelude.{false, Option, Some, None, List, length, count_by, slice_get, true}
 use Rattle.std.specs.Bool.{MatchBool}
@@ -73,8 +73,10 @@ pub record AreEndsOf (w : Moment) (n s : ℕ) (client : Lists) (x : Client) (m t
   pub server_there : find (is_session t) server.servers ≡ Some v
   pub peer : x.way.peer ≡ m
   pub other : x.way.other ≡ t
+  pub peer_life : x.way.life ≡ server.life
   pub home : v.way.peer ≡ n
   pub number : v.way.other ≡ s
+  pub home_life : v.way.life ≡ client.life
 
 -- a packet of the session stands once at most, and only while it is unanswered
 pub record StandsOnce (w : Moment) (n s : ℕ) (client : Lists) (x : Client) (m t : ℕ)

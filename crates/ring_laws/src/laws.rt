@@ -13,16 +13,16 @@ ghost use Rattle.rpc_base.specs.declared.fact.Fact.{Fact};
 ghost use Rattle.script_grammar.specs.declared.line.Line.{Line};
 ghost use Rattle.sim_script.specs.FollowsScript.{Follows};
 
-/// Where a message finds the ring of its node full, a datagram was repeated or a call was rolled
-/// back before, at whatever node.
+/// Where a message finds the ring of its node full, a datagram was repeated, a call was rolled back
+/// or a node was restarted before, at whatever node.
 pub fn messages_fit()
     ensures { (script : List Line) (h : List Fact) → PairsTwoNodes script → Follows script h
         → MessagesFit h }
 {}
 
-/// At every moment before which no datagram was repeated and no call rolled back, each packet of a
-/// call that is queued, in flight in either direction, in a ring or a job is unanswered, and it
-/// stands in one of these places only.
+/// At every moment before which no datagram was repeated, no call rolled back and no node
+/// restarted, each packet of a call that is queued, in flight in either direction, in a ring or a
+/// job is unanswered, and it stands in one of these places only.
 pub fn packets_stand_once()
     ensures { (script : List Line) (h : List Fact) → PairsTwoNodes script → Follows script h
         → PairsOnce h }

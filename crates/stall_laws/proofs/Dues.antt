@@ -1,6 +1,6 @@
 -- What is due is done next: each fact of a node leaves something to be done at once, or does it.
 use Rattle.rpc_laws.specs.Requests.{is_server}
-use Rattle.std.proofs.Common.{◌≡◌, ◌<◌, ◌%◌, ◌-◌, ◌==◌, ℕ, Bool, true, false, List, [], ◌∷◌, ◌++◌}
+use Rattle.std.proofs.Common.{◌≡◌, ◌⊎◌, ◌<◌, ◌%◌, ◌-◌, ◌==◌, ℕ, Bool, true, false, List, [], ◌∷◌, ◌++◌}
 use Rattle.std.proofs.Common.{length}
 use Rattle.std.proofs.Common.{Option, Some, None, slice_get, refl, subst}
 use Rattle.std.specs.List.{find, AllByRecursion}
@@ -26,7 +26,7 @@ use Rattle.rpc_laws.specs.Front.{front_header, is_message}
 use Rattle.rpc_laws.specs.NodeLists.{after, after_all}
 use Rattle.rpc_laws.specs.Steps.{Rel}
 use Rattle.end_laws.specs.Moments.{hand_noted}
-use Rattle.end_laws.proofs.Allowed.{IsOut, IsWhole, MayLeave}
+use Rattle.end_laws.proofs.Allowed.{IsOut, IsWhole, MayLeave, MayOutdate}
 use Rattle.end_laws.proofs.QueueLemmas.{RightNode}
 use Rattle.end_laws.proofs.Walks.{Walked}
 use Rattle.ring_laws.proofs.ServerReach.{NoneOut}
@@ -67,6 +67,7 @@ is_alone _ = true
 pub record IsOlder (l : Lists) (t r : ℕ) : Type 0 where
   pub header : MessageHeader
   pub reads : front_header l.ring ≡ Some header
+  pub for_us : header.to_life ≡ l.life
   pub kind : header.kind ≡ Request
   pub session : header.session ≡ t
   pub slot : (r % 8) ≡ (header.request % 8)
@@ -95,7 +96,7 @@ Goes delivery n s o = ⊥
 pub data Step (hand : Option InFlight) (l : Lists) (first : List ℕ) : Due → Event → Due → Type 0 where
   alone : (e : Event) → is_alone e ≡ true → Step hand l first nothing e nothing
   older : (t r k : ℕ) → IsOlder l t r → Step hand l first nothing (Flushed (Reply t r) k) nothing
-  leaves : (t r k : ℕ) → MayLeave hand l t
+  leaves : (t r k : ℕ) → MayLeave hand l t ⊎ MayOutdate hand l t
       → Step hand l first nothing (Flushed (Reply t r) k) nothing
   takes : (t r k : ℕ) → Step hand l first nothing (Took (Reply t r) k) (reply l.me t r k)
   repeats : (t r k : ℕ) → Step hand l first nothing (Again (Reply t r) k) (reply l.me t r k)

@@ -35,17 +35,16 @@ use Rattle.rpc_laws.specs.Requests.{is_server}
 use Rattle.rpc_laws.specs.Sessions.{is_client}
 use Rattle.end_laws.specs.Kinds.{is_ask}
 use Rattle.end_laws.specs.Moments.{Moment, moved, hand_of, hand_after}
-use Rattle.end_laws.proofs.Allowed.{MayLeave, May, is_packet}
+use Rattle.end_laws.proofs.Allowed.{MayLeave, MayOutdate, May, is_packet}
 use Rattle.end_laws.proofs.Courses.{latest, AtNode, noted_at}
 use Rattle.end_laws.proofs.QueueLemmas.{RightNode}
 use Rattle.ring_laws.proofs.ClientReach.{client-reach, spilt_reply}
 use Rattle.ring_laws.proofs.Counting.{count-append, count-add, count-remove}
-use Rattle.ring_laws.proofs.Loads.{Filter, Pairing, asks, replies, server_packets, client_packets}
+use Rattle.ring_laws.proofs.Loads.{Filter, Pairing, asks, replies, client_packets}
 use Rattle.ring_laws.proofs.Loads.{given_ask, given_reply, sent_ask, sent_reply, posted_ask}
-use Rattle.ring_laws.proofs.Loads.{took_reply, client_part, server_part}
+use Rattle.ring_laws.proofs.Loads.{took_reply, client_part}
 use Rattle.ring_laws.proofs.Loads.{on_way, ask_to, reply_to}
 use Rattle.ring_laws.proofs.SentReads.{Reads, sent-reads}
-use Rattle.ring_laws.proofs.ServerReach.{spilt_ask}
 use Rattle.ring_laws.proofs.WithinSteps.{here-now, here-was, there-same}
 use Rattle.ring_laws.proofs.WorldSteps.{and-count, if_at}
 use Rattle.stall_laws.specs.Caused.{lost_at_node, lost_in_net, lost_by, front_copy}
@@ -58,27 +57,33 @@ use Rattle.stall_laws.proofs.Dues.{flushes, rolls, breaks, Goes, IsOlder, IsCall
 use Rattle.stall_laws.proofs.Moves.{net_due}
 use Rattle.stall_laws.proofs.Standing.{owed_at, flushed_at, due_copy, standing, step-noted}
 use Rattle.ring_laws.proofs.WorldSteps.{le-by}
-use Rattle.stall_laws.proofs.Standing.{server-moves}
+use Rattle.stall_laws.proofs.Standing.{here-moves, server_here, server_now, spilt_at}
 
 -- the sessions that are found at the ends of a pairing are its own
 pub record JoinsAt (hand : Option InFlight) (n : ℕ) (l : Lists) (x : Pairing) : Type 0 where
+  pub home_life : n ≡ x.home → l.life ≡ x.home_life
   pub client : n ≡ x.home → (c : Client) → find (is_client x.client) l.clients ≡ Some c
-      → (c.way.peer ≡ x.node) × (c.way.other ≡ x.session)
-  pub server : n ≡ x.node → (v : Server) → find (is_server x.session) l.servers ≡ Some v
-      → (v.way.peer ≡ x.home) × (v.way.other ≡ x.client)
-  pub stands : n ≡ x.node → find (is_server x.session) l.servers ≡ None → ⊥
-  pub stays : n ≡ x.node → MayLeave hand l x.session → ⊥
+      → (c.way.peer ≡ x.node) × (c.way.life ≡ x.node_life) × (c.way.other ≡ x.session)
+  pub server : n ≡ x.node → l.life ≡ x.node_life → (v : Server)
+      → find (is_server x.session) l.servers ≡ Some v
+      → (v.way.peer ≡ x.home) × (v.way.life ≡ x.home_life) × (v.way.other ≡ x.client)
+  pub stands : n ≡ x.node → l.life ≡ x.node_life → find (is_server x.session) l.servers ≡ None
+      → ⊥
+  pub stays : n ≡ x.node → l.life ≡ x.node_life
+      → MayLeave hand l x.session ⊎ MayOutdate hand l x.session → ⊥
 
 -- a datagram of a pairing was lost
 pub record Passing (x : Pairing) (r k : ℕ) (lost : Option InFlight) : Type 0 where
   pub copy : InFlight
   pub is_lost : lost ≡ Some copy
-  pub own : (ask_to (is_packet r k) x.node x.session copy || reply_to (is_packet r k) x.home x.client copy) ≡ true
+  pub own : (ask_to (is_packet r k) x.node x.node_life x.session copy
+      || reply_to (is_packet r k) x.home x.home_life x.client copy) ≡ true
 
 -- the fate of a packet by a fact of node n
 pub data Fate (w : Moment) (n : ℕ) (l : Lists) (x : Pairing) (r k : ℕ) (e : Event) (first : List ℕ) : Type 0 where
   took : n ≡ x.home → e ≡ Took (Ask x.client r) k → Fate w n l x r k e first
-  passed : n ≡ x.node → e ≡ Flushed (Reply x.session r) k → IsOlder l x.session r → Fate w n l x r k e first
+  passed : n ≡ x.node → l.life ≡ x.node_life → e ≡ Flushed (Reply x.session r) k
+      → IsOlder l x.session r → Fate w n l x r k e first
   lost : Passing x r k (lost_at_node w n e first) → Fate w n l x r k e first
   rolled : n ≡ x.home → (c posted got : ℕ) → e ≡ Rolled c posted got → IsCallFor l x.client c r
       → Fate w n l x r k e first
@@ -145,7 +150,8 @@ module _ (r k : ℕ) (held : Option InFlight) (n : ℕ) (l : Lists) (x : Pairing
 
   ask-goes : (peer s q j : ℕ) (bytes : List ℕ) → Reads l peer (Ask s q) j bytes
       → (n == x.home && (s == x.client && p q j)) ≡ true
-      → ask_to p x.node x.session (record { from = n; to = peer; bytes = bytes }) ≡ true
+      → ask_to p x.node x.node_life x.session (record { from = n; to = peer; bytes = bytes })
+      ≡ true
   ask-goes peer s q j bytes r0 t =
       let parts = and_parts (n == x.home) (s == x.client && p q j) t in
       let more = and_parts (s == x.client) (p q j) parts.1 in
@@ -157,84 +163,102 @@ module _ (r k : ℕ) (held : Option InFlight) (n : ℕ) (l : Lists) (x : Pairing
       let own = joins.client (eqb-true n x.home parts.0) from.client found in
       let reads = r0.read h from.goes.is_message in
       let to : peer ≡ x.node = r0.to_peer ∙ (from.goes.peer ∙ own.0) in
-      let end : h.session ≡ x.session = from.goes.to ∙ own.1 in
+      let life : h.to_life ≡ x.node_life = from.goes.life ∙ own.1 in
+      let end : h.session ≡ x.session = from.goes.to ∙ own.2 in
       let passes : p h.request h.number ≡ true = rw (from.goes.request, from.goes.number) more.1 in
-      rw reads (and_from (peer == x.node) (is_ask h.kind && (h.session == x.session && p h.request h.number))
-      (eq-eqb peer x.node to) (and_from (is_ask h.kind) (h.session == x.session && p h.request h.number)
-      from.goes.asks (and_from (h.session == x.session) (p h.request h.number)
-      (eq-eqb h.session x.session end) passes)))
+      rw reads (and_from (peer == x.node) _ (eq-eqb peer x.node to)
+      (and_from (is_ask h.kind) _ from.goes.asks
+      (and_from (h.to_life == x.node_life) _ (eq-eqb h.to_life x.node_life life)
+      (and_from (h.session == x.session) (p h.request h.number)
+      (eq-eqb h.session x.session end) passes))))
 
   not-false-is : (b : Bool) → b ≡ false → not b ≡ true
   not-false-is b e = rw e refl
 
+  -- whether the node is in the life that its end of the session is of
+  abbrev pub own_life : Bool
+  own_life = l.life == x.node_life
+
   reply-goes : (peer t q j : ℕ) (bytes : List ℕ) → Reads l peer (Reply t q) j bytes
-      → (n == x.node && (t == x.session && p q j)) ≡ true
-      → reply_to p x.home x.client (record { from = n; to = peer; bytes = bytes }) ≡ true
+      → (n == x.node && (own_life && (t == x.session && p q j))) ≡ true
+      → reply_to p x.home x.home_life x.client (record { from = n; to = peer; bytes = bytes })
+      ≡ true
   reply-goes peer t q j bytes r0 e =
-      let parts = and_parts (n == x.node) (t == x.session && p q j) e in
-      let more = and_parts (t == x.session) (p q j) parts.1 in
+      let parts = and_parts (n == x.node) (own_life && (t == x.session && p q j)) e in
+      let lives = and_parts own_life (t == x.session && p q j) parts.1 in
+      let more = and_parts (t == x.session) (p q j) lives.1 in
       let from = r0.from in
       let h = from.goes.header in
       let session : t ≡ x.session = eqb-true t x.session more.0 in
       let found : find (is_server x.session) l.servers ≡ Some from.server =
       subst (λ (i : ℕ). find (is_server i) l.servers ≡ Some from.server) session from.found in
-      let own = joins.server (eqb-true n x.node parts.0) from.server found in
+      let own = joins.server (eqb-true n x.node parts.0) (eqb-true l.life x.node_life lives.0)
+      from.server found in
       let reads = r0.read h from.goes.is_message in
       let to : peer ≡ x.home = r0.to_peer ∙ (from.goes.peer ∙ own.0) in
-      let end : h.session ≡ x.client = from.goes.to ∙ own.1 in
+      let life : h.to_life ≡ x.home_life = from.goes.life ∙ own.1 in
+      let end : h.session ≡ x.client = from.goes.to ∙ own.2 in
       let passes : p h.request h.number ≡ true = rw (from.goes.request, from.goes.number) more.1 in
-      rw reads (and_from (peer == x.home) (not (is_ask h.kind) && (h.session == x.client && p h.request h.number))
-      (eq-eqb peer x.home to) (and_from (not (is_ask h.kind)) (h.session == x.client && p h.request h.number)
-      (not-false-is (is_ask h.kind) from.goes.asks) (and_from (h.session == x.client) (p h.request h.number)
-      (eq-eqb h.session x.client end) passes)))
+      rw reads (and_from (peer == x.home) _ (eq-eqb peer x.home to)
+      (and_from (not (is_ask h.kind)) _ (not-false-is (is_ask h.kind) from.goes.asks)
+      (and_from (h.to_life == x.home_life) _ (eq-eqb h.to_life x.home_life life)
+      (and_from (h.session == x.client) (p h.request h.number)
+      (eq-eqb h.session x.client end) passes))))
+
+  none-own : (a b : Bool) → if_at a (cond {A = ℕ} b 0 0) ≡ 0
+  none-own true true = refl
+  none-own true false = refl
+  none-own false b = refl
 
   flight-moves : (hand : Option InFlight) (e : Event) (first second : List ℕ)
       (copies : List InFlight) → RightNode l → May hand l e first second
       → on_way p x copies + if_at (n == x.home) (sent_ask p x.client e)
-      + if_at (n == x.node) (sent_reply p x.session e) ≤ on_way p x
+      + if_at (n == x.node) (cond own_life (sent_reply p x.session e) 0) ≤ on_way p x
       (flight_after_node n e first second copies)
   flight-moves hand (Sent peer (Ask s q) j) first second copies i m =
       let c : InFlight = record { from = n; to = peer; bytes = first ++ second } in
       let r0 = sent-reads l peer (Ask s q) j first second i m in
-      let a = count-add (ask_to p x.node x.session) copies c in
-      let b = count-add (reply_to p x.home x.client) copies c in
-      let goes = le-by (n == x.home && (s == x.client && p q j)) (ask_to p x.node x.session c) (ask-goes peer s q j
-      (first ++ second) r0) in
+      let a = count-add (ask_to p x.node x.node_life x.session) copies c in
+      let b = count-add (reply_to p x.home x.home_life x.client) copies c in
+      let goes = le-by (n == x.home && (s == x.client && p q j))
+      (ask_to p x.node x.node_life x.session c) (ask-goes peer s q j (first ++ second) r0) in
       let split = and-count (n == x.home) (s == x.client && p q j) in
-      let none = none-at (n == x.node) in
+      let none = none-own (n == x.node) own_life in
       omega arith
   flight-moves hand (Sent peer (Reply t q) j) first second copies i m =
       let c : InFlight = record { from = n; to = peer; bytes = first ++ second } in
       let r0 = sent-reads l peer (Reply t q) j first second i m in
-      let a = count-add (ask_to p x.node x.session) copies c in
-      let b = count-add (reply_to p x.home x.client) copies c in
-      let goes = le-by (n == x.node && (t == x.session && p q j)) (reply_to p x.home x.client c)
-      (reply-goes peer t q j (first ++ second) r0) in
-      let split = and-count (n == x.node) (t == x.session && p q j) in
+      let a = count-add (ask_to p x.node x.node_life x.session) copies c in
+      let b = count-add (reply_to p x.home x.home_life x.client) copies c in
+      let goes = le-by (n == x.node && (own_life && (t == x.session && p q j)))
+      (reply_to p x.home x.home_life x.client c) (reply-goes peer t q j (first ++ second) r0) in
+      let split = and-count (n == x.node) (own_life && (t == x.session && p q j)) in
+      let more = ap (if_at (n == x.node)) (and-count own_life (t == x.session && p q j)) in
       let none = none-at (n == x.home) in
       omega arith
   flight-moves hand (Sent peer Control j) first second copies i m =
       let c : InFlight = record { from = n; to = peer; bytes = first ++ second } in
-      let a = count-add (ask_to p x.node x.session) copies c in
-      let b = count-add (reply_to p x.home x.client) copies c in
+      let a = count-add (ask_to p x.node x.node_life x.session) copies c in
+      let b = count-add (reply_to p x.home x.home_life x.client) copies c in
       let none = none-at (n == x.home) in
-      let other = none-at (n == x.node) in
+      let other = none-own (n == x.node) own_life in
       omega arith
   flight-moves hand _ first second copies i m =
-      let a = none-at (n == x.home) in let b = none-at (n == x.node) in omega arith
+      let a = none-at (n == x.home) in let b = none-own (n == x.node) own_life in omega arith
 
 -- what stands apart from what is due of deliveries and flushes
 abbrev base : (r k : ℕ) → Pairing → Due → Moment → ℕ
 base r k x d w =
-    client_part (is_packet r k) x w.nodes + server_part (is_packet r k) x w.nodes
-    + owed_at (is_packet r k) x.node x.session d + on_way (is_packet r k) x w.flight
+    client_part (is_packet r k) x w.nodes
+    + server_now (is_packet r k) x (owed_at (is_packet r k) x.node x.session d) w.nodes
+    + on_way (is_packet r k) x w.flight
 
 -- the copy in hand is the one that is delivered
 in-hand : (p : Filter) (x : Pairing) (n : ℕ) (hand : Option InFlight) (peer : ℕ) (first : List ℕ)
     → hand ≡ Some (record { from = peer; to = n; bytes = first })
     → on_way p x (option_to_list hand)
-    ≡ cond (n == x.node && asks p x.session (message_of first)) 1 0
-    + cond (n == x.home && replies p x.client (message_of first)) 1 0
+    ≡ cond (n == x.node && asks p x.node_life x.session (message_of first)) 1 0
+    + cond (n == x.home && replies p x.home_life x.client (message_of first)) 1 0
 in-hand p x n hand peer first is = rw is (omega arith)
 
 module _ (w : Moment) (n : ℕ) (l : Lists) (e : Event) (first second : List ℕ) (x : Pairing)
@@ -249,9 +273,13 @@ module _ (w : Moment) (n : ℕ) (l : Lists) (e : Event) (first second : List ℕ
   abbrev q : Filter
   q = is_packet r k
 
+  abbrev owns : Bool
+  owns = l.life == x.node_life
+
   client-by : (d u : Due) → Step w.hand l first d e u → (b : Bool) → (n == x.home) ≡ b
       → client_part q x w.nodes + if_at b (posted_ask q x.client e)
-      + if_at b (given_reply q x.client e first) ≤ client_part q x (slice_set w.nodes n now)
+      + if_at b (given_reply q l.life x.client e first)
+      ≤ client_part q x (slice_set w.nodes n now)
       + if_at b (sent_ask q x.client e) + if_at b (took_reply q x.client e)
       + if_at b (spilt_reply q x.client e l)
   client-by d u step true t =
@@ -262,47 +290,74 @@ module _ (w : Moment) (n : ℕ) (l : Lists) (e : Event) (first second : List ℕ
       rw (new, old) reach
   client-by d u step false t = let same = there-same (client_packets q x.client) w.nodes n x.home now t in omega arith
 
+  abbrev here_of : Due → Lists → ℕ
+  here_of d z = server_here q x.node_life x.session (owed_at q x.node x.session d) z
+
   server-by : (d u : Due) → Step w.hand l first d e u → (b : Bool) → (n == x.node) ≡ b
-      → server_part q x w.nodes + if_at b (owed_at q l.me x.session d)
-      + if_at b (given_ask q x.session e first) ≤ server_part q x (slice_set w.nodes n now)
-      + if_at b (owed_at q l.me x.session u) + if_at b (sent_reply q x.session e)
-      + if_at b (spilt_ask q x.session e l)
+      → server_now q x (owed_at q x.node x.session d) w.nodes
+      + if_at b (given_ask q x.node_life x.session e first)
+      ≤ server_now q x (owed_at q x.node x.session u) (slice_set w.nodes n now)
+      + if_at b (cond owns (sent_reply q x.session e) 0)
+      + if_at b (spilt_at q x.node_life x.session owns e l)
   server-by d u step true t =
-      let moves = server-moves q x.session (due_of w.clock e l.paces) w.hand l first second d e u
-      step a.allowed.may (joins.stands (eqb-true n x.node t)) in
-      let new = here-now (server_packets q x.session) w.nodes n x.node l now a.is_node t in
-      let old = here-was (server_packets q x.session) w.nodes n x.node l a.is_node t in
-      rw (new, old) moves
-  server-by d u step false t = let same = there-same (server_packets q x.session) w.nodes n x.node now t in omega arith
+      let at = eqb-true n x.node t in
+      let me : l.me ≡ x.node = a.me ∙ at in
+      let moves = here-moves q x.node_life x.session w.clock n owns w.hand l first second d e u
+      refl step a.allowed.may (joins.stands at) in
+      let mine : here_of d l + given_ask q x.node_life x.session e first
+      ≤ here_of u now + cond owns (sent_reply q x.session e) 0
+      + spilt_at q x.node_life x.session owns e l =
+      subst (λ (j : ℕ). server_here q x.node_life x.session (owed_at q j x.session d) l
+      + given_ask q x.node_life x.session e first
+      ≤ server_here q x.node_life x.session (owed_at q j x.session u) now
+      + cond owns (sent_reply q x.session e) 0
+      + spilt_at q x.node_life x.session owns e l) me moves in
+      let new = here-now (here_of u) w.nodes n x.node l now a.is_node t in
+      let old = here-was (here_of d) w.nodes n x.node l a.is_node t in
+      rw (new, old) mine
+  server-by d u step false t =
+      let of = step-of w.hand l first d e u step in
+      let me : (l.me == x.node) ≡ false = ap (λ (j : ℕ). j == x.node) a.me ∙ t in
+      let before : owed_at q x.node x.session d ≡ 0 =
+      owed-here q l.me x.node x.session d of.0
+      ∙ ap (λ (b : Bool). if_at b (owed_at q l.me x.session d)) me in
+      let later : owed_at q x.node x.session u ≡ 0 =
+      owed-here q l.me x.node x.session u of.1
+      ∙ ap (λ (b : Bool). if_at b (owed_at q l.me x.session u)) me in
+      let same = there-same (here_of u) w.nodes n x.node now t in
+      let due : server_now q x (owed_at q x.node x.session d) w.nodes
+      ≡ server_now q x (owed_at q x.node x.session u) w.nodes =
+      ap (λ (o : ℕ). server_now q x o w.nodes) (before ∙ sym later) in
+      omega arith
 
   abbrev BaseMoves : Due → Due → Type 0
   BaseMoves d u =
       base r k x d w + if_at (n == x.home) (posted_ask q x.client e)
-      + if_at (n == x.home) (given_reply q x.client e first)
-      + if_at (n == x.node) (given_ask q x.session e first) ≤ base r k x u (noted_at w n l f)
+      + if_at (n == x.home) (given_reply q x.home_life x.client e first)
+      + if_at (n == x.node) (given_ask q x.node_life x.session e first)
+      ≤ base r k x u (noted_at w n l f)
       + if_at (n == x.home) (took_reply q x.client e)
       + if_at (n == x.home) (spilt_reply q x.client e l)
-      + if_at (n == x.node) (spilt_ask q x.session e l)
+      + if_at (n == x.node) (spilt_at q x.node_life x.session owns e l)
+
+  given-here : (b : Bool) → (n == x.home) ≡ b → if_at b (given_reply q l.life x.client e first)
+      ≡ if_at b (given_reply q x.home_life x.client e first)
+  given-here true t =
+      ap (λ (i : ℕ). given_reply q i x.client e first) (joins.home_life (eqb-true n x.home t))
+  given-here false t = refl
 
   base-moves : (d u : Due) → Step w.hand l first d e u → BaseMoves d u
   base-moves d u step =
       let c = client-by d u step (n == x.home) refl in
       let s = server-by d u step (n == x.node) refl in
       let g = flight-moves r k w.hand n l x joins w.hand e first second w.flight i a.allowed.may in
-      let of = step-of w.hand l first d e u step in
-      let before = owed-here q l.me x.node x.session d of.0 in
-      let later = owed-here q l.me x.node x.session u of.1 in
-      let me : (l.me == x.node) ≡ (n == x.node) = ap (λ (j : ℕ). j == x.node) a.me in
-      let before2 : owed_at q x.node x.session d ≡ if_at (n == x.node) (owed_at q l.me x.session d) =
-      before ∙ ap (λ (b : Bool). if_at b (owed_at q l.me x.session d)) me in
-      let later2 : owed_at q x.node x.session u ≡ if_at (n == x.node) (owed_at q l.me x.session u) =
-      later ∙ ap (λ (b : Bool). if_at b (owed_at q l.me x.session u)) me in
+      let given = given-here (n == x.home) refl in
       omega arith
 
   -- what is posted stands
   pub posted-stands : (d u : Due) → Step w.hand l first d e u → n ≡ x.home
       → posted_ask q x.client e ≡ 1 → took_reply q x.client e ≡ 0 → spilt_reply q x.client e l ≡ 0
-      → spilt_ask q x.session e l ≡ 0 → 1 ≤ standing r k x u (noted_at w n l f)
+      → spilt_at q x.node_life x.session owns e l ≡ 0 → 1 ≤ standing r k x u (noted_at w n l f)
   posted-stands d u step home one none spilt other =
       let b = base-moves d u step in
       let here : if_at (n == x.home) (posted_ask q x.client e) ≡ 1 =
@@ -330,8 +385,8 @@ or-left a b h = rw h refl
 -- the front of a ring is lost where it is dropped
 dropped-front : (w : Moment) (n : ℕ) (l : Lists) (x : Pairing) (r k : ℕ) (why : DropReason)
     (first : List ℕ) (ring : List Arrival) → slice_get w.nodes n ≡ Some l → l.ring ≡ ring
-    → ((n == x.node && asks (is_packet r k) x.session (front_header ring))
-    || (n == x.home && replies (is_packet r k) x.client (front_header ring))) ≡ true
+    → ((n == x.node && asks (is_packet r k) x.node_life x.session (front_header ring))
+    || (n == x.home && replies (is_packet r k) x.home_life x.client (front_header ring))) ≡ true
     → Passing x r k (lost_at_node w n (Dropped why) first)
 unfolding decoded
 dropped-front w n l x r k why first [] is e t =
@@ -352,12 +407,13 @@ dropped-front w n l x r k why first (d ∷ ds) is e t = record {
 }
 
 gone-by : (w : Moment) (n : ℕ) (l : Lists) (x : Pairing) (r k : ℕ) (e : Event) (first : List ℕ)
-    (m b : ℕ) → is_alone e ≡ true → slice_get w.nodes n ≡ Some l → 1 ≤ m
+    (m b : ℕ) → is_alone e ≡ true → slice_get w.nodes n ≡ Some l
+    → (n ≡ x.home → l.life ≡ x.home_life) → 1 ≤ m
     → m ≤ b + if_at (n == x.home) (took_reply (is_packet r k) x.client e)
     + if_at (n == x.home) (spilt_reply (is_packet r k) x.client e l)
-    + if_at (n == x.node) (spilt_ask (is_packet r k) x.session e l)
+    + if_at (n == x.node) (spilt_at (is_packet r k) x.node_life x.session (l.life == x.node_life) e l)
     → (1 ≤ b) ⊎ Fate w n l x r k e first
-gone-by w n l x r k (Took (Ask a q) j) first m b al is some le =
+gone-by w n l x r k (Took (Ask a q) j) first m b al is home some le =
     let z = none-at (n == x.home) in
     let y = none-at (n == x.node) in
     elim (some-at (n == x.home) (a == x.client && is_packet r k q j) m b some (omega arith)) [
@@ -371,25 +427,30 @@ gone-by w n l x r k (Took (Ask a q) j) first m b al is some le =
         let one = and_parts (s == t) (z == r && j == k) h in
         let two = and_parts (z == r) (j == k) one.1 in
         (eqb-true s t one.0, eqb-true z r two.0, eqb-true j k two.1)
-gone-by w n l x r k (Took (Reply t q) j) first m b al is some le = false-true al
-gone-by w n l x r k (Took Control j) first m b al is some le = false-true al
-gone-by w n l x r k (Flushed owner j) first m b al is some le = false-true al
-gone-by w n l x r k (Dropped why) first m b al is some le =
+gone-by w n l x r k (Took (Reply t q) j) first m b al is home some le = false-true al
+gone-by w n l x r k (Took Control j) first m b al is home some le = false-true al
+gone-by w n l x r k (Flushed owner j) first m b al is home some le = false-true al
+gone-by w n l x r k (Dropped why) first m b al is home some le =
     let z = none-at (n == x.home) in
     let p = is_packet r k in
-    elim (some-at (n == x.node) (asks p x.session (front_header l.ring)) m
-    (b + if_at (n == x.home) (cond (replies p x.client (front_header l.ring)) 1 0)) some (omega arith)) [
+    let front = front_header l.ring in
+    elim (some-at (n == x.node) (asks p x.node_life x.session front) m
+    (b + if_at (n == x.home) (cond (replies p l.life x.client front) 1 0)) some (omega arith)) [
       | inr both ↦ inr (lost (dropped-front w n l x r k why first l.ring is refl
-          (or-left _ _ (and_from (n == x.node) (asks p x.session (front_header l.ring)) both.0 both.1))))
-      | inl more ↦ elim (some-at (n == x.home) (replies p x.client (front_header l.ring))
-          (b + if_at (n == x.home) (cond (replies p x.client (front_header l.ring)) 1 0)) b more (omega arith)) [
+          (or-left _ _ (and_from (n == x.node) (asks p x.node_life x.session front) both.0 both.1))))
+      | inl more ↦ elim (some-at (n == x.home) (replies p l.life x.client front)
+          (b + if_at (n == x.home) (cond (replies p l.life x.client front) 1 0)) b more
+          (omega arith)) [
             | inl rest ↦ inl rest
-            | inr both ↦ inr (lost (dropped-front w n l x r k why first l.ring is refl
-                (or-right (n == x.node && asks p x.session (front_header l.ring)) _
-                (and_from (n == x.home) (replies p x.client (front_header l.ring)) both.0 both.1))))
+            | inr both ↦ (let life = home (eqb-true n x.home both.0) in
+                let goes : replies p x.home_life x.client front ≡ true =
+                ap (λ (i : ℕ). replies p i x.client front) (sym life) ∙ both.1 in
+                inr (lost (dropped-front w n l x r k why first l.ring is refl
+                (or-right (n == x.node && asks p x.node_life x.session front) _
+                (and_from (n == x.home) (replies p x.home_life x.client front) both.0 goes)))))
           ]
     ]
-gone-by w n l x r k _ first m b al is some le =
+gone-by w n l x r k _ first m b al is home some le =
     let z = none-at (n == x.home) in
     let y = none-at (n == x.node) in
     inl (omega arith)
@@ -427,35 +488,39 @@ pub node-fate : (w : Moment) (n : ℕ) (l : Lists) (first second : List ℕ) (x 
 node-fate w n l first second x r k d e u (alone _ al) a j i some =
     let m = base-moves w n l e first second x r k a j i nothing nothing (alone e al) in
     elim (gone-by w n l x r k e first (base r k x nothing w)
-    (base r k x nothing (noted_at w n l (with_two n e first second))) al a.is_node (omega arith)
-    (omega arith)) [
+    (base r k x nothing (noted_at w n l (with_two n e first second))) al a.is_node
+    j.home_life (omega arith) (omega arith)) [
       | inl more ↦ inl (omega arith)
       | inr fate ↦ inr fate
     ]
 node-fate w n l first second x r k d e u (older t q b o) a j i some =
     let m = base-moves w n l (Flushed (Reply t q) b) first second x r k a j i nothing nothing (older t q b o) in
     let z = none-at (n == x.home) in
-    elim (some-at (n == x.node) (t == x.session && is_packet r k q b) (base r k x nothing w)
+    elim (some-at (n == x.node) (l.life == x.node_life && (t == x.session && is_packet r k q b))
+    (base r k x nothing w)
     (base r k x nothing (noted_at w n l (with_two n (Flushed (Reply t q) b) first second)))
     (omega arith) (omega arith)) [
       | inl more ↦ inl (omega arith)
-      | inr both ↦ (let same = same-three w n l (Flushed (Reply t q) b) first second x r k a j i t x.session q b
-          both.1 in
-          inr (passed (eqb-true n x.node both.0) (rw (same.0, same.1, same.2) refl)
-          (rw (← same.0, ← same.1) o)))
+      | inr both ↦ (let own = and_parts (l.life == x.node_life) _ both.1 in
+          let same = same-three w n l (Flushed (Reply t q) b) first second x r k a j i t x.session
+          q b own.1 in
+          inr (passed (eqb-true n x.node both.0) (eqb-true l.life x.node_life own.0)
+          (rw (same.0, same.1, same.2) refl) (rw (← same.0, ← same.1) o)))
     ]
 node-fate w n l first second x r k d e u (leaves t q b gone) a j i some =
     let m = base-moves w n l (Flushed (Reply t q) b) first second x r k a j i nothing nothing
     (leaves t q b gone) in
     let z = none-at (n == x.home) in
-    elim (some-at (n == x.node) (t == x.session && is_packet r k q b) (base r k x nothing w)
+    elim (some-at (n == x.node) (l.life == x.node_life && (t == x.session && is_packet r k q b))
+    (base r k x nothing w)
     (base r k x nothing (noted_at w n l (with_two n (Flushed (Reply t q) b) first second)))
     (omega arith) (omega arith)) [
       | inl more ↦ inl (omega arith)
-      | inr both ↦ (let same = same-three w n l
-          (Flushed (Reply t q) b) first second x r k a j i t x.session q b
-          both.1 in
-          absurd (j.stays (eqb-true n x.node both.0) (subst (MayLeave w.hand l) same.0 gone)))
+      | inr both ↦ (let own = and_parts (l.life == x.node_life) _ both.1 in
+          let same = same-three w n l
+          (Flushed (Reply t q) b) first second x r k a j i t x.session q b own.1 in
+          absurd (j.stays (eqb-true n x.node both.0) (eqb-true l.life x.node_life own.0)
+          (subst (λ (z : ℕ). MayLeave w.hand l z ⊎ MayOutdate w.hand l z) same.0 gone)))
     ]
 node-fate w n l first second x r k d e u (takes t q b) a j i some =
     let m = base-moves w n l (Took (Reply t q) b) first second x r k a j i nothing (reply l.me t q b) (takes t q b) in
@@ -487,8 +552,8 @@ node-fate w n l first second x r k d e u (arrives peer) a j i some =
     let m = base-moves w n l (Arrived peer) first second x r k a j i delivery nothing (arrives peer) in
     let h = in-hand p x n w.hand peer first (a.allowed.may.in_hand ∙ ap
     (λ (b : ℕ). Some (record { from = peer; to = b; bytes = first })) a.me) in
-    let ask = and-count (n == x.node) (asks p x.session (message_of first)) in
-    let rep = and-count (n == x.home) (replies p x.client (message_of first)) in
+    let ask = and-count (n == x.node) (asks p x.node_life x.session (message_of first)) in
+    let rep = and-count (n == x.home) (replies p x.home_life x.client (message_of first)) in
     let z = none-at (n == x.home) in let y = none-at (n == x.node) in inl (omega arith)
 node-fate w n l first second x r k d e u (overflows peer) a j i some =
     let p = is_packet r k in
@@ -498,17 +563,17 @@ node-fate w n l first second x r k d e u (overflows peer) a j i some =
     let z = none-at (n == x.home) in let y = none-at (n == x.node) in
     let copy : InFlight = record { from = peer; to = n; bytes = first } in
     let now = base r k x nothing (noted_at w n l (with_two n (Overflowed peer) first second)) in
-    elim (some-one (n == x.node && asks p x.session (message_of first)) (base r k x delivery w + on_way p x
+    elim (some-one (n == x.node && asks p x.node_life x.session (message_of first)) (base r k x delivery w + on_way p x
     (option_to_list w.hand))
-    (now + cond (n == x.home && replies p x.client (message_of first)) 1 0) (omega arith) (omega arith)) [
+    (now + cond (n == x.home && replies p x.home_life x.client (message_of first)) 1 0) (omega arith) (omega arith)) [
       | inr ask ↦ inr (lost (record { copy = copy; is_lost = refl; own = or-left _ _ ask }))
-      | inl more ↦ elim (some-one (n == x.home && replies p x.client (message_of first))
-          (now + cond (n == x.home && replies p x.client (message_of first)) 1 0) now more (omega arith)) [
+      | inl more ↦ elim (some-one (n == x.home && replies p x.home_life x.client (message_of first))
+          (now + cond (n == x.home && replies p x.home_life x.client (message_of first)) 1 0) now more (omega arith)) [
             | inr rep ↦ inr (lost (record {
               copy = copy;
               is_lost = refl;
               own = or-right
-                  (ask_to p x.node x.session copy) _ rep;
+                  (ask_to p x.node x.node_life x.session copy) _ rep;
             }))
             | inl rest ↦ inl (omega arith)
           ]
@@ -607,57 +672,66 @@ pub net-copies : (x : Pairing) (r k : ℕ) (e : Event) (w : Moment)
     + on_way p x (due_copy (net_due e) (hand_of e w.flight w.hand)))
     ⊎ Passing x r k (lost_in_net w e)
 net-copies x r k (Carried i) w some =
-    let a = count-remove (ask_to (is_packet r k) x.node x.session) w.flight i in
-    let b = count-remove (reply_to (is_packet r k) x.home x.client) w.flight i in
+    let a = count-remove (ask_to (is_packet r k) x.node x.node_life x.session) w.flight i in
+    let b = count-remove (reply_to (is_packet r k) x.home x.home_life x.client) w.flight i in
     inl (omega arith)
 net-copies x r k (Lost i) w some =
     let p = is_packet r k in
-    let a = count-remove (ask_to p x.node x.session) w.flight i in
-    let b = count-remove (reply_to p x.home x.client) w.flight i in
+    let a = count-remove (ask_to p x.node x.node_life x.session) w.flight i in
+    let b = count-remove (reply_to p x.home x.home_life x.client) w.flight i in
     by (on_way p x (remove w.flight i)) refl
   where
     by : (m : ℕ) → on_way (is_packet r k) x (remove w.flight i) ≡ m
         → (1 ≤ on_way (is_packet r k) x (remove w.flight i) + (0 + 0)) ⊎ Passing x r k (slice_get w.flight i)
     by zero e =
-        let a = count-remove (ask_to (is_packet r k) x.node x.session) w.flight i in
-        let b = count-remove (reply_to (is_packet r k) x.home x.client) w.flight i in
+        let a = count-remove (ask_to (is_packet r k) x.node x.node_life x.session) w.flight i in
+        let b = count-remove (reply_to (is_packet r k) x.home x.home_life x.client) w.flight i in
         inr (found-lost x r k (slice_get w.flight i) (omega arith))
     by (suc m) e = inl (omega arith)
 net-copies x r k (Repeated i) w some =
-    let a = count-append (ask_to (is_packet r k) x.node x.session) w.flight (option_to_list (slice_get w.flight i)) in
-    let b = count-append (reply_to (is_packet r k) x.home x.client) w.flight (option_to_list (slice_get w.flight i)) in
+    let a = count-append (ask_to (is_packet r k) x.node x.node_life x.session) w.flight
+    (option_to_list (slice_get w.flight i)) in
+    let b = count-append (reply_to (is_packet r k) x.home x.home_life x.client) w.flight
+    (option_to_list (slice_get w.flight i)) in
     inl (omega arith)
 net-copies x r k _ w some = inl (omega arith)
 
-due-none : (p : Filter) (r n t m s : ℕ) (e : Event) → (owed_at p n t (net_due e) ≡ 0)
-    × (flushed_at r m s (net_due e) ≡ 0)
-due-none p r n t m s (Carried i) = (refl, refl)
-due-none p r n t m s _ = (refl, refl)
+due-none : (p : Filter) (x : Pairing) (r : ℕ) (e : Event) (nodes : List Lists)
+    → (server_now p x (owed_at p x.node x.session (net_due e)) nodes
+    ≡ server_now p x (owed_at p x.node x.session nothing) nodes)
+    × (flushed_at r x.home x.client (net_due e) ≡ 0)
+due-none p x r (Carried i) nodes = (refl, refl)
+due-none p x r _ nodes = (refl, refl)
 
 pub net-fate : (w : Moment) (f : Fact) (x : Pairing) (r k : ℕ) → f.who ≡ Net
     → 1 ≤ standing r k x nothing w → (1 ≤ standing r k x (net_due f.event) (moved w f))
     ⊎ Passing x r k (lost_by w f.who f.event f.first)
 net-fate w f x r k who some =
     subst (λ (v : Who). (1 ≤ client_part (is_packet r k) x (nodes_at w.clock v w.nodes f)
-    + server_part (is_packet r k) x (nodes_at w.clock v w.nodes f) + owed_at (is_packet r k) x.node x.session
-    (net_due f.event)
+    + server_now (is_packet r k) x (owed_at (is_packet r k) x.node x.session (net_due f.event))
+    (nodes_at w.clock v w.nodes f)
     + flushed_at r x.home x.client (net_due f.event)
     + on_way (is_packet r k) x (flight_at v f.event f.first f.second w.flight)
     + on_way (is_packet r k) x (due_copy (net_due f.event)
     (hand_after v f.event w.nodes w.flight w.hand)))
     ⊎ Passing x r k (lost_by w v f.event f.first)) (sym who)
-    (by (client_part (is_packet r k) x w.nodes + server_part (is_packet r k) x w.nodes) refl)
+    (by (client_part (is_packet r k) x w.nodes
+    + server_now (is_packet r k) x (owed_at (is_packet r k) x.node x.session nothing) w.nodes) refl)
   where
-    by : (m : ℕ) → client_part (is_packet r k) x w.nodes + server_part (is_packet r k) x w.nodes ≡ m
-        → (1 ≤ client_part (is_packet r k) x w.nodes + server_part (is_packet r k) x w.nodes
-        + owed_at (is_packet r k) x.node x.session (net_due f.event) + flushed_at r x.home x.client (net_due f.event)
+    by : (m : ℕ) → client_part (is_packet r k) x w.nodes
+        + server_now (is_packet r k) x (owed_at (is_packet r k) x.node x.session nothing) w.nodes
+        ≡ m
+        → (1 ≤ client_part (is_packet r k) x w.nodes
+        + server_now (is_packet r k) x (owed_at (is_packet r k) x.node x.session (net_due f.event))
+        w.nodes
+        + flushed_at r x.home x.client (net_due f.event)
         + on_way (is_packet r k) x (flight_after_net f.event w.flight)
         + on_way (is_packet r k) x (due_copy (net_due f.event) (hand_of f.event w.flight w.hand)))
         ⊎ Passing x r k (lost_in_net w f.event)
     by zero e =
-        let none = due-none (is_packet r k) r x.node x.session x.home x.client f.event in
+        let none = due-none (is_packet r k) x r f.event w.nodes in
         elim (net-copies x r k f.event w (omega arith)) [
           | inl more ↦ inl (omega arith)
           | inr gone ↦ inr gone
         ]
-    by (suc m) e = inl (omega arith)
+    by (suc m) e = let none = due-none (is_packet r k) x r f.event w.nodes in inl (omega arith)

@@ -1,6 +1,6 @@
 -- A node that was asked no call since its last poll has nothing to begin and nothing to post.
 use Rattle.std.proofs.Common.{◌≡◌, ◌==◌, inl, inr, ℕ, nat_lt, not, Bool, true, false, cond, List}
-use Rattle.std.proofs.Common.{[], ◌∷◌, ◌++◌}
+use Rattle.std.proofs.Common.{[], ◌∷◌, ◌++◌, ◌+◌}
 use Rattle.std.proofs.Common.{length, Option, Some, None, refl, sym, ap, ◌∙◌}
 use Rattle.std.specs.List.{find, AllByRecursion}
 use Rattle.rpc_base.proofs.BasicLemmas.{false-true}
@@ -11,7 +11,7 @@ use Rattle.rpc_base.specs.declared.event.Event.TheVariants.{Closing, Rated, Nrat
 use Rattle.rpc_base.specs.declared.event.Event.TheVariants.{NconnectNumbers, NconnectRing}
 use Rattle.rpc_base.specs.declared.event.Event.TheVariants.{NcloseState, NcloseBusy}
 use Rattle.rpc_base.specs.declared.event.Event.TheVariants.{NcallState, NcallTooLarge, Arrived}
-use Rattle.rpc_base.specs.declared.event.Event.TheVariants.{Overflowed, Bad, Worked, Missed}
+use Rattle.rpc_base.specs.declared.event.Event.TheVariants.{Overflowed, Bad, Restarted, Worked, Missed}
 use Rattle.rpc_base.specs.declared.fact.Fact.{Fact}
 use Rattle.rpc_base.specs.declared.limits.Limits.{Limits}
 use Rattle.rpc_base.specs.declared.state.SessionState.{SessionState}
@@ -23,7 +23,6 @@ use Rattle.rpc_laws.specs.Facts.{plain}
 use Rattle.rpc_laws.specs.Front.{front_header, front_body, is_message, is_control}
 use Rattle.rpc_laws.specs.Groups.{ask_by_state, state_of, pending, clients_spent, servers_spent}
 use Rattle.rpc_laws.specs.Groups.{has_no_room, shares, client_refusal, connect_by}
-use Rattle.rpc_laws.specs.Lives.{first_life}
 use Rattle.rpc_laws.specs.NodeLists.{after, after_all, new_node}
 use Rattle.rpc_laws.specs.PollOrder.{Handles, NoMoreToHandle, Poll, raised}
 use Rattle.rpc_laws.specs.Sessions.{is_client, is_connected, is_live, clients_after, client_end}
@@ -32,6 +31,8 @@ use Rattle.rpc_laws.specs.Steps.{Chain, none, more}
 use Rattle.rpc_outside.specs.declared.service.Mode.{Mode}
 use Rattle.node_laws.specs.NodeRun.{Group, pairs_client, pairs_server, refuses, connects}
 use Rattle.node_laws.specs.NodeRun.{disconnects, sets_rate, asks, delivers, polls, works, misses}
+use Rattle.node_laws.specs.NodeRun.{lives_on, NodeRun}
+use Rattle.rpc_laws.specs.Service.{Serving}
 use Rattle.node_laws.specs.Valid.{Valid}
 use Rattle.node_laws.proofs.ControlLemmas.{hears-all-lawful}
 use Rattle.node_laws.proofs.LeadsLemmas.{valid-at, valid_after_all, lawful-until}
@@ -45,8 +46,8 @@ use Rattle.stall_laws.proofs.Resting.{Rests, RestsNode, ends-resting}
 
 -- facts by which nothing comes to be begun or posted
 abbrev is_still : Event → Bool
-is_still (PairedClient s p t c) = true
-is_still (PairedServer t p s c) = true
+is_still (PairedClient s p t c life) = true
+is_still (PairedServer t p s c life) = true
 is_still (Opened s p c) = true
 is_still (Closing s) = true
 is_still (Rated s r) = true
@@ -74,12 +75,12 @@ record StillEvent (e : Event) : Type 0 where
       → AllByRecursion Rests (clients_after clock e first (front_header l.ring) (front_body l.ring) l.clients)
 
 still-event : (e : Event) → is_still e ≡ true → StillEvent e
-still-event (PairedClient s p t c) h = record {
+still-event (PairedClient s p t c life) h = record {
   mild = refl;
   awaits = λ b. refl;
-  rests = λ clock l first k. all-push Rests l.clients (client_end s p t c) k (λ live. (inl tt, inr tt));
+  rests = λ clock l first k. all-push Rests l.clients (client_end s p t c life) k (λ live. (inl tt, inr tt));
 }
-still-event (PairedServer t p s c) h = record { mild = refl; awaits = λ b. refl; rests = λ clock l first k. k }
+still-event (PairedServer t p s c life) h = record { mild = refl; awaits = λ b. refl; rests = λ clock l first k. k }
 still-event (Opened s p c) h = record {
   mild = refl;
   awaits = λ b. refl;
@@ -229,10 +230,10 @@ poll-leaves b mode now s y t v on h =
 
 group-leaves : (b : Bool) (mode : ℕ → Mode) (s : Timed) (y : List Fact) (t : Timed) → Valid s.lists
     → OngoingNode s.lists → Group mode s y t → Leaves b s y t
-group-leaves b mode s y t v on (pairs_client peer server credits may h) =
-    still-leaves b mode s y t v on (pairs_client peer server credits may h) (rw h.facts (refl, tt))
-group-leaves b mode s y t v on (pairs_server peer client credits may h) =
-    still-leaves b mode s y t v on (pairs_server peer client credits may h) (rw h.facts (refl, tt))
+group-leaves b mode s y t v on (pairs_client peer server credits life may h) =
+    still-leaves b mode s y t v on (pairs_client peer server credits life may h) (rw h.facts (refl, tt))
+group-leaves b mode s y t v on (pairs_server peer client credits life may h) =
+    still-leaves b mode s y t v on (pairs_server peer client credits life may h) (rw h.facts (refl, tt))
 group-leaves b mode s y t v on (refuses credits few e (inl r) h) =
     still-leaves b mode s y t v on (refuses credits few e (inl r) h) (rw h.facts (
       refusal-still (clients_spent s.lists) (has_no_room credits s.lists) (shares s.lists) credits s.lists.room e r,
@@ -282,15 +283,15 @@ pub record AtRest (g : List Fact) (t : Timed) : Type 0 where
   pub ongoing : OngoingNode t.lists
   pub rests : awaits_poll false g ≡ false → RestsNode t.lists
 
-pub run-rests : (mode : ℕ → Mode) (me : ℕ) (limits : Limits) (g : List Fact) (t : Timed)
-    → Chain (Group mode) (new_node me first_life limits) g t → AtRest g t
-run-rests mode me limits g t none = record {
-  valid = valid_new me limits;
+run-rests : (mode : ℕ → Mode) (me life : ℕ) (limits : Limits) (g : List Fact) (t : Timed)
+    → Chain (Group mode) (new_node me life limits) g t → AtRest g t
+run-rests mode me life limits g t none = record {
+  valid = valid_new me life limits;
   ongoing = tt;
   rests = λ e. tt;
 }
-run-rests mode me limits g t (more {x = front} {t = between} c y u h) =
-    let before = run-rests mode me limits front between c in
+run-rests mode me life limits g t (more {x = front} {t = between} c y u h) =
+    let before = run-rests mode me life limits front between c in
     let leaves = group-leaves (awaits_poll false front)
     mode between y u before.valid before.ongoing h in
     let l = group-lawful mode between y u before.valid h in
@@ -298,4 +299,17 @@ run-rests mode me limits g t (more {x = front} {t = between} c y u h) =
       valid = rw (l.leads.lists) (valid_after_all l.clock between.lists y before.valid l.leads.all);
       ongoing = leaves.ongoing;
       rests = λ e. leaves.rests (sym (awaits-append false front y) ∙ e) before.rests;
+    }
+
+-- so it is in the last of its lives: nothing awaits a poll where it begins
+pub lives-rests : (v : Serving) (me : ℕ) (limits : Limits) (life : ℕ) (g : List Fact) (t : Timed)
+    → NodeRun v me limits life g t → AtRest g t
+lives-rests v me limits _ _ _ (lives_on life g t r) = run-rests v.mode me life limits g t r.steps
+lives-rests v me limits _ _ _ (NodeRun.restarts life part rest s t r next) =
+    let last = lives-rests v me limits (life + 1) rest t next in
+    let over = plain me (Restarted (life + 1)) in
+    record {
+      valid = last.valid;
+      ongoing = last.ongoing;
+      rests = λ e. last.rests (sym (awaits-append false part (over ∷ rest)) ∙ e);
     }

@@ -9,7 +9,8 @@ use Rattle.packet_header.specs.declared.packet.Kind.TheVariants.{Request, Rfr, C
 use Rattle.packet_header.specs.declared.packet.MessageHeader.{MessageHeader}
 use Rattle.rpc_base.specs.declared.event.Event.{Event}
 use Rattle.rpc_base.specs.declared.event.Event.TheVariants.{Begun, Posted, Flushed, Broken}
-use Rattle.rpc_base.specs.declared.event.Event.TheVariants.{DonePeerLost, Ran, Given}
+use Rattle.rpc_base.specs.declared.event.Event.TheVariants.{DonePeerLost, Dropped, Ran, Given}
+use Rattle.rpc_base.specs.declared.state.DropReason.TheVariants.{StaleLife}
 use Rattle.rpc_base.specs.declared.fact.Fact.{Fact}
 use Rattle.rpc_base.specs.declared.owner.Owner.{Owner}
 use Rattle.rpc_base.specs.declared.owner.Owner.TheVariants.{Ask, Reply}
@@ -31,7 +32,8 @@ use Rattle.rpc_laws.specs.declared.tables.Server.{Server}
 use Rattle.rpc_laws.specs.declared.tables.Timed.{Timed}
 use Rattle.rpc_laws.specs.Calls.{is_call, is_waiting}
 use Rattle.rpc_laws.specs.ClientTable.{client_row, reply_facts}
-use Rattle.rpc_laws.specs.ControlSteps.{Hears, HearsAll, Retries, TimesSession, TimesAll}
+use Rattle.rpc_laws.specs.ControlSteps.{EndsOutdated, Hears, HearsAll, Retries, TimesSession}
+use Rattle.rpc_laws.specs.ControlSteps.{TimesAll}
 use Rattle.rpc_laws.specs.Facts.{plain, with_two}
 use Rattle.rpc_laws.specs.Front.{front_header, front_body}
 use Rattle.rpc_laws.specs.GoBackN.{Watches, WatchesSession, Each, flushes_of, row_facts, row_of}
@@ -40,7 +42,8 @@ use Rattle.rpc_laws.specs.Jobs.{are_full}
 use Rattle.rpc_laws.specs.NodeLists.{after, after_all}
 use Rattle.rpc_laws.specs.PollOrder.{answer_posted, awaited, FinishesOne, FinishesSome, Handles}
 use Rattle.rpc_laws.specs.PollOrder.{HandlesAll, NoMoreToHandle}
-use Rattle.rpc_laws.specs.PollOrder.{handling_by, Serves, PostsAll, Sends, SendsSome, Closes, Poll}
+use Rattle.rpc_laws.specs.PollOrder.{handled, handling_by, Serves, PostsAll, Sends, SendsSome}
+use Rattle.rpc_laws.specs.PollOrder.{Closes, Poll}
 use Rattle.rpc_laws.specs.PollOrder.{raised}
 use Rattle.rpc_laws.specs.Posting.{if_connected, beginning, posting, next_begun, next_posted}
 use Rattle.rpc_laws.specs.Posting.{next_packet, next_turn, lowest_free, can_post}
@@ -209,18 +212,31 @@ kind-keeps mode lacks answer clock l peer h Response v on reads a =
     (client_row l.queued (find (is_client h.session) l.clients) peer h (length (front_body l.ring)))
     v on reads refl a
 
+-- one for another life is dropped
+handled-keeps : (mode : ℕ → Mode) (lacks : Bool) (answer : List ℕ) (clock : ℕ) (l : Lists)
+    (peer : ℕ) (h : MessageHeader) (b : Bool) → Valid l → OngoingNode l
+    → front_header l.ring ≡ Some h
+    → AllAllowed clock l (cond b (handling_by mode lacks answer h.kind l peer h (front_body l.ring))
+    (plain l.me (Dropped StaleLife) ∷ []))
+    → OngoingNode (after_all clock l
+    (cond b (handling_by mode lacks answer h.kind l peer h (front_body l.ring))
+    (plain l.me (Dropped StaleLife) ∷ [])))
+handled-keeps mode lacks answer clock l peer h true v on reads a =
+    kind-keeps mode lacks answer clock l peer h h.kind v on reads a
+handled-keeps mode lacks answer clock l peer h false v on reads a =
+    ongoing-all clock l (plain l.me (Dropped StaleLife) ∷ []) a (refl, tt) on
+
 handles-keeps : (mode : ℕ → Mode) → Keeps (Handles mode)
 handles-keeps mode s x t v on h =
     let bytes = front-is s.lists.ring h.front h.is_front in
     let reads : front_header s.lists.ring ≡ Some h.header = ap message_of bytes ∙ h.reads in
-    let facts : x ≡ handling_by mode h.lacks h.answer h.header.kind s.lists h.front.peer h.header
-    (front_body s.lists.ring) = h.facts ∙ sym (ap (λ (b : List ℕ). handling_by mode h.lacks h.answer h.header.kind
-    s.lists
-    h.front.peer h.header (body_of b)) bytes) in
+    let facts : x ≡ handled mode h.lacks h.answer s.lists h.front.peer h.header
+    (front_body s.lists.ring) = h.facts ∙ sym (ap (λ (b : List ℕ). handled mode h.lacks h.answer
+    s.lists h.front.peer h.header (body_of b)) bytes) in
     let l = handles-lawful mode s x t v h in
     let all = subst (λ (y : List Fact). AllAllowed s.clock s.lists y) facts l.all in
-    rw (l.lists, facts) (kind-keeps mode h.lacks h.answer s.clock s.lists h.front.peer h.header h.header.kind v on
-    reads all)
+    rw (l.lists, facts) (handled-keeps mode h.lacks h.answer s.clock s.lists h.front.peer h.header
+    (h.header.to_life == s.lists.life) v on reads all)
 
 -- session control
 speaks-mild : (me peer : ℕ) (c : ControlHeader) (said : List Fact) → Speaks me peer c said
@@ -260,7 +276,7 @@ row-mild : (l : Lists) (peer : ℕ) (c : ControlHeader) (row : ControlRow)
 row-mild l peer c Declines = (refl, tt)
 row-mild l peer c Starves = (refl, tt)
 row-mild l peer c (Accepts t) = (refl, tt)
-row-mild l peer c Ends = end-mild l.me l.queued (named_end peer c.client c.server l.servers)
+row-mild l peer c Ends = end-mild l.me l.queued (named_end peer c.client c.from_life c.server l.servers)
 row-mild l peer c (Connects t) = (refl, tt)
 row-mild l peer c Fails = (refl, tt)
 row-mild l peer c ClosesRow = (refl, tt)
@@ -297,18 +313,35 @@ retries-mild clock timeout me own None facts r = rw r tt
 retries-mild clock timeout me own (Some x) facts r =
     retries-as clock timeout me x (own_request own x) facts r
 
+outdated-mild : (peer : ℕ) (c : ControlHeader) (s : Timed) (x : List Fact) (t : Timed)
+    → Chain (EndsOutdated peer c) s x t → AllMild x
+outdated-mild peer c s x t none = tt
+outdated-mild peer c s x t (more {x = front} {t = between} chain y u e) =
+    all-append MildAt front y (outdated-mild peer c s front between chain)
+    (rw e.facts (end-mild between.lists.me between.lists.queued (Some e.server)))
+
+heard-mild : (s : Timed) (x : List Fact) (t : Timed) → Hears s x t → AllMild x
+heard-mild s x t h =
+    let rest = h.steps.second in
+    let peer = h.front.peer in
+    let between = rest.between in
+    let l = between.lists in
+    let ends = outdated-mild peer h.header h.steps.between rest.front between rest.first.steps in
+    let row = control_row rest.second.lacks peer h.header l in
+    let answers : AllMild rest.back =
+    rw (rest.second.facts) (hears-mild l peer h.header row rest.second.said rest.second.speaks) in
+    let back : AllMild h.steps.back =
+    rw (rest.joined) (all-append MildAt rest.front rest.back ends answers) in
+    rw (h.steps.joined) (all-append MildAt h.steps.front h.steps.back
+    (rw (h.steps.first.facts) (refl, tt)) back)
+
 hears-keeps : Keeps HearsAll
 hears-keeps s x t v on h = mild-step s x t (hears-all-lawful s x t v h) (all-heard s x t h.steps) on
   where
     all-heard : (s : Timed) (x : List Fact) (t : Timed) → Chain Hears s x t → AllMild x
     all-heard s x t none = tt
     all-heard s x t (more {x = front} {t = between} c y u h) =
-        all-append MildAt front y (all-heard s front between c)
-        (rw h.facts (
-          refl,
-          hears-mild between.lists h.front.peer h.header
-              (control_row h.lacks h.front.peer h.header between.lists) h.said h.speaks,
-        ))
+        all-append MildAt front y (all-heard s front between c) (heard-mild between y u h)
 
 -- the timers
 all-mild : (me s : ℕ) (x : List Fact) → AllByRecursion (IsFlush me s) x → AllMild x

@@ -24,6 +24,7 @@ use Rattle.rpc_laws.specs.declared.tables.Job.{Job}
 use Rattle.rpc_laws.specs.declared.tables.Lists.{Lists}
 use Rattle.rpc_laws.specs.declared.tables.Timed.{Timed}
 use Rattle.rpc_laws.specs.Deliveries.{inbox_room}
+use Rattle.rpc_laws.specs.Endpoints.{life_by, told}
 use Rattle.rpc_laws.specs.Facts.{plain, of_net}
 use Rattle.rpc_laws.specs.Front.{is_message, is_control}
 use Rattle.rpc_laws.specs.Groups.{ask_by_state, state_of, pending}
@@ -36,7 +37,8 @@ use Rattle.script_grammar.specs.declared.line.Command.{Command}
 use Rattle.script_grammar.specs.declared.line.Command.TheVariants.{Node as MakesNode, Pair, Connect}
 use Rattle.script_grammar.specs.declared.line.Command.TheVariants.{Disconnect}
 use Rattle.script_grammar.specs.declared.line.Command.TheVariants.{Rate, Call, Poll, Arrive, Lose}
-use Rattle.script_grammar.specs.declared.line.Command.TheVariants.{Repeat, Tick, Work, Settle}
+use Rattle.script_grammar.specs.declared.line.Command.TheVariants.{Repeat, Restart, Tick, Work}
+use Rattle.script_grammar.specs.declared.line.Command.TheVariants.{Settle}
 use Rattle.script_grammar.specs.declared.line.Line.{Line}
 use Rattle.sim_script.specs.FollowsScript.{OfNet, Carries, ask_bytes}
 use Rattle.sim_script.specs.FollowsScript.{PollsNode, Joins, Times, PollsFirst, PairsBy}
@@ -49,9 +51,10 @@ use Rattle.end_laws.specs.TwoNodes.{PairsTwoNodes}
 use Rattle.end_laws.proofs.Allowed.{WalksFrom}
 use Rattle.end_laws.proofs.CommandLeads.{poll-step, carry-net, times-lead, polls-lead, carry-leads}
 use Rattle.end_laws.proofs.CommandLeads.{first-works-lead, round-leads}
-use Rattle.end_laws.proofs.Courses.{made_as, resets, latest, AtNode, Course, over, in_net, made, at_node, pairs}
+use Rattle.end_laws.proofs.Courses.{made_as, resets, latest, AtNode, Course, over, in_net, made}
+use Rattle.end_laws.proofs.Courses.{at_node, may-unmade, pairs, restarts}
 use Rattle.end_laws.proofs.Courses.{noted_at, moved-node}
-use Rattle.end_laws.proofs.Leads.{Fits, Leading}
+use Rattle.end_laws.proofs.Leads.{Fits, Leading, life-kept, unbegun}
 use Rattle.end_laws.proofs.PairLeads.{does-lead, empty-fits}
 use Rattle.stall_laws.specs.Settled.{moment_from}
 use Rattle.stall_laws.proofs.Dues.{Due, nothing, delivery, Step, alone, arrives, overflows, is_bad}
@@ -90,6 +93,7 @@ course-end _ _ _ (resets w clock h u is c) = absurd (cc)
 course-end _ _ _ (in_net w f h u who c) = course-end (moved w f) h u c
 course-end _ _ _ (made w ring h u c) = course-end _ h u c
 course-end _ _ _ (at_node w n l f h u a c) = course-end (moved w f) h u c
+course-end _ _ _ (restarts w n l h u is me life c) = course-end _ h u c
 course-end _ _ _ (pairs w n m credits client server h u a c) = course-end _ h u c
 
 -- facts that are alone
@@ -116,13 +120,15 @@ moves-alone w (f ∷ x) a = (nothing, by-alone w f.who f.event f.first a.0, move
 
 -- the facts of a node
 node-moves : (w : Moment) (n : ℕ) (l : Lists) (x : List Fact) (d e : Due)
-    → slice_get w.nodes n ≡ Some l → l.me ≡ n → WalksFrom w.hand (latest w.past) w.clock l x
+    → slice_get w.nodes n ≡ Some l → l.me ≡ n → l.life ≡ life_by n w.past
+    → WalksFrom w.hand (latest w.past) w.clock l x
     → AllLawful w.clock l x → StepsFrom w.hand d w.clock l x e → MovesFrom d w x e
-node-moves w n l [] d e is me h v s = s
-node-moves w n l (f ∷ x) d e is me h v s =
+node-moves w n l [] d e is me life h v s = s
+node-moves w n l (f ∷ x) d e is me life h v s =
     let a : AtNode w n l f = record {
       is_node = is;
       me = me;
+      life = life;
       allowed = h.0;
       lawful = allowed-of l f.event f.first f.second v.0;
       linked = h.1;
@@ -141,8 +147,10 @@ node-moves w n l (f ∷ x) d e is me h v s =
     subst (λ (m : ℕ). StepsFrom (hand_noted m f.event l.inbox w.hand) u w.clock
     (after w.clock l f) x e)
     me s.3 in
+    let kept = life-kept n (told w.past f) w.past
+    (unbegun f.event (may-unmade w.hand l f.event f.first f.second h.0.may)) in
     let rest = node-moves (noted_at w n l f) n (after w.clock l f) x u e
-    (set-here w.nodes n l (after w.clock l f) is) me walks v.1 next in (
+    (set-here w.nodes n l (after w.clock l f) is) me (life ∙ sym kept) walks v.1 next in (
       u,
       subst (λ (p : Who). MovesBy w p f.event f.first d u) (sym who) here,
       subst (λ (v : Moment). MovesFrom u v x e) (sym at) rest,
@@ -166,7 +174,7 @@ polls-move n s w x t f h =
     subst (λ (c : ℕ). StepsFrom w.hand nothing c h.before.lists x nothing) (m ∙ sym f.clock) steps in
     let walks : WalksFrom w.hand (latest w.past) w.clock h.before.lists x = rw (f.clock) k.walks in
     let lawful : AllLawful w.clock h.before.lists x = rw (f.clock) k.lawful in
-    node-moves w n h.before.lists x nothing nothing fit.is_node fit.me walks lawful at
+    node-moves w n h.before.lists x nothing nothing fit.is_node fit.me fit.life walks lawful at
 
 -- a copy is carried and delivered
 delivered-by : (hand : Option InFlight) (l : Lists) (copy : InFlight) (a b c d : Bool)
@@ -379,6 +387,7 @@ does-move (Work n i) s w x t f h = moves-alone w x (rw (h.step.facts) (
   tt,
 ))
 does-move (Settle rounds) s w x t f h = settles-move rounds s w x t f h
+does-move (Restart n) s w x t f h = moves-alone w x (rw (h.facts) (refl, tt))
 
 lines-move : (lines : List Line) → PairsTwoNodes lines → Moving (FollowsFrom lines)
 lines-move [] p s w x t f h = none-move w x h.0

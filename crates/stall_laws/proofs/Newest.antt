@@ -132,7 +132,7 @@ told-newest : (clock : ℕ) (o : Option ControlHeader) (xs : List Client)
 told-newest clock None xs h = h
 told-newest clock (Some c) xs h =
     one-newest (is_client c.client) (requests clock c) xs
-    (λ x n. requests-newest clock (is_request_of c.kind c.server x.state x.way.other) x n) h
+    (λ x n. requests-newest clock (is_request_of c.kind c.server c.to_life x.state x.way) x n) h
 
 pub newest-after : (clock : ℕ) (hand : Option InFlight) (l : Lists) (e : Event) (first second : List ℕ)
     → Valid l → Lawful l e → May hand l e first second
@@ -140,11 +140,11 @@ pub newest-after : (clock : ℕ) (hand : Option InFlight) (l : Lists) (e : Event
     → AllByRecursion NewestClient l.clients
     → AllByRecursion NewestClient
     (clients_after clock e first (front_header l.ring) (front_body l.ring) l.clients)
-newest-after clock hand l (PairedClient a p t c) first second v a0 m eight h = absurd m
+newest-after clock hand l (PairedClient a p t c life) first second v a0 m eight h = absurd m
 newest-after clock hand l (Opened a p c) first second v a0 m eight h =
     all-add NewestClient l.clients _ h tt
-newest-after clock hand l (Connected a t) first second v a0 m eight h =
-    one-newest (is_client a) (connects t) l.clients (λ x n. n) h
+newest-after clock hand l (Connected a t life) first second v a0 m eight h =
+    one-newest (is_client a) (connects t life) l.clients (λ x n. n) h
 newest-after clock hand l (FailedNoRoom a) first second v a0 m eight h =
     one-newest (is_client a) (comes_to Failed) l.clients (λ x n. n) h
 newest-after clock hand l (FailedNoAnswer a) first second v a0 m eight h =

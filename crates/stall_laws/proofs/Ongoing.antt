@@ -98,17 +98,17 @@ told-ongoing : (clock : ℕ) (o : Option ControlHeader) (xs : List Client) → A
 told-ongoing clock None xs h = h
 told-ongoing clock (Some c) xs h =
     all-kept (is_client c.client) (requests clock c) Ongoing xs
-    (λ x k t. requests-ongoing clock (is_request_of c.kind c.server x.state x.way.other) x k) h
+    (λ x k t. requests-ongoing clock (is_request_of c.kind c.server c.to_life x.state x.way) x k) h
 
 pub ongoing-after : (clock : ℕ) (l : Lists) (e : Event) (first : List ℕ) → Lawful l e
     → is_mild e ≡ true → OngoingNode l
     → AllByRecursion Ongoing (clients_after clock e first (front_header l.ring) (front_body l.ring) l.clients)
-ongoing-after clock l (PairedClient s p t c) first a m h =
-    all-push Ongoing l.clients (client_end s p t c) h (record { alive = λ off. refl; calls = tt })
+ongoing-after clock l (PairedClient s p t c life) first a m h =
+    all-push Ongoing l.clients (client_end s p t c life) h (record { alive = λ off. refl; calls = tt })
 ongoing-after clock l (Opened s p c) first a m h =
     all-push Ongoing l.clients (opened_end s p c) h (record { alive = λ off. refl; calls = tt })
-ongoing-after clock l (Connected s t) first a m h =
-    all-kept (is_client s) (connects t) Ongoing l.clients
+ongoing-after clock l (Connected s t life) first a m h =
+    all-kept (is_client s) (connects t life) Ongoing l.clients
     (λ x k t. record { alive = λ off. false-true (sym off); calls = k.calls }) h
 ongoing-after clock l (FailedNoRoom s) first a m h =
     all-changed (is_client s) (comes_to Failed) Ongoing l.clients a.client a.found

@@ -1,7 +1,7 @@
 -- The steps of a node leave nothing to be done.
 use Rattle.std.proofs.Common.{◌≡◌, ◌+◌, ◌-◌, ◌==◌, ◌%◌, ℕ, zero, suc, Bool, true, false, not, cond}
 use Rattle.std.proofs.Common.{List, [], ◌∷◌, ◌++◌, length, map, Option, Some, None, slice_get, refl}
-use Rattle.std.proofs.Common.{sym, ap, ◌∙◌, subst, eq-eqb, inl, inr}
+use Rattle.std.proofs.Common.{sym, ap, ◌∙◌, subst, eq-eqb, inl, inr, ◌⊎◌}
 use Rattle.std.proofs.Common.{append_assoc}
 use Rattle.std.specs.Prelude.{option_and_then, option_map, flat_map}
 use Rattle.std.specs.List.{find, AllByRecursion}
@@ -17,7 +17,7 @@ use Rattle.rpc_base.specs.declared.event.Event.TheVariants.{DonePeerLost, Rolled
 use Rattle.rpc_base.specs.declared.event.Event.TheVariants.{Polled, Dropped}
 use Rattle.rpc_base.specs.declared.fact.Fact.{Fact}
 use Rattle.rpc_base.specs.declared.fact.Who.TheVariants.{Node}
-use Rattle.rpc_base.specs.declared.state.DropReason.TheVariants.{WrongPeer, NoSession}
+use Rattle.rpc_base.specs.declared.state.DropReason.TheVariants.{StaleLife, WrongPeer, NoSession}
 use Rattle.rpc_base.specs.declared.owner.Owner.TheVariants.{Ask, Reply}
 use Rattle.rpc_base.proofs.BasicLemmas.{false-true}
 use Rattle.rpc_base.proofs.TakingLemmas.{find-passes}
@@ -46,16 +46,17 @@ use Rattle.rpc_laws.specs.declared.tables.WorkedJob.{WorkedJob}
 use Rattle.rpc_laws.specs.Calls.{is_active, is_call, is_waiting, with_reply}
 use Rattle.rpc_laws.specs.ClientTable.{client_ending, call_ending, progress_ending, end_facts}
 use Rattle.rpc_laws.specs.ClientTable.{reply_facts}
-use Rattle.rpc_laws.specs.ControlSteps.{Hears, HearsAll, Retries, TimesSession, TimesAll}
+use Rattle.rpc_laws.specs.ControlSteps.{AnswersControl, EndsOutdated, Hears, HearsAll, Retries}
+use Rattle.rpc_laws.specs.ControlSteps.{TimesSession, TimesAll}
 use Rattle.rpc_laws.specs.Facts.{plain, with_two}
 use Rattle.rpc_laws.specs.Front.{front_header, front_body}
 use Rattle.rpc_laws.specs.GoBackN.{Watches, WatchesSession, Each, flushes_of, row_facts, row_of}
 use Rattle.rpc_laws.specs.GoBackN.{progress_facts, call_facts, client_facts, numbers_in}
 use Rattle.rpc_laws.specs.Jobs.{are_full, is_job}
-use Rattle.rpc_laws.specs.NodeLists.{after}
+use Rattle.rpc_laws.specs.NodeLists.{after, after_all}
 use Rattle.rpc_laws.specs.PollOrder.{answer_posted, awaited, awaited_of, Finishes, Handles}
 use Rattle.rpc_laws.specs.PollOrder.{HandlesAll}
-use Rattle.rpc_laws.specs.PollOrder.{handling_by, Serves, PostsAll, Sends, SendsAll, Closes}
+use Rattle.rpc_laws.specs.PollOrder.{handled, handling_by, Serves, PostsAll, Sends, SendsAll, Closes}
 use Rattle.rpc_laws.specs.Posting.{if_connected, beginning, posting, next_begun, next_posted}
 use Rattle.rpc_laws.specs.Posting.{next_packet, next_turn, lowest_free, can_post}
 use Rattle.rpc_laws.specs.Queues.{numbers_of}
@@ -67,7 +68,7 @@ use Rattle.rpc_laws.specs.Sessions.{is_client, is_connected}
 use Rattle.rpc_laws.specs.Steps.{Rel, Then, Chain, none, more, Until, Visits, NotesNext, NotesAll}
 use Rattle.rpc_laws.specs.Working.{FinishesEach, FinishesWorked}
 use Rattle.rpc_outside.specs.PlainAnswer.{plain_mode}
-use Rattle.end_laws.proofs.Allowed.{Fronts, IsWhole}
+use Rattle.end_laws.proofs.Allowed.{Fronts, IsWhole, MayLeave, MayOutdate}
 use Rattle.end_laws.proofs.AskSteps.{bring_facts, took-walk, OpenSlot, Taking, took-slot}
 use Rattle.end_laws.proofs.AskSteps.{slots-found, last-number, taken-last, taken-size}
 use Rattle.end_laws.proofs.ListLemmas.{all-found, all-append}
@@ -79,9 +80,9 @@ use Rattle.end_laws.proofs.SendsLaw.{right-stays}
 use Rattle.end_laws.proofs.SlotLemmas.{with_slots, Apart}
 use Rattle.end_laws.proofs.Walks.{Fine, fine-chain, fine-until, fine-visits}
 use Rattle.end_laws.proofs.CallSteps.{watches-fine}
-use Rattle.end_laws.proofs.HearsSteps.{front-hand, heard-facts, heard-row, hears-all, hears-fine}
-use Rattle.end_laws.proofs.HearsSteps.{InHand}
-use Rattle.end_laws.proofs.HearsSteps.{may-leave, MayEnd, row-may, RowMay}
+use Rattle.end_laws.proofs.HearsSteps.{front-hand, hand-kept, hears-all, hears-fine, in-hand}
+use Rattle.end_laws.proofs.HearsSteps.{InHand, is_heard, is-outdated, IsOutdated, may-leave}
+use Rattle.end_laws.proofs.HearsSteps.{me-after, outdated-chain, row-may, RowMay, taken-right}
 use Rattle.end_laws.specs.Moments.{front_of, hand_noted}
 use Rattle.packet_header.specs.declared.packet.ControlHeader.{ControlHeader}
 use Rattle.rpc_base.specs.declared.event.Event.TheVariants.{Accepted, ClosedHeard, Declined, Ended}
@@ -328,7 +329,11 @@ older-then hand clock l front h v answer session r (k ∷ ks) i t o =
       older session r k o,
       older-then hand clock (after clock l f) front h v answer session r ks now
           (record {
-            is_front = record { is_front = t.is_front.is_front; reads = t.is_front.reads };
+            is_front = record {
+              is_front = t.is_front.is_front;
+              reads = t.is_front.reads;
+              for_us = t.is_front.for_us;
+            };
             found = t.found;
             of_peer = t.of_peer;
             takes = t.takes;
@@ -338,6 +343,7 @@ older-then hand clock l front h v answer session r (k ∷ ks) i t o =
           (record {
             header = o.header;
             reads = o.reads;
+            for_us = o.for_us;
             kind = o.kind;
             session = o.session;
             slot = o.slot;
@@ -359,6 +365,7 @@ begins-steps hand clock l front h v answer (Some q) i t is =
     (numbers_of (Reply v.way.number q.number) l.queued) i t (record {
       header = h;
       reads = t.is_front.reads;
+      for_us = t.is_front.for_us;
       kind = takes.0;
       session = sym session;
       slot = slot;
@@ -471,16 +478,29 @@ kind-steps hand clock l front h lacks answer Cr e f i =
 kind-steps hand clock l front h lacks answer Response e f i =
     steps-alone hand clock l _ (reply-alone l.me (find (is_client h.session) l.clients) h (front_body l.ring) _)
 
+-- one for another life is dropped
+handled-steps : (hand : Option InFlight) (clock : ℕ) (l : Lists) (front : Arrival)
+    (h : MessageHeader) (lacks : Bool) (answer : List ℕ) (b : Bool) → (h.to_life == l.life) ≡ b
+    → slice_get l.ring 0 ≡ Some front → front_header l.ring ≡ Some h → RightNode l
+    → StepsFrom hand nothing clock l
+    (cond b (handling_by plain_mode lacks answer h.kind l front.peer h (front_body l.ring))
+    (plain l.me (Dropped StaleLife) ∷ [])) nothing
+handled-steps hand clock l front h lacks answer true goes is_front reads i =
+    kind-steps hand clock l front h lacks answer h.kind refl
+    (record { is_front = is_front; reads = reads; for_us = eqb-true h.to_life l.life goes }) i
+handled-steps hand clock l front h lacks answer false goes is_front reads i =
+    one-alone hand clock l (plain l.me (Dropped StaleLife)) refl refl
+
 handles-orders : Orderly (Handles plain_mode)
 handles-orders hand s x t i h =
     let bytes = front-is s.lists.ring h.front h.is_front in
     let reads : front_header s.lists.ring ≡ Some h.header = ap message_of bytes ∙ h.reads in
-    let steps = kind-steps hand s.clock s.lists h.front h.header h.lacks h.answer h.header.kind refl
-    (record { is_front = h.is_front; reads = reads }) i in
-    let same : handling_by plain_mode h.lacks h.answer h.header.kind s.lists h.front.peer h.header
+    let steps = handled-steps hand s.clock s.lists h.front h.header h.lacks h.answer
+    (h.header.to_life == s.lists.life) refl h.is_front reads i in
+    let same : handled plain_mode h.lacks h.answer s.lists h.front.peer h.header
     (front_body s.lists.ring) ≡ x =
-    ap (λ (b : List ℕ). handling_by plain_mode h.lacks h.answer h.header.kind s.lists
-    h.front.peer h.header (body_of b)) bytes ∙ sym h.facts in
+    ap (λ (b : List ℕ). handled plain_mode h.lacks h.answer s.lists h.front.peer h.header
+    (body_of b)) bytes ∙ sym h.facts in
     subst (λ (y : List Fact). Orders hand s y) same steps
 
 -- session control: what is sent is alone
@@ -526,21 +546,26 @@ slots-left me queued v (slot ∷ slots) =
     (slot-left me queued v.way.number (find (in_slot_of slot) v.slots))
     (slots-left me queued v slots)
 
-left-steps : (hand : Option InFlight) (clock : ℕ) (l m : Lists) (peer : ℕ) (h : ControlHeader)
-    (x y : List Fact) → RightNode l → InHand hand l.me peer h → (e : MayEnd l peer h) → m.me ≡ l.me
-    → m.servers ≡ l.servers → AllByRecursion (IsLeft l.me e.server.way.number) x
-    → AllByRecursion (IsAlone l.me) y → StepsFrom hand nothing clock m (x ++ y) nothing
-left-steps hand clock l m peer h [] y i k e me servers left al =
+-- what lets a server session of these lists end
+abbrev Leaving : Option InFlight → Lists → ℕ → Type 0
+Leaving hand l t =
+    (m : Lists) → m.me ≡ l.me → m.life ≡ l.life → m.servers ≡ l.servers
+    → MayLeave hand m t ⊎ MayOutdate hand m t
+
+left-steps : (hand : Option InFlight) (clock : ℕ) (l m : Lists) (t : ℕ) (x y : List Fact)
+    → Leaving hand l t → m.me ≡ l.me → m.life ≡ l.life → m.servers ≡ l.servers
+    → AllByRecursion (IsLeft l.me t) x → AllByRecursion (IsAlone l.me) y
+    → StepsFrom hand nothing clock m (x ++ y) nothing
+left-steps hand clock l m t [] y may me life servers left al =
     steps-alone hand clock m y (subst (λ (n : ℕ). AllByRecursion (IsAlone n) y) (sym me) al)
-left-steps hand clock l m peer h (f ∷ x) y i k e me servers left al =
+left-steps hand clock l m t (f ∷ x) y may me life servers left al =
     let one = left.0 in
-    let g : Fact = plain l.me (Flushed (Reply e.server.way.number one.request) one.number) in
-    let rest = left-steps hand clock l (after clock m g) peer h x y i k e me servers left.1 al in
+    let g : Fact = plain l.me (Flushed (Reply t one.request) one.number) in
+    let rest = left-steps hand clock l (after clock m g) t x y may me life servers left.1 al in
     let steps : StepsFrom hand nothing clock m (g ∷ (x ++ y)) nothing = (
       nothing,
       ap Node (sym me),
-      leaves e.server.way.number one.request one.number
-          (may-leave hand l m peer h i k e me servers),
+      leaves t one.request one.number (may m me life servers),
       rest,
     ) in
     subst (λ (z : Fact). StepsFrom hand nothing clock m (z ∷ (x ++ y)) nothing) (sym one.is) steps
@@ -559,7 +584,7 @@ hear-alone Declines hand clock l peer h said i k m s =
 hear-alone Starves hand clock l peer h said i k m s =
     then-said hand clock l (plain l.me (Starved peer h.client h.credits)) said refl refl s
 hear-alone (Accepts t) hand clock l peer h said i k m s =
-    then-said hand clock l (plain l.me (Accepted t peer h.client h.credits)) said refl refl s
+    then-said hand clock l (plain l.me (Accepted t peer h.client h.credits h.from_life)) said refl refl s
 hear-alone EndsRow hand clock l peer h said i k m s =
     let v = m.server in
     let facts : session_end l.me l.queued (Some v) ++ said
@@ -568,41 +593,129 @@ hear-alone EndsRow hand clock l peer h said i k m s =
     let whole : control_facts l peer h EndsRow ++ said
     ≡ session_flushes l.me l.queued v ++ (plain l.me (Ended v.way.number) ∷ said) =
     ap (λ (o : Option Server). session_end l.me l.queued o ++ said) m.named ∙ facts in
-    rw whole (left-steps hand clock l l peer h (session_flushes l.me l.queued v)
-    (plain l.me (Ended v.way.number) ∷ said) i k m refl refl
+    rw whole (left-steps hand clock l l v.way.number (session_flushes l.me l.queued v)
+    (plain l.me (Ended v.way.number) ∷ said)
+    (λ u me life servers. inl (may-leave hand l u peer h i k m me life servers)) refl refl refl
     (slots-left l.me l.queued v (0 ∷ 1 ∷ 2 ∷ 3 ∷ 4 ∷ 5 ∷ 6 ∷ 7 ∷ [])) ((refl, refl), s))
 hear-alone (Connects t) hand clock l peer h said i k m s =
-    then-said hand clock l (plain l.me (IsConnected h.client t)) said refl refl s
+    then-said hand clock l (plain l.me (IsConnected h.client t h.from_life)) said refl refl s
 hear-alone Fails hand clock l peer h said i k m s =
     then-said hand clock l (plain l.me (FailedNoRoom h.client)) said refl refl s
 hear-alone ClosesRow hand clock l peer h said i k m s =
     then-said hand clock l (plain l.me (ClosedHeard h.client)) said refl refl s
 hear-alone _ hand clock l peer h said i k m s = steps-alone hand clock l said s
 
+-- facts that leave what is in hand, and then others
+steps-held : (hand : Option InFlight) (d u e : Due) (clock : ℕ) (l : Lists) (x y : List Fact)
+    → StepsFrom hand d clock l x u → AllByRecursion (λ f. is_heard f.event ≡ false) x
+    → StepsFrom hand u clock (after_all clock l x) y e → StepsFrom hand d clock l (x ++ y) e
+steps-held hand d u e clock l [] y h quiet k = rw h k
+steps-held hand d u e clock l (f ∷ x) y h quiet k =
+    let same = hand-kept l.me f.event l.inbox hand quiet.0 in (
+      h.0,
+      h.1,
+      h.2,
+      subst (λ (o : Option InFlight). StepsFrom o h.0 clock (after clock l f) (x ++ y) e) (sym same)
+          (steps-held hand h.0 u e clock (after clock l f) x y
+          (subst (λ (o : Option InFlight). StepsFrom o h.0 clock (after clock l f) x u) same h.3)
+          quiet.1 k),
+    )
+
+-- a session that a connect request outdates ends
+outdated-leaves : (hand : Option InFlight) (l : Lists) (peer : ℕ) (h : ControlHeader) (v : Server)
+    → InHand hand l.me peer h → IsOutdated peer h l v → Leaving hand l v.way.number
+outdated-leaves hand l peer h v k o m me life servers =
+    inr (record {
+      hears = record {
+        peer = peer;
+        bytes = k.bytes;
+        header = h;
+        in_hand = k.in_hand ∙ ap (λ (to : ℕ). Some
+            (record { from = peer; to = to; bytes = k.bytes })) (sym me);
+        reads = k.reads;
+        of_kind = o.of_kind;
+      };
+      server = v;
+      found = ap (find (is_server v.way.number)) servers ∙ o.found;
+      of_peer = o.of_peer;
+      older = o.older;
+    })
+
+outdated-steps : (hand : Option InFlight) (me peer : ℕ) (h : ControlHeader) (s : Timed)
+    (x : List Fact) (t : Timed) → InHand hand me peer h → RightNode s.lists → s.lists.me ≡ me
+    → EndsOutdated peer h s x t → StepsFrom hand nothing s.clock s.lists x nothing
+outdated-steps hand me peer h s x t k i same e =
+    let l = s.lists in
+    let v = e.server in
+    let o = is-outdated h.kind peer h l v refl i.alone e.is_outdated in
+    rw e.facts (left-steps hand s.clock l l v.way.number (session_flushes l.me l.queued v)
+    (plain l.me (Ended v.way.number) ∷ [])
+    (outdated-leaves hand l peer h v (in-hand hand l.me me peer h same k) o) refl refl refl
+    (slots-left l.me l.queued v (0 ∷ 1 ∷ 2 ∷ 3 ∷ 4 ∷ 5 ∷ 6 ∷ 7 ∷ [])) ((refl, refl), tt))
+
+outdated-all : (hand : Option InFlight) (me peer : ℕ) (h : ControlHeader) (s : Timed)
+    (x : List Fact) (t : Timed) → InHand hand me peer h → RightNode s.lists → s.lists.me ≡ me
+    → Chain (EndsOutdated peer h) s x t → StepsFrom hand nothing s.clock s.lists x nothing
+outdated-all hand me peer h s x t k i same none = refl
+outdated-all hand me peer h s x t k i same (more {x = front} {t = between} c y u e) =
+    let w = outdated-chain hand me peer h s front between k i same c in
+    let one = outdated-all hand me peer h s front between k i same c in
+    let two = outdated-steps hand me peer h between y u k w.walked.inv w.same e in
+    steps-held hand nothing nothing nothing s.clock s.lists front y one w.quiet
+    (subst (λ z. StepsFrom hand nothing z (after_all s.clock s.lists front) y nothing)
+    w.walked.clock
+    (subst (λ z. StepsFrom hand nothing between.clock z y nothing) w.walked.lists two))
+
+answers-steps : (hand : Option InFlight) (peer : ℕ) (h : ControlHeader) (s : Timed)
+    (x : List Fact) (t : Timed) → InHand hand s.lists.me peer h → RightNode s.lists
+    → AnswersControl peer h s x t → StepsFrom hand nothing s.clock s.lists x nothing
+answers-steps hand peer h s x t k i a =
+    let l = s.lists in
+    let row = control_row a.lacks peer h l in
+    rw a.facts (hear-alone row hand s.clock l peer h a.said i k
+    (row-may h.kind a.lacks hand l peer h refl i k)
+    (says-alone l.me peer (control_reply l.life h row) a.said a.speaks))
+
 hears-orders : Orderly Hears
 hears-orders hand s x t i h =
     let l = s.lists in
     let f : Fact = plain l.me Heard in
-    let l1 = after s.clock l f in
     let held = front_of l.me l.inbox in
-    let i1 : RightNode l1 = right-stays hand s.clock l f (record { who = refl; may = tt }) i in
-    let k : InHand held l1.me h.front.peer h.header = record {
+    let peer = h.front.peer in
+    let takes = h.steps.first in
+    let rest = h.steps.second in
+    let b = h.steps.between in
+    let right : RightNode b.lists = (taken-right hand s h.steps.front b i takes).inv in
+    let same : b.lists.me ≡ l.me =
+    ap (λ (u : Timed). u.lists.me) takes.goes ∙ me-after s.clock l h.steps.front in
+    let k : InHand held l.me peer h.header = record {
       bytes = h.front.bytes;
       in_hand = front-hand l.me l.inbox h.front h.is_front;
       reads = h.reads;
     } in
-    let row = control_row h.lacks h.front.peer h.header l in
-    let may : RowMay row held l1 h.front.peer h.header =
-    subst (λ (r : ControlRow). RowMay r held l1 h.front.peer h.header)
-    (heard-row h.header.kind s.clock h.lacks h.front.peer h.header l)
-    (row-may h.header.kind h.lacks held l1 h.front.peer h.header refl i1 k) in
-    let steps : StepsFrom held nothing s.clock l1
-    (control_facts l h.front.peer h.header row ++ h.said) nothing =
-    subst (λ (y : List Fact). StepsFrom held nothing s.clock l1 (y ++ h.said) nothing)
-    (heard-facts row s.clock h.front.peer h.header l)
-    (hear-alone row held s.clock l1 h.front.peer h.header h.said i1 k may
-    (says-alone l.me h.front.peer (control_reply l.life h.header row) h.said h.speaks)) in
-    rw h.facts (nothing, refl, alone Heard refl, steps)
+    let ends = outdated-chain held l.me peer h.header b rest.front rest.between k right same
+    rest.first.steps in
+    let one = outdated-all held l.me peer h.header b rest.front rest.between k right same
+    rest.first.steps in
+    let two = answers-steps held peer h.header rest.between rest.back t
+    (in-hand held rest.between.lists.me l.me peer h.header ends.same k) ends.walked.inv
+    rest.second in
+    let both : StepsFrom held nothing b.clock b.lists (rest.front ++ rest.back) nothing =
+    steps-held held nothing nothing nothing b.clock b.lists rest.front rest.back one ends.quiet
+    (subst (λ z. StepsFrom held nothing z (after_all b.clock b.lists rest.front) rest.back nothing)
+    ends.walked.clock
+    (subst (λ z. StepsFrom held nothing rest.between.clock z rest.back nothing) ends.walked.lists
+    two)) in
+    let whole : StepsFrom held nothing b.clock b.lists h.steps.back nothing =
+    subst (λ (y : List Fact). StepsFrom held nothing b.clock b.lists y nothing) (sym rest.joined)
+    both in
+    let lists : b.lists ≡ after s.clock l f =
+    ap (λ (z : Timed). z.lists) takes.goes ∙ ap (after_all s.clock l) takes.facts in
+    let clock : b.clock ≡ s.clock = ap (λ (z : Timed). z.clock) takes.goes in
+    let now : StepsFrom held nothing s.clock (after s.clock l f) h.steps.back nothing =
+    subst (λ z. StepsFrom held nothing z (after s.clock l f) h.steps.back nothing) clock
+    (subst (λ z. StepsFrom held nothing b.clock z h.steps.back nothing) lists whole) in
+    rw (h.steps.joined, takes.facts) (nothing, refl, alone Heard refl, now)
 
 -- a call is rolled back
 rolls-steps : (hand : Option InFlight) (clock : ℕ) (l : Lists) (d : Due) (s r c posted got : ℕ)

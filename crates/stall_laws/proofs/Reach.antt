@@ -20,6 +20,7 @@ use Rattle.rpc_laws.specs.declared.tables.Progress.{Progress}
 use Rattle.rpc_laws.specs.declared.tables.Way.{Way}
 use Rattle.rpc_laws.specs.Calls.{is_active, is_call, has_request, begun, moved, posted_up_to}
 use Rattle.rpc_laws.specs.Calls.{took_reply, rolled_back}
+use Rattle.rpc_laws.specs.Endpoints.{Endpoint}
 use Rattle.rpc_laws.specs.Facts.{with_two}
 use Rattle.rpc_laws.specs.Front.{front_header, front_body}
 use Rattle.rpc_laws.specs.Sessions.{is_client, has_call, is_connected, begins, posts, takes, rolls}
@@ -29,6 +30,7 @@ use Rattle.node_laws.proofs.Allowed.{MayBegin, MayPost, MayTake, MayRoll, MayBre
 use Rattle.node_laws.proofs.NumberLemmas.{by_number}
 use Rattle.node_laws.proofs.SoundLemmas.{by_request, reply-got, reply-posted, reply-request}
 use Rattle.end_laws.specs.Moments.{Moment}
+use Rattle.end_laws.specs.TwoEnds.{here}
 use Rattle.end_laws.proofs.Allowed.{is_packet}
 use Rattle.end_laws.proofs.Courses.{AtNode, noted_at}
 use Rattle.stall_laws.proofs.Living.{Living, other-stands, other-stays}
@@ -37,7 +39,6 @@ use Rattle.end_laws.proofs.ListLemmas.{all-first, all-both, all-map}
 use Rattle.end_laws.proofs.QueueLemmas.{RightNode}
 use Rattle.ring_laws.proofs.ClientReach.{spilt_reply}
 use Rattle.ring_laws.proofs.Loads.{posted_ask, took_reply as took_packets}
-use Rattle.ring_laws.proofs.ServerReach.{spilt_ask}
 use Rattle.stall_laws.specs.Caused.{restarts, restarts_by}
 use Rattle.stall_laws.specs.Settled.{moment_of}
 use Rattle.stall_laws.proofs.CallPlaces.{counted, number-at, one-owner, one-call, one-active}
@@ -47,20 +48,21 @@ use Rattle.stall_laws.proofs.Fates.{posted-stands}
 use Rattle.stall_laws.proofs.Held.{pair_of, Held, SessionAt, Spares, held-noted, joins-of}
 use Rattle.stall_laws.proofs.Newest.{NewestBy, NewestCall, NewestClient, NewestNode}
 use Rattle.stall_laws.proofs.OnePlace.{count-here, placed-all, every}
+use Rattle.stall_laws.proofs.Standing.{spilt_at}
 
 -- each unanswered packet of a call, of the active calls of a session, and of the connected sessions of a node
-abbrev pub HeldBy : List Fact → Moment → Due → ℕ → Way → ℕ → Option Progress → Type 0
+abbrev pub HeldBy : List Fact → Moment → Due → Endpoint → Way → ℕ → Option Progress → Type 0
 HeldBy h w d j way c None = Unit {0}
 HeldBy h w d j way c (Some p) = (k : ℕ) → p.got ≤ k → k < p.posted → Held h w d j way c p.request k
 
-abbrev pub HeldCall : List Fact → Moment → Due → ℕ → Way → Call → Type 0
+abbrev pub HeldCall : List Fact → Moment → Due → Endpoint → Way → Call → Type 0
 HeldCall h w d j way c = HeldBy h w d j way c.what.number c.progress
 
-abbrev pub HeldClient : List Fact → Moment → Due → ℕ → Client → Type 0
+abbrev pub HeldClient : List Fact → Moment → Due → Endpoint → Client → Type 0
 HeldClient h w d j x = is_connected x.state ≡ true → AllByRecursion (HeldCall h w d j x.way) x.calls
 
 abbrev pub HeldNode : List Fact → Moment → Due → ℕ → Lists → Type 0
-HeldNode h w d j l = Placed (λ s x. HeldClient h w d j x) l.clients
+HeldNode h w d j l = Placed (λ s x. HeldClient h w d (here j l) x) l.clients
 
 -- a call whose number is another, or that isn't of this node, goes on
 pub at-false : (b : Bool) (c : ℕ) (e : Event) → restarts_by c e ≡ false → (b && restarts_by c e) ≡ false
@@ -87,8 +89,8 @@ module _ (h : List Fact) (w : Moment) (n : ℕ) (l : Lists) (e : Event) (first s
       → Spares n j l e s p.request k)
 
   by-kept : (j s : ℕ) (z : Lists) (x : Client) → SessionAt w j s z x → (c : ℕ) (o : Option Progress)
-      → NewestBy x.turns o → SparesBy j x.way.number c o → HeldBy h w d j x.way c o
-      → HeldBy h2 w2 u j x.way c o
+      → NewestBy x.turns o → SparesBy j x.way.number c o → HeldBy h w d (here j z) x.way c o
+      → HeldBy h2 w2 u (here j z) x.way c o
   by-kept j s z x at c None new sp held = tt
   by-kept j s z x at c (Some p) new sp held =
       λ k low high.
@@ -100,13 +102,13 @@ module _ (h : List Fact) (w : Moment) (n : ℕ) (l : Lists) (e : Event) (first s
       → (is_connected x.state ≡ true → SessionAt w j s z x)
       → NewestClient x
       → AllByRecursion (λ c. SparesBy j x.way.number c.what.number c.progress) x.calls
-      → HeldClient h w d j x → HeldClient h2 w2 u j x
+      → HeldClient h w d (here j z) x → HeldClient h2 w2 u (here j z) x
   client-kept j s z x at new sp held =
       λ live. all-map (λ c. (NewestCall x.turns c × SparesBy j x.way.number c.what.number c.progress) × HeldCall h w
-      d j x.way c) (HeldCall h2 w2 u j x.way) x.calls
+      d (here j z) x.way c) (HeldCall h2 w2 u (here j z) x.way) x.calls
       (λ c both. by-kept j s z x (at live) c.what.number c.progress both.0.0 both.0.1 both.1)
       (all-both (λ c. NewestCall x.turns c × SparesBy j x.way.number c.what.number c.progress)
-      (HeldCall h w d j x.way) x.calls
+      (HeldCall h w d (here j z) x.way) x.calls
       (all-both (NewestCall x.turns) (λ c. SparesBy j x.way.number c.what.number c.progress) x.calls new sp)
       (held live))
 
@@ -125,7 +127,8 @@ module _ (h : List Fact) (w : Moment) (n : ℕ) (l : Lists) (e : Event) (first s
         is_there = there;
         live = live;
         stands = other-stands w g j z s x is_node there live;
-        stays = λ m y is node may. other-stays w g j z s x is_node there live m y is node may;
+        stays = λ m y is node life may. other-stays w g j z s x is_node there live m y is node
+            life may;
       })
       (all-at NewestClient z.clients s x new there)
       (every (λ c. SparesBy j x.way.number c.what.number c.progress) x.calls
@@ -147,11 +150,12 @@ module _ (h : List Fact) (w : Moment) (n : ℕ) (l : Lists) (e : Event) (first s
     is_there = there;
     live = live;
     stands = other-stands w g n l s x a.is_node there live;
-    stays = λ m z is node may. other-stays w g n l s x a.is_node there live m z is node may;
+    stays = λ m z is node life may. other-stays w g n l s x a.is_node there live m z is node
+        life may;
   }
 
   abbrev After : Client → Type 0
-  After x = HeldClient h2 w2 u n x
+  After x = HeldClient h2 w2 u (here n l) x
 
   -- what another session keeps
   session-kept : (s : ℕ) (x : Client) → slice_get l.clients s ≡ Some x
@@ -189,20 +193,20 @@ module _ (h : List Fact) (w : Moment) (n : ℕ) (l : Lists) (e : Event) (first s
 
   same-held : (way : Way) (c : ℕ) (o : Option Progress) (change : Progress → Progress)
       → ((p : Progress) → ((change p).request ≡ p.request) × ((change p).got ≡ p.got) × ((change p).posted ≡ p.posted))
-      → HeldBy h2 w2 u n way c o → HeldBy h2 w2 u n way c (option_map change o)
+      → HeldBy h2 w2 u (here n l) way c o → HeldBy h2 w2 u (here n l) way c (option_map change o)
   same-held way c None change same held = tt
   same-held way c (Some p) change same held =
       λ k low high. let e3 = same p in
       rw (e3.0) (held k (rw (← e3.1) low) (rw (← e3.2) high))
 
-  none-held : (way : Way) (c : ℕ) (o : Option Progress) → o ≡ None → HeldBy h2 w2 u n way c o
+  none-held : (way : Way) (c : ℕ) (o : Option Progress) → o ≡ None → HeldBy h2 w2 u (here n l) way c o
   none-held way c o e = rw e tt
 
   moves-held : (x y : Client) → Moves x y → After x → After y
   moves-held x y m held =
       λ live. let was : is_connected x.state ≡ true = ap is_connected (sym m.2) ∙ live in
-      subst (λ (way : Way). AllByRecursion (HeldCall h2 w2 u n way) y.calls) (sym m.1)
-      (m.0 (HeldCall h2 w2 u n x.way)
+      subst (λ (way : Way). AllByRecursion (HeldCall h2 w2 u (here n l) way) y.calls) (sym m.1)
+      (m.0 (HeldCall h2 w2 u (here n l) x.way)
       (λ c change p same. same-held x.way c.what.number c.progress change same p)
       (λ c none. none-held x.way c.what.number c.progress none) (held was))
 
@@ -224,8 +228,8 @@ module _ (h : List Fact) (w : Moment) (n : ℕ) (l : Lists) (e : Event) (first s
       → ((t : ℕ) (z : Client) → (t ≡ s → ⊥) → slice_get l.clients t ≡ Some z → (m : ℕ) (b : Call)
       → slice_get z.calls m ≡ Some b → SparesBy n z.way.number b.what.number b.progress) → After y
       → HeldNode h w d n l → Placed (λ s x. After x) (slice_set l.clients s y)
-  one-kept s x y there sp here held =
-      set-placed (λ s x. After x) l.clients s x y there here
+  one-kept s x y there sp now held =
+      set-placed (λ s x. After x) l.clients s x y there now
       (λ t z ne at. session-kept t z at (placed-all (λ c. SparesBy n z.way.number c.what.number c.progress)
       z.calls (λ m b is_b. sp t z ne at m b is_b)) held)
 
@@ -233,20 +237,20 @@ module _ (h : List Fact) (w : Moment) (n : ℕ) (l : Lists) (e : Event) (first s
   call-changed : (s : ℕ) (x : Client) → slice_get l.clients s ≡ Some x → is_connected x.state ≡ true
       → (j : ℕ) (b c : Call)
       → slice_get x.calls j ≡ Some b → ((m : ℕ) (o : Call) → (m ≡ j → ⊥) → slice_get x.calls m ≡ Some o
-      → SparesBy n x.way.number o.what.number o.progress) → HeldCall h2 w2 u n x.way c
-      → AllByRecursion (HeldCall h w d n x.way) x.calls
-      → AllByRecursion (HeldCall h2 w2 u n x.way) (slice_set x.calls j c)
-  call-changed s x there live j b c is_b sp here held =
-      placed-all (HeldCall h2 w2 u n x.way) (slice_set x.calls j c)
-      (set-placed (λ m o. HeldCall h2 w2 u n x.way o) x.calls j b c is_b here
+      → SparesBy n x.way.number o.what.number o.progress) → HeldCall h2 w2 u (here n l) x.way c
+      → AllByRecursion (HeldCall h w d (here n l) x.way) x.calls
+      → AllByRecursion (HeldCall h2 w2 u (here n l) x.way) (slice_set x.calls j c)
+  call-changed s x there live j b c is_b sp now held =
+      placed-all (HeldCall h2 w2 u (here n l) x.way) (slice_set x.calls j c)
+      (set-placed (λ m o. HeldCall h2 w2 u (here n l) x.way o) x.calls j b c is_b now
       (λ m o ne at. by-kept n s l x (here-at s x there live) o.what.number o.progress
       (all-at (NewestCall x.turns) x.calls m o (all-at NewestClient l.clients s x newest there) at)
-      (sp m o ne at) (all-at (HeldCall h w d n x.way) x.calls m o held at)))
+      (sp m o ne at) (all-at (HeldCall h w d (here n l) x.way) x.calls m o held at)))
 
   progress-at : (way : Way) (c : ℕ) (o : Option Progress) (p : Progress) → o ≡ Some p
-      → HeldBy h w d n way c o → (k : ℕ) → p.got ≤ k → k < p.posted → Held h w d n way c p.request k
+      → HeldBy h w d (here n l) way c o → (k : ℕ) → p.got ≤ k → k < p.posted → Held h w d (here n l) way c p.request k
   progress-at way c o p at held k low high =
-      let own : HeldBy h w d n way c (Some p) = subst (HeldBy h w d n way c) at held in own k low high
+      let own : HeldBy h w d (here n l) way c (Some p) = subst (HeldBy h w d (here n l) way c) at held in own k low high
 
   newest-at : (s : ℕ) (x : Client) → slice_get l.clients s ≡ Some x → (j : ℕ) (b : Call)
       → slice_get x.calls j ≡ Some b → (p : Progress) → b.progress ≡ Some p → NewestBy x.turns (Some p)
@@ -276,12 +280,12 @@ module _ (h : List Fact) (w : Moment) (n : ℕ) (l : Lists) (e : Event) (first s
       (λ j o is_o t. one-active l v q set.0 x there j at.0 o call is_o t at.1 at.2) in
       let none : (c : ℕ) → Restarts c ≡ false =
       λ c. at-false (n == n) c e (ap (restarts_by c) e_is) in
-      let now0 : (live : is_connected x.state ≡ true) → HeldBy h2 w2 u n x.way call.what.number
+      let now0 : (live : is_connected x.state ≡ true) → HeldBy h2 w2 u (here n l) x.way call.what.number
       (Some (took_reply w.clock (Some may.header) body p)) = λ live. λ k low high.
       let got = reply-got may.header body p in
       let posted = reply-posted may.header body p in
       let turn = may.turn in
-      subst (λ (r : ℕ). Held h2 w2 u n x.way call.what.number r k) (sym (reply-request may.header body p))
+      subst (λ (r : ℕ). Held h2 w2 u (here n l) x.way call.what.number r k) (sym (reply-request may.header body p))
       (held-noted h w n l e first second d u step a is g.good i n set.0 l x
       (here-at set.0 x there live)
       call.what.number p.request k (newest-at set.0 x there at.0 call at.1 p may.active.active) (none call.what.number)
@@ -290,10 +294,10 @@ module _ (h : List Fact) (w : Moment) (n : ℕ) (l : Lists) (e : Event) (first s
         rolled = λ home c po gt t z. cc;
         broken = λ home t. cc;
       }) (progress-at x.way call.what.number call.progress p may.active.active
-      (all-at (HeldCall h w d n x.way) x.calls at.0 call (held set.0 x there live) at.1) k (omega arith)
+      (all-at (HeldCall h w d (here n l) x.way) x.calls at.0 call (held set.0 x there live) at.1) k (omega arith)
       (omega arith))) in
-      let now : (live : is_connected x.state ≡ true) → HeldBy h2 w2 u n x.way call.what.number
-      (Some (tk p)) = λ live. subst (λ (hd : Option MessageHeader). HeldBy h2 w2 u n x.way call.what.number
+      let now : (live : is_connected x.state ≡ true) → HeldBy h2 w2 u (here n l) x.way call.what.number
+      (Some (tk p)) = λ live. subst (λ (hd : Option MessageHeader). HeldBy h2 w2 u (here n l) x.way call.what.number
       (Some (took_reply w.clock hd body p))) (sym may.front) (now0 live) in
       rw (set.3) (one-kept set.0 x (takes w.clock q (front_header l.ring) body x) there
       (λ t z ne is_z j o is_o. spares-call z.way.number o.what.number o.progress (none o.what.number)
@@ -311,7 +315,7 @@ module _ (h : List Fact) (w : Moment) (n : ℕ) (l : Lists) (e : Event) (first s
         rolled = λ home c po gt k2 y. cc;
         broken = λ home k2. cc;
       }))
-      (subst (λ (o : Option Progress). HeldBy h2 w2 u n x.way call.what.number (option_map tk o))
+      (subst (λ (o : Option Progress). HeldBy h2 w2 u (here n l) x.way call.what.number (option_map tk o))
       (sym may.active.active) (now live))
       (held set.0 x there live))) held)
 
@@ -392,7 +396,7 @@ module _ (h : List Fact) (w : Moment) (n : ℕ) (l : Lists) (e : Event) (first s
       (λ j o is_o t. one-call l v c set.0 x there j at.0 o call is_o t at.1 at.2) in
       let other : (b : ℕ) → (c ≡ b → ⊥) → Restarts b ≡ false =
       λ b. restarts-other c b (ap (restarts_by b) e_is) in
-      let empty : HeldBy h2 w2 u n x.way call.what.number (Some (rolled_back got p)) =
+      let empty : HeldBy h2 w2 u (here n l) x.way call.what.number (Some (rolled_back got p)) =
       λ k low high. (let same = may.back in absurd (omega arith)) in
       rw (set.3) (one-kept set.0 x (rolls c po got x) there
       (λ t z ne is_z j o is_o. spares-call z.way.number o.what.number o.progress
@@ -418,7 +422,8 @@ module _ (h : List Fact) (w : Moment) (n : ℕ) (l : Lists) (e : Event) (first s
             (λ (i : ℕ). IsCallFor l x.way.number i p2.request) same y));
         broken = λ home q. cc;
       }))
-      (subst (λ (o : Option Progress). HeldBy h2 w2 u n x.way call.what.number (option_map (rolled_back got) o))
+      (subst (λ (o : Option Progress). HeldBy h2 w2 u (here n l) x.way call.what.number
+      (option_map (rolled_back got) o))
       (sym may.active.active) empty) (held set.0 x there live))) held)
     where
       same-roll : (c s : ℕ) (x : Client) → slice_get l.clients s ≡ Some x → (i0 : ℕ) (call : Call)
@@ -482,22 +487,23 @@ module _ (h : List Fact) (w : Moment) (n : ℕ) (l : Lists) (e : Event) (first s
       rw (set.3) (one-kept set.0 x (posts q b x) there
       (λ t z ne is_z j o is_o. spares-of n z.way.number o.what.number o.progress (none o.what.number)
       (free z.way.number))
-      (λ live. all-first (HeldCall h2 w2 u n x.way) (HeldCall h2 w2 u n x.way) (is_active q) (moved
+      (λ live. all-first (HeldCall h2 w2 u (here n l) x.way) (HeldCall h2 w2 u (here n l) x.way) (is_active q) (moved
       (posted_up_to b)) x.calls
       (λ c k. k) (λ c is_c k. let same : may.call ≡ c = cc in
       let at : c.progress ≡ Some may.progress = ap (λ (o : Call). o.progress) (sym same) ∙ may.active.active in
-      subst (λ (o : Option Progress). HeldBy h2 w2 u n x.way c.what.number (option_map (posted_up_to b) o)) (sym at)
+      subst (λ (o : Option Progress). HeldBy h2 w2 u (here n l) x.way c.what.number
+      (option_map (posted_up_to b) o)) (sym at)
       (λ j low high. by set.0 x there live number j c.what.number low high (subst
-      (HeldBy h2 w2 u n x.way c.what.number) at k)))
+      (HeldBy h2 w2 u (here n l) x.way c.what.number) at k)))
       (kept live)) held)
     where
       by : (s : ℕ) (x : Client) → slice_get l.clients s ≡ Some x → is_connected x.state ≡ true
           → x.way.number ≡ m → (j c : ℕ)
-          → may.progress.got ≤ j → j < b + 1 → HeldBy h2 w2 u n x.way c (Some may.progress)
-          → Held h2 w2 u n x.way c may.progress.request j
+          → may.progress.got ≤ j → j < b + 1 → HeldBy h2 w2 u (here n l) x.way c (Some may.progress)
+          → Held h2 w2 u (here n l) x.way c may.progress.request j
       by s x there live number j c low high k = pick (ltb j may.progress.posted) refl
         where
-          pick : (t : Bool) → ltb j may.progress.posted ≡ t → Held h2 w2 u n x.way c may.progress.request j
+          pick : (t : Bool) → ltb j may.progress.posted ≡ t → Held h2 w2 u (here n l) x.way c may.progress.request j
           pick true t = k j low (ltb-true j may.progress.posted t)
           pick false t =
               let high2 = ltb-false j may.progress.posted t in
@@ -510,7 +516,7 @@ module _ (h : List Fact) (w : Moment) (n : ℕ) (l : Lists) (e : Event) (first s
               (eq-eqb b j new)) in
               let one : posted_ask p x.way.number e ≡ 1 =
               ap (posted_ask p x.way.number) e_is ∙ ap {B = ℕ} (λ (t : Bool). cond t 1 0) counted in
-              inl (posted-stands w n l e first second (pair_of n x.way) may.progress.request j a
+              inl (posted-stands w n l e first second (pair_of (here n l) x.way) may.progress.request j a
               (joins-of w n l n s l x a.is_node g.good (here-at s x there live)) i d u step refl one
               (ap (took_packets p x.way.number) e_is) (ap (λ (v : Event). spilt_reply p x.way.number v l) e_is)
-              (ap (λ (v : Event). spilt_ask p x.way.other v l) e_is))
+              (ap (λ (v : Event). spilt_at p x.way.life x.way.other (l.life == x.way.life) v l) e_is))

@@ -1,5 +1,11 @@
 -- At each moment of a course each unanswered packet of each call is held.
-use Rattle.std.proofs.Common.{cond, Bool, false, ◌+◌}
+use Rattle.std.proofs.Common.{cond, Bool, false, ◌+◌, ◌&&◌}
+use Rattle.std.specs.List.{slice_set}
+use Rattle.std.proofs.lemmas.Bool.{eqb-false}
+use Rattle.rpc_base.proofs.PlaceLemmas.{set-other}
+use Rattle.rpc_base.specs.declared.limits.Limits.{Limits}
+use Rattle.rpc_laws.specs.BufferSafety.{anew}
+use Rattle.rpc_laws.specs.Endpoints.{Endpoint}
 use Rattle.packet_header.specs.declared.packet.ControlHeader.{ControlHeader}
 use Rattle.rpc_base.specs.Tables.{at_first}
 use Rattle.rpc_base.specs.declared.state.SessionState.TheVariants.{Closed, Connecting, Failed}
@@ -16,6 +22,8 @@ use Rattle.end_laws.proofs.ListLemmas.{first-each}
 use Rattle.stall_laws.specs.Caused.{lost_by, restarts_by}
 use Rattle.stall_laws.proofs.Held.{Spares}
 use Rattle.stall_laws.proofs.Living.{Living, living-made, living-net, living-node, living-pair}
+use Rattle.stall_laws.proofs.Living.{living-restart}
+use Rattle.stall_laws.proofs.Standing.{server_here, server_now}
 use Rattle.std.proofs.Common.{◌≡◌, ◌==◌, inl, inr, ℕ, true, List, [], ◌∷◌}
 use Rattle.std.proofs.Common.{◌++◌, length, Option, Some, None, slice_get, refl, sym, ap, ◌∙◌}
 use Rattle.std.proofs.Common.{subst, arith}
@@ -27,7 +35,7 @@ use Rattle.rpc_base.specs.declared.event.Event.TheVariants.{FailedNoRoom, Made}
 use Rattle.rpc_base.specs.declared.event.Event.TheVariants.{FailedNoAnswer, Closing, ClosedHeard}
 use Rattle.rpc_base.specs.declared.event.Event.TheVariants.{ClosedUnheard}
 use Rattle.rpc_base.specs.declared.event.Event.TheVariants.{Asked, Begun, Posted, Sent, Took}
-use Rattle.rpc_base.specs.declared.event.Event.TheVariants.{Rolled, Broken}
+use Rattle.rpc_base.specs.declared.event.Event.TheVariants.{Restarted, Rolled, Broken}
 use Rattle.rpc_base.specs.declared.event.Event.TheVariants.{DoneOk, DoneTooSmall, DonePeerLost}
 use Rattle.rpc_base.specs.declared.fact.Fact.{Fact}
 use Rattle.rpc_base.specs.declared.fact.Who.{Who}
@@ -39,23 +47,27 @@ use Rattle.rpc_laws.specs.declared.tables.Progress.{Progress}
 use Rattle.rpc_laws.specs.declared.tables.Way.{Way}
 use Rattle.rpc_laws.specs.Calls.{is_active, is_call, sent_packet}
 use Rattle.rpc_laws.specs.Facts.{plain, with_two}
-use Rattle.rpc_laws.specs.NodeLists.{after, new_lists}
+use Rattle.rpc_laws.specs.NodeLists.{after, new_lists, restarted_lists}
 use Rattle.rpc_laws.specs.UsualLimits.{with_ring}
 use Rattle.rpc_laws.specs.Sessions.{is_client, has_call, asks, sends, ends, client_end}
 use Rattle.node_laws.specs.Valid.{Valid}
 use Rattle.node_laws.proofs.SoundLemmas.{sent-got, sent-posted, sent-request}
 use Rattle.end_laws.specs.Moments.{Moment, moved, first_moment}
+use Rattle.end_laws.specs.TwoEnds.{here}
 use Rattle.end_laws.proofs.ClientLemmas.{client-at}
 use Rattle.end_laws.proofs.Courses.{made_as, resets, AtNode, Ends, noted_at, moved-node, Course, over, in_net, made}
-use Rattle.end_laws.proofs.Courses.{at_node, pairs, client_fact, server_fact, paired}
+use Rattle.end_laws.proofs.Courses.{at_node, pairs, restarts, client_fact, server_fact, paired}
 use Rattle.end_laws.proofs.Allowed.{is_packet}
 use Rattle.end_laws.proofs.Known.{Good}
 use Rattle.end_laws.proofs.ListLemmas.{Placed, set-placed, add-placed, all-first, all-map, all-add}
 use Rattle.end_laws.proofs.ListLemmas.{all-without}
 use Rattle.end_laws.proofs.QueueLemmas.{RightNode}
 use Rattle.end_laws.proofs.SendsLaw.{AllRight, right-noted, right-net, right-made, right-paired}
-use Rattle.ring_laws.proofs.Loads.{client_packets, server_packets, client_part, server_part}
+use Rattle.end_laws.proofs.SendsLaw.{right-restart}
+use Rattle.ring_laws.proofs.Counting.{value}
+use Rattle.ring_laws.proofs.Loads.{client_packets, client_part, Filter}
 use Rattle.end_laws.proofs.Valids.{AllValid, valid-net, valid-made, valid-node, valid-pair}
+use Rattle.end_laws.proofs.Valids.{valid-restart}
 use Rattle.ring_laws.proofs.WithinSteps.{own-fact, nodes-net, added-by, part-same, lists1, lists2}
 use Rattle.ring_laws.proofs.WithinSteps.{nodes1, is_server1, paired-nodes}
 use Rattle.stall_laws.specs.Settled.{moment_of, moment_from}
@@ -63,7 +75,7 @@ use Rattle.stall_laws.proofs.Dues.{Due, nothing, Step, is_alone, alone, older, t
 use Rattle.stall_laws.proofs.Dues.{posts, gives, serves, finishes, is_done, leaves}
 use Rattle.stall_laws.proofs.Dues.{arrives, overflows, is_bad, flushes, rolls, breaks}
 use Rattle.stall_laws.proofs.Fates.{net-fate}
-use Rattle.stall_laws.proofs.Held.{pair_of, Held, lost-since, lost-now}
+use Rattle.stall_laws.proofs.Held.{pair_of, Held, lost-since, lost-now, peer-restarts}
 use Rattle.stall_laws.proofs.Moves.{MovesAt, MovesBy, MovesFrom, net_due}
 use Rattle.stall_laws.proofs.Newest.{NewestClient, NewestNode, newest-after}
 use Rattle.stall_laws.proofs.Senders.{ConnectedAt, is-from, net-speaks}
@@ -72,7 +84,7 @@ use Rattle.stall_laws.proofs.Reach.{first-kept, other-node}
 use Rattle.stall_laws.proofs.Reach.{took-held, begun-held, rolled-held, broken-held, posted-held}
 
 -- a session that is Connecting has no calls
-idle-unjoined : (k : Known) (n i : ℕ) (x : Client) → GoodClient k n i x → x.state ≡ Connecting
+idle-unjoined : (k : Known) (n : Endpoint) (i : ℕ) (x : Client) → GoodClient k n i x → x.state ≡ Connecting
     → x.calls ≡ []
 idle-unjoined k n i x g state = by (is_joined x.state) (ap is_joined state) g.tied
   where
@@ -81,13 +93,15 @@ idle-unjoined k n i x g state = by (is_joined x.state) (ap is_joined state) g.ti
     by false e t = t.idle
 
 -- a control packet is sent
-requests-kept : (h : List Fact) (w : Moment) (d : Due) (n clock : ℕ) (b : Bool) (x : Client)
+requests-kept : (h : List Fact) (w : Moment) (d : Due) (n : Endpoint) (clock : ℕ) (b : Bool)
+    (x : Client)
     → HeldClient h w d n x → HeldClient h w d n
     (cond b (record x { sends = x.sends + 1; sent_at = clock }) x)
 requests-kept h w d n clock true x k = k
 requests-kept h w d n clock false x k = k
 
-told-kept : (h : List Fact) (w : Moment) (d : Due) (n clock : ℕ) (o : Option ControlHeader)
+told-kept : (h : List Fact) (w : Moment) (d : Due) (n : Endpoint) (clock : ℕ)
+    (o : Option ControlHeader)
     (xs : List Client)
     → Placed (λ s x. HeldClient h w d n x) xs
     → Placed (λ s x. HeldClient h w d n x) (clients_told clock o xs)
@@ -96,7 +110,7 @@ told-kept h w d n clock (Some c) xs k =
     first-each (is_client c.client) (requests clock c) (λ s x. HeldClient h w d n x)
     (λ s x. HeldClient h w d n x) xs
     (λ s x held t. requests-kept h w d n clock
-    (is_request_of c.kind c.server x.state x.way.other) x held)
+    (is_request_of c.kind c.server c.to_life x.state x.way) x held)
     (λ s x held. held) k
 
 -- at the node of the fact
@@ -109,22 +123,22 @@ module _ (h : List Fact) (w : Moment) (n : ℕ) (l : Lists) (first second : List
       → (p : Client → Bool) (change : Client → Client)
       → ((x : Client) → is_connected (change x).state ≡ false) → HeldNode h w d n l
       → Placed (λ s x. HeldClient (h ++ with_two n e first second ∷ [])
-      (noted_at w n l (with_two n e first second)) u n x) (at_first p change l.clients)
+      (noted_at w n l (with_two n e first second)) u (here n l) x) (at_first p change l.clients)
   over-kept e step a sp none p change closed held =
       first-each p change (λ s x. HeldClient (h ++ with_two n e first second ∷ [])
-      (noted_at w n l (with_two n e first second)) u n x)
+      (noted_at w n l (with_two n e first second)) u (here n l) x)
       (λ s x. HeldClient (h ++ with_two n e first second ∷ [])
-      (noted_at w n l (with_two n e first second)) u n x) l.clients
+      (noted_at w n l (with_two n e first second)) u (here n l) x) l.clients
       (λ s x k t. λ live. false-true (sym (closed x) ∙ live)) (λ s x k. k)
       (all-kept h w n l e first second d u step a is g i v newest sp none held)
 
   node-held : (e : Event) → Step w.hand l first d e u → AtNode w n l (with_two n e first second)
       → HeldNode h w d n l → HeldNode (h ++ with_two n e first second ∷ [])
       (noted_at w n l (with_two n e first second)) u n (after w.clock l (with_two n e first second))
-  node-held (PairedClient s p t c) step a held = absurd a.allowed.may
+  node-held (PairedClient s p t c life) step a held = absurd a.allowed.may
   node-held (Opened s p c) step a held =
       add-placed (λ j x. HeldClient (h ++ with_two n (Opened s p c) first second ∷ [])
-      (noted_at w n l (with_two n (Opened s p c) first second)) u n x) l.clients (opened_end s p c)
+      (noted_at w n l (with_two n (Opened s p c) first second)) u (here n l) x) l.clients (opened_end s p c)
       (λ live. tt)
       (all-kept h w n l (Opened s p c) first second d u step a is g i v newest
       (λ s r k. record {
@@ -133,25 +147,25 @@ module _ (h : List Fact) (w : Moment) (n : ℕ) (l : Lists) (first second : List
         broken = λ home t. cc;
       })
       (λ c. refl) held)
-  node-held (Connected s t) step a held =
+  node-held (Connected s t life) step a held =
       let m = a.allowed.may.0 in
-      let kept = all-kept h w n l (Connected s t) first second d u step a is g i v newest
+      let kept = all-kept h w n l (Connected s t life) first second d u step a is g i v newest
       (λ s r k. record {
         took = λ home t. cc;
         rolled = λ home c po gt t z. cc;
         broken = λ home t. cc;
       })
       (λ c. refl) held in
-      first-each (is_client s) (connects t)
-      (λ j x. HeldClient (h ++ with_two n (Connected s t) first second ∷ [])
-      (noted_at w n l (with_two n (Connected s t) first second)) u n x
+      first-each (is_client s) (connects t life)
+      (λ j x. HeldClient (h ++ with_two n (Connected s t life) first second ∷ [])
+      (noted_at w n l (with_two n (Connected s t life) first second)) u (here n l) x
       × (slice_get l.clients j ≡ Some x))
-      (λ j x. HeldClient (h ++ with_two n (Connected s t) first second ∷ [])
-      (noted_at w n l (with_two n (Connected s t) first second)) u n x) l.clients
+      (λ j x. HeldClient (h ++ with_two n (Connected s t life) first second ∷ [])
+      (noted_at w n l (with_two n (Connected s t life) first second)) u (here n l) x) l.clients
       (λ j x k test.
       let same : m.client ≡ x = at-number l v s j m.client x m.found k.1 test in
       let state : x.state ≡ Connecting = ap (λ (y : Client). y.state) (sym same) ∙ m.connecting in
-      let idle : x.calls ≡ [] = idle-unjoined g.good.known n j x
+      let idle : x.calls ≡ [] = idle-unjoined g.good.known (here n l) j x
       ((g.good.nodes n l a.is_node).clients j x k.1) state in
       λ live. rw idle tt)
       (λ j x k. k.0) (λ j x at. (kept j x at, at))
@@ -218,7 +232,7 @@ module _ (h : List Fact) (w : Moment) (n : ℕ) (l : Lists) (first second : List
       (λ c. refl) held
   node-held (Sent peer Control k) step a held =
       told-kept (h ++ with_two n (Sent peer Control k) first second ∷ [])
-      (noted_at w n l (with_two n (Sent peer Control k) first second)) u n w.clock
+      (noted_at w n l (with_two n (Sent peer Control k) first second)) u (here n l) w.clock
       (control_of first) l.clients
       (all-kept h w n l (Sent peer Control k) first second d u step a is g i v newest
       (λ s r k. record {
@@ -289,39 +303,49 @@ reach-node h w n l f d u step a is g right valid newest reach =
     (subst (λ (x : Fact). Reach (h ++ x ∷ []) (noted_at w n l x) u) (sym e) k)
 
 -- where each packet that stood does, or was lost, each one that was held is
-keeps-all : (h h2 : List Fact) (w w2 : Moment) (d u : Due)
-    → ((j s : ℕ) (z : Lists) (x : Client) → ConnectedAt w j s z x → (c r k : ℕ)
-    → Held h w d j x.way c r k → Held h2 w2 u j x.way c r k)
-    → (j : ℕ) (z : Lists) → slice_get w.nodes j ≡ Some z → HeldNode h w d j z
-    → HeldNode h2 w2 u j z
-keeps-all h h2 w w2 d u keep j z is held s x there =
-    λ live. all-map (HeldCall h w d j x.way) (HeldCall h2 w2 u j x.way) x.calls
+keeps-all : (h h2 : List Fact) (w w2 : Moment) (d u : Due) (j : ℕ) (z : Lists)
+    → slice_get w.nodes j ≡ Some z
+    → ((s : ℕ) (x : Client) → ConnectedAt w j s z x → (c r k : ℕ)
+    → Held h w d (here j z) x.way c r k → Held h2 w2 u (here j z) x.way c r k)
+    → HeldNode h w d j z → HeldNode h2 w2 u j z
+keeps-all h h2 w w2 d u j z is keep held s x there =
+    λ live. all-map (HeldCall h w d (here j z) x.way) (HeldCall h2 w2 u (here j z) x.way) x.calls
     (λ c. by (record { is_node = is; is_there = there; live = live }) c.what.number c.progress)
     (held s x there live)
   where
-    by : ConnectedAt w j s z x → (c : ℕ) (o : Option Progress) → HeldBy h w d j x.way c o
-        → HeldBy h2 w2 u j x.way c o
+    by : ConnectedAt w j s z x → (c : ℕ) (o : Option Progress) → HeldBy h w d (here j z) x.way c o
+        → HeldBy h2 w2 u (here j z) x.way c o
     by at c None k = tt
-    by at c (Some p) k = λ m low high. keep j s z x at c p.request m (k m low high)
+    by at c (Some p) k = λ m low high. keep s x at c p.request m (k m low high)
 
 reach-net : (h : List Fact) (w : Moment) (f : Fact) → f.who ≡ Net → w ≡ moment_of h → Good w
     → Reach h w nothing → Reach (h ++ f ∷ []) (moved w f) (net_due f.event)
 reach-net h w f who is g reach =
     let same = nodes-net w f who in
     subst (λ (ns : List Lists). Placed (HeldNode (h ++ f ∷ []) (moved w f) (net_due f.event)) ns) (sym same)
-    (λ j z at. keeps-all h (h ++ f ∷ []) w (moved w f) nothing (net_due f.event) keep j z at (reach j z at))
+    (λ j z at. keeps-all h (h ++ f ∷ []) w (moved w f) nothing (net_due f.event) j z at
+    (keep j z) (reach j z at))
   where
-    keep : (j s : ℕ) (z : Lists) (x : Client) → ConnectedAt w j s z x → (c r k : ℕ)
-        → Held h w nothing j x.way c r k
-        → Held (h ++ f ∷ []) (moved w f) (net_due f.event) j x.way c r k
-    keep j s z x at c r k (inr v) = inr (lost-since h f j x.way c r v (rw who refl))
-    keep j s z x at c r k (inl some) =
-        elim (net-fate w f (pair_of j x.way) r k who some) [
+    keep : (j : ℕ) (z : Lists) (s : ℕ) (x : Client) → ConnectedAt w j s z x → (c r k : ℕ)
+        → Held h w nothing (here j z) x.way c r k
+        → Held (h ++ f ∷ []) (moved w f) (net_due f.event) (here j z) x.way c r k
+    keep j z s x at c r k (inr v) = inr (lost-since h f (here j z) x.way c r v (rw who refl))
+    keep j z s x at c r k (inl some) =
+        elim (net-fate w f (pair_of (here j z) x.way) r k who some) [
           | inl more ↦ inl more
-          | inr p ↦ inr (lost-now h w f j x.way c r k is
+          | inr p ↦ inr (lost-now h w f (here j z) x.way c r k is
               (λ d gone. is-from w g j s z x at r k d (net-speaks w g f.event d
               (subst (λ (v : Who). lost_by w v f.event f.first ≡ Some d) who gone))) p)
         ]
+
+-- a new node has no packets
+none-here : (p : Filter) (life t me own : ℕ) (limits : Limits)
+    → server_here p life t 0 (new_lists me own limits) ≡ 0
+none-here p life t me own limits = by (own == life)
+  where
+    by : (b : Bool) → cond {A = ℕ} b 0 0 ≡ 0
+    by true = refl
+    by false = refl
 
 reach-made : (h : List Fact) (w : Moment) (ring : ℕ) → Reach h w nothing
     → Reach (h ++ plain (length w.nodes) (Made ring) ∷ [])
@@ -330,22 +354,66 @@ reach-made h w ring reach =
     let f = plain (length w.nodes) (Made ring) in
     let new = new_lists (length w.nodes) first_life (with_ring ring) in
     add-placed (HeldNode (h ++ f ∷ []) (moved w f) nothing) w.nodes new (λ s x is. absurd (cc))
-    (λ j z at. keeps-all h (h ++ f ∷ []) w (moved w f) nothing nothing (λ i s y x here. keep i x.way) j z at
-    (reach j z at))
+    (λ j z at. keeps-all h (h ++ f ∷ []) w (moved w f) nothing nothing j z at
+    (λ s y x. keep (here j z) y.way) (reach j z at))
   where
-    keep : (j : ℕ) (way : Way) (c r k : ℕ) → Held h w nothing j way c r k
+    keep : (j : Endpoint) (way : Way) (c r k : ℕ) → Held h w nothing j way c r k
         → Held (h ++ plain (length w.nodes) (Made ring) ∷ []) (moved w (plain (length w.nodes)
         (Made ring))) nothing j way c r k
     keep j way c r k (inr v) =
-        inr (lost-since h (plain (length w.nodes) (Made ring)) j way c r v (at-false (length w.nodes == j) c
-        (Made ring) refl))
+        inr (lost-since h (plain (length w.nodes) (Made ring)) j way c r v
+        (at-false (length w.nodes == j.node) c (Made ring) refl))
     keep j way c r k (inl some) =
         let x = pair_of j way in
         let p = is_packet r k in
         let new = new_lists (length w.nodes) first_life (with_ring ring) in
         let a = added-by (client_packets p x.client) w.nodes new x.home (omega arith) in
-        let b = added-by (server_packets p x.session) w.nodes new x.node (omega arith) in
+        let b = added-by (server_here p x.node_life x.session 0) w.nodes new x.node
+        (none-here p x.node_life x.session (length w.nodes) first_life (with_ring ring)) in
         inl (omega arith)
+
+-- a node is restarted: of its own calls none is left, and those of other nodes that go to it have
+-- their cause
+module _ (h : List Fact) (w : Moment) (n : ℕ) (l : Lists) (is : slice_get w.nodes n ≡ Some l) where
+  abbrev again : Fact
+  again = plain n (Restarted (l.life + 1))
+
+  restart-nodes : (moved w again).nodes ≡ slice_set w.nodes n (restarted_lists l)
+  restart-nodes = ap (λ (o : Option Lists). anew o n w.nodes) is
+
+  restart-keep : (j : Endpoint) → (j.node ≡ n → ⊥) → (way : Way) (c r k : ℕ)
+      → Held h w nothing j way c r k → Held (h ++ again ∷ []) (moved w again) nothing j way c r k
+  restart-keep j ne way c r k (inr v) =
+      inr (lost-since h again j way c r v (at-false (n == j.node) c again.event refl))
+  restart-keep j ne way c r k (inl some) = by (n == way.peer) refl
+    where
+      by : (b : Bool) → (n == way.peer) ≡ b
+          → Held (h ++ again ∷ []) (moved w again) nothing j way c r k
+      by true t = inr (peer-restarts h again j way c r (ap (λ (b : Bool). b && true) t))
+      by false t =
+          let x = pair_of j way in
+          let p = is_packet r k in
+          let new = restarted_lists l in
+          let a = ap (value (client_packets p x.client)) (set-other w.nodes n j.node new ne) in
+          let b = ap (value (server_here p way.life way.other 0))
+          (set-other w.nodes n way.peer new (λ same. eqb-false n way.peer t (sym same))) in
+          let u = ap (client_part p x) restart-nodes in
+          let v = ap (server_now p x 0) restart-nodes in
+          inl (omega arith)
+
+  reach-restart : Reach h w nothing → Reach (h ++ again ∷ []) (moved w again) nothing
+  reach-restart reach =
+      let after_it = HeldNode (h ++ again ∷ []) (moved w again) nothing in
+      subst (λ (ns : List Lists). Placed after_it ns) (sym restart-nodes)
+      (set-placed after_it w.nodes n l (restarted_lists l) is (λ s x there. absurd (cc))
+      (λ j z ne at. keeps-all h (h ++ again ∷ []) w (moved w again) nothing nothing j z at
+      (λ s y x. restart-keep (here j z) ne y.way) (reach j z at)))
+
+  newest-restart : AllNewest w → AllNewest (moved w again)
+  newest-restart k =
+      subst (λ (ns : List Lists). Placed (λ j z. NewestNode z) ns) (sym restart-nodes)
+      (set-placed (λ j z. NewestNode z) w.nodes n l (restarted_lists l) is tt
+      (λ j z ne at. k j z at))
 
 -- a pairing
 module _ (h : List Fact) (w : Moment) (n m credits : ℕ) (client server : Lists)
@@ -359,12 +427,12 @@ module _ (h : List Fact) (w : Moment) (n m credits : ℕ) (client server : Lists
   abbrev w2 : Moment
   w2 = paired w n m credits client server
 
-  pair-keep : (j : ℕ) (way : Way) (c r k : ℕ) → Held h w nothing j way c r k
+  pair-keep : (j : Endpoint) (way : Way) (c r k : ℕ) → Held h w nothing j way c r k
       → Held ((h ++ one ∷ []) ++ other ∷ []) w2 nothing j way c r k
   pair-keep j way c r k (inr v) =
       inr (lost-since (h ++ one ∷ []) other j way c r
-      (lost-since h one j way c r v (at-false (n == j) c one.event refl))
-      (at-false (m == j) c other.event refl))
+      (lost-since h one j way c r v (at-false (n == j.node) c one.event refl))
+      (at-false (m == j.node) c other.event refl))
   pair-keep j way c r k (inl some) =
       let x = pair_of j way in
       let p = is_packet r k in
@@ -372,23 +440,24 @@ module _ (h : List Fact) (w : Moment) (n m credits : ℕ) (client server : Lists
       (lists1 w n m credits client server e) e.is_client refl in
       let a2 = part-same (client_packets p x.client) (nodes1 w n m credits client server e) m x.home server
       (lists2 w n m credits client server e) (is_server1 w n m credits client server e) refl in
-      let b = part-same (server_packets p x.session) w.nodes n x.node client
+      let b = part-same (server_here p x.node_life x.session 0) w.nodes n x.node client
       (lists1 w n m credits client server e) e.is_client refl in
-      let b2 = part-same (server_packets p x.session) (nodes1 w n m credits client server e) m x.node server
+      let b2 = part-same (server_here p x.node_life x.session 0) (nodes1 w n m credits client server e) m x.node server
       (lists2 w n m credits client server e) (is_server1 w n m credits client server e) refl in
       let u = ap (client_part p x) (paired-nodes w n m credits client server e) in
-      let v = ap (server_part p x) (paired-nodes w n m credits client server e) in
+      let v = ap (server_now p x 0) (paired-nodes w n m credits client server e) in
       inl (omega arith)
 
   reach-paired : Reach h w nothing → Reach ((h ++ one ∷ []) ++ other ∷ []) w2 nothing
   reach-paired reach =
       let h2 = (h ++ one ∷ []) ++ other ∷ [] in
       let kept : Placed (HeldNode h2 w2 nothing) w.nodes =
-      λ j z at. keeps-all h h2 w w2 nothing nothing (λ i s y x here. pair-keep i x.way) j z at (reach j z at) in
+      λ j z at. keeps-all h h2 w w2 nothing nothing j z at
+      (λ s y x. pair-keep (here j z) y.way) (reach j z at) in
       let first : Placed (HeldNode h2 w2 nothing) (nodes1 w n m credits client server e) =
       set-placed (HeldNode h2 w2 nothing) w.nodes n client (lists1 w n m credits client server e) e.is_client
-      (add-placed (λ s x. HeldClient h2 w2 nothing n x) client.clients
-      (client_end (length client.clients) m server.server_numbers credits) (λ live. tt)
+      (add-placed (λ s x. HeldClient h2 w2 nothing (here n client) x) client.clients
+      (client_end (length client.clients) m server.server_numbers credits server.life) (λ live. tt)
       (kept n client e.is_client)) (λ j z ne at. kept j z at) in
       subst (λ (ns : List Lists). Placed (HeldNode h2 w2 nothing) ns) (sym (paired-nodes w n m credits client server e))
       (set-placed (HeldNode h2 w2 nothing) (nodes1 w n m credits client server e) m server
@@ -411,7 +480,7 @@ newest-node : (w : Moment) (n : ℕ) (l : Lists) (f : Fact) → AtNode w n l f �
 newest-node w n l f a g v k =
     let good = g.nodes n l a.is_node in
     let here = newest-after w.clock w.hand l f.event f.first f.second (v n l a.is_node) a.lawful a.allowed.may
-    (λ x s found. (good.clients s x (client-at g.known n l.clients s x good.clients found).0).eight)
+    (λ x s found. (good.clients s x (client-at g.known (here n l) l.clients s x good.clients found).0).eight)
     (k n l a.is_node) in
     subst (λ (u : Moment). AllNewest u) (sym (moved-node w n l f a))
     (set-placed (λ j z. NewestNode z) w.nodes n l (after w.clock l f) a.is_node here (λ j z ne at. k j z at))
@@ -499,6 +568,19 @@ course-reach _ _ _ (made w ring x v c) h d u m at =
       living = living-made w ring at.living;
       newest = newest-made w ring at.newest;
       reach = subst (Reach (h ++ f ∷ []) (moved w f)) (sym by.1) (reach-made h w ring reach);
+    }))
+course-reach _ _ _ (restarts w n l x v is me life c) h d u m at =
+    let f = plain n (Restarted (l.life + 1)) in
+    let by = at-one w.hand (slice_get w.nodes n) f.event [] d m.0 refl m.1 in
+    let reach : Reach h w nothing = subst (Reach h w) by.0 at.reach in
+    subst (λ (y : List Fact). At y v u) (append_assoc h (f ∷ []) x)
+    (course-reach (moved w f) x v c (h ++ f ∷ []) m.0 u m.2 (record {
+      moment = next-moment h w f at.moment;
+      right = right-restart w n l is at.right;
+      valid = valid-restart w n l is at.valid;
+      living = living-restart w n l is me at.living;
+      newest = newest-restart h w n l is at.newest;
+      reach = subst (Reach (h ++ f ∷ []) (moved w f)) (sym by.1) (reach-restart h w n l is reach);
     }))
 course-reach _ _ _ (at_node w n l f x v a c) h d u m at =
     let who : f.who ≡ Node n = a.allowed.who ∙ ap Node a.me in

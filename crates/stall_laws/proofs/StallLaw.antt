@@ -1,6 +1,7 @@
 -- Where a history is settled, each call that isn't over has its cause.
 use Rattle.stall_laws.proofs.Living.{first-living}
-use Rattle.std.proofs.Common.{◌≡◌, ◌<◌, ◌≤◌, ◌⊎◌, inl, inr, ℕ, zero, suc, nat_lt, Bool, true, false}
+use Rattle.std.proofs.Common.{◌≡◌, ◌<◌, ◌≤◌, ◌==◌, ◌⊎◌, inl, inr, ℕ, zero, suc, nat_lt, Bool}
+use Rattle.std.proofs.Common.{true, false, cond}
 use Rattle.std.proofs.Common.{List, [], ◌∷◌}
 use Rattle.std.proofs.Common.{length, Option, Some, None, slice_get, refl, sym, ap, ◌∙◌, subst}
 use Rattle.std.proofs.Common.{arith, ltb-true, ltb-false}
@@ -17,6 +18,8 @@ use Rattle.rpc_laws.specs.declared.tables.Lists.{Lists}
 use Rattle.rpc_laws.specs.declared.tables.Progress.{Progress}
 use Rattle.rpc_laws.specs.declared.tables.Timed.{Timed}
 use Rattle.rpc_laws.specs.Calls.{asked_packets, known_packets}
+use Rattle.rpc_laws.specs.Endpoints.{Endpoint}
+use Rattle.rpc_laws.specs.Lives.{first_life}
 use Rattle.rpc_laws.specs.Posting.{can_post, has_postable}
 use Rattle.rpc_laws.specs.Service.{plain_serving}
 use Rattle.rpc_laws.specs.Sessions.{is_connected}
@@ -24,13 +27,14 @@ use Rattle.rpc_laws.specs.UsualLimits.{with_ring}
 use Rattle.script_grammar.specs.declared.line.Line.{Line}
 use Rattle.sim_script.specs.FollowsScript.{Follows, empty_stage}
 use Rattle.end_laws.specs.Moments.{Moment, first_moment}
+use Rattle.end_laws.specs.TwoEnds.{here}
 use Rattle.end_laws.specs.TwoNodes.{PairsTwo, PairsTwoNodes}
 use Rattle.end_laws.proofs.Allowed.{is_packet}
 use Rattle.end_laws.proofs.GoodStart.{first-right}
 use Rattle.end_laws.proofs.ListLemmas.{all-front}
 use Rattle.end_laws.proofs.PairLeads.{follows-lead, empty-fits}
 use Rattle.ring_laws.proofs.Counting.{value}
-use Rattle.ring_laws.proofs.Loads.{Filter, Pairing, client_packets, server_packets, on_way}
+use Rattle.ring_laws.proofs.Loads.{Filter, Pairing, client_packets, on_way}
 use Rattle.world_laws.specs.FewCredits.{PairsFew, PairsFewCredits}
 use Rattle.world_laws.specs.NodeFacts.{facts_of, RunAt, IsRun}
 use Rattle.world_laws.proofs.ScriptLaws.{script-runs}
@@ -40,14 +44,14 @@ use Rattle.stall_laws.specs.Settled.{IsSettled, IsEmpty, awaits_poll, moment_of}
 use Rattle.stall_laws.proofs.Dues.{nothing}
 use Rattle.stall_laws.proofs.Ends.{end-of}
 use Rattle.stall_laws.proofs.Held.{pair_of, Held}
-use Rattle.stall_laws.proofs.IdleLaw.{run-rests}
+use Rattle.stall_laws.proofs.IdleLaw.{lives-rests}
 use Rattle.stall_laws.proofs.Moves.{follows-moves, course-end}
 use Rattle.stall_laws.proofs.OnePlace.{placed-all}
 use Rattle.stall_laws.proofs.Ongoing.{OngoingBy, OngoingCall, Ongoing}
 use Rattle.stall_laws.proofs.Reach.{HeldBy, HeldCall, HeldNode}
 use Rattle.stall_laws.proofs.ReachLaw.{At, course-reach}
 use Rattle.stall_laws.proofs.Resting.{AllBegun, AllPosted, Rests}
-use Rattle.stall_laws.proofs.Standing.{standing}
+use Rattle.stall_laws.proofs.Standing.{server_here, standing}
 
 -- nothing is known before the first fact
 first-at : At [] first_moment nothing
@@ -67,17 +71,23 @@ client-none : (p : Filter) (s : ℕ) (nodes : List Lists) (n : ℕ) (o : Option 
 client-none p s nodes n None is e = refl
 client-none p s nodes n (Some l) is e = let k = e l is in rw (k.queued, k.ring) refl
 
-server-none : (p : Filter) (t : ℕ) (nodes : List Lists) (n : ℕ) (o : Option Lists) → slice_get nodes n ≡ o
-    → ((l : Lists) → slice_get nodes n ≡ Some l → IsEmpty l)
-    → value (server_packets p t) o ≡ 0
-server-none p t nodes n None is e = refl
-server-none p t nodes n (Some l) is e = let k = e l is in rw (k.queued, k.ring, k.jobs) refl
+none-by : (b : Bool) → cond {A = ℕ} b 0 0 ≡ 0
+none-by true = refl
+none-by false = refl
+
+server-none : (p : Filter) (life t : ℕ) (nodes : List Lists) (n : ℕ) (o : Option Lists)
+    → slice_get nodes n ≡ o → ((l : Lists) → slice_get nodes n ≡ Some l → IsEmpty l)
+    → value (server_here p life t 0) o ≡ 0
+server-none p life t nodes n None is e = refl
+server-none p life t nodes n (Some l) is e =
+    let k = e l is in rw (k.queued, k.ring, k.jobs) (none-by (l.life == life))
 
 none-stands : (r k : ℕ) (x : Pairing) (w : Moment) → w.flight ≡ []
     → ((n : ℕ) (l : Lists) → slice_get w.nodes n ≡ Some l → IsEmpty l) → standing r k x nothing w ≡ 0
 none-stands r k x w flight empty =
     let a = client-none (is_packet r k) x.client w.nodes x.home (slice_get w.nodes x.home) refl (empty x.home) in
-    let b = server-none (is_packet r k) x.session w.nodes x.node (slice_get w.nodes x.node) refl (empty x.node) in
+    let b = server-none (is_packet r k) x.node_life x.session w.nodes x.node
+    (slice_get w.nodes x.node) refl (empty x.node) in
     let c : on_way (is_packet r k) x w.flight ≡ 0 = ap (on_way (is_packet r k) x) flight in
     omega arith
 
@@ -86,7 +96,7 @@ node-rests : (n : ℕ) (facts : List Fact) (t : Timed) → awaits_poll false fac
     → IsRun n facts t → AllByRecursion Ongoing t.lists.clients
     × AllByRecursion Rests t.lists.clients
 node-rests n facts t e r =
-    let rest = run-rests plain_serving.mode n (with_ring r.ring) r.later t r.run.steps in
+    let rest = lives-rests plain_serving n (with_ring r.ring) first_life r.later t r.run in
     (rest.ongoing, rest.rests (sym (ap (awaits_poll false) r.made) ∙ e))
 
 past : {A : Type 0} (xs : List A) (j : ℕ) → slice_get xs j ≡ None → length xs ≤ j
@@ -95,7 +105,7 @@ past (y ∷ ys) zero h = cc
 past (y ∷ ys) (suc j) h = let le = past ys j h in omega arith
 
 -- a cause for each call
-cause-by : (h : List Fact) (n : ℕ) (x : Client) (c : Call) (o : Option Progress) → c.progress ≡ o
+cause-by : (h : List Fact) (n : Endpoint) (x : Client) (c : Call) (o : Option Progress) → c.progress ≡ o
     → IsSettled h → OngoingBy c.what o → AllBegun x × AllPosted x → (is_some o ≡ false → active_calls x ≡ 8)
     → (can_post c ≡ false → has_postable c.what o ≡ false)
     → (x.free ≡ 0) ⊎ (can_post c ≡ false)
@@ -122,7 +132,7 @@ cause-by h n x c (Some p) is settled on rests eight can posted held = by (nat_lt
         lost lt (held p.got (omega arith) lt)
     by false e = free (ltb-false p.got p.posted e) posted
 
-call-caused : (h : List Fact) (n : ℕ) (x : Client) (c : Call) (i : ℕ) → slice_get x.calls i ≡ Some c
+call-caused : (h : List Fact) (n : Endpoint) (x : Client) (c : Call) (i : ℕ) → slice_get x.calls i ≡ Some c
     → IsSettled h → OngoingCall c → AllBegun x × AllPosted x
     → HeldCall h (moment_of h) nothing n x.way c → CauseBy h n x c.what.number c.progress
 call-caused h n x c i is settled on rests held =
@@ -136,7 +146,7 @@ call-caused h n x c i is settled on rests held =
     posted (inl e) = inl e
     posted (inr all) = inr (all-at (λ d. can_post d ≡ false) x.calls i c all is)
 
-client-caused : (h : List Fact) (n : ℕ) (x : Client) → IsSettled h → Ongoing x → Rests x
+client-caused : (h : List Fact) (n : Endpoint) (x : Client) → IsSettled h → Ongoing x → Rests x
     → (is_connected x.state ≡ true → AllByRecursion (HeldCall h (moment_of h) nothing n x.way) x.calls)
     → AllByRecursion (λ c. CauseBy h n x c.what.number c.progress) x.calls
 client-caused h n x settled on rests held = by (is_connected x.state) refl
@@ -168,7 +178,8 @@ script-caused lines h two few f settled n l is =
         → (nodes : List Lists) → length nodes ≡ length f.0.nodes → slice_get nodes n ≡ Some l
         → ((t : Timed) → slice_get f.0.nodes n ≡ Some t → slice_get nodes n ≡ Some t.lists)
         → HeldNode h (moment_of h) nothing n l
-        → AllByRecursion (λ x. AllByRecursion (λ c. CauseBy h n x c.what.number c.progress) x.calls) l.clients
+        → AllByRecursion (λ x. AllByRecursion (λ c. CauseBy h (here n l) x c.what.number c.progress)
+        x.calls) l.clients
     by None none run nodes size there nodes_are reach =
         let low = slice_get_within nodes n l there in
         let high = past f.0.nodes n none in
@@ -181,8 +192,9 @@ script-caused lines h two few f settled n l is =
         rest.0 in
         let rests : AllByRecursion Rests l.clients = subst (λ (m : Lists). AllByRecursion Rests m.clients) same
         rest.1 in
-        placed-all (λ x. AllByRecursion (λ c. CauseBy h n x c.what.number c.progress) x.calls) l.clients
-        (λ s x at. client-caused h n x settled (all-at Ongoing l.clients s x on at)
+        placed-all (λ x. AllByRecursion (λ c. CauseBy h (here n l) x c.what.number c.progress)
+        x.calls) l.clients
+        (λ s x at. client-caused h (here n l) x settled (all-at Ongoing l.clients s x on at)
         (all-at Rests l.clients s x rests at) (reach s x at))
 
 -- at each end of a command

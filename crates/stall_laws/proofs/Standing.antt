@@ -1,7 +1,9 @@
 -- Where a packet of a session stands: at one of its ends, in flight, in hand, or due.
 use Rattle.std.proofs.Common.{◌≡◌, ◌+◌, ◌-◌, ◌≤◌, ◌==◌, ◌&&◌, ℕ, Bool, true, cond, List, []}
-use Rattle.std.proofs.Common.{length, Option, None, refl, ap, eq-eqb, arith, false, subst}
-use Rattle.std.proofs.lemmas.Bool.{eqb-true}
+use Rattle.std.proofs.Common.{length, Option, Some, None, refl, ap, eq-eqb, arith, false, subst}
+use Rattle.std.proofs.Common.{◌∙◌, slice_get}
+use Rattle.std.proofs.lemmas.Bool.{both_ways, eqb-true}
+use Rattle.packet_header.specs.declared.packet.MessageHeader.{MessageHeader}
 use Rattle.rpc_laws.specs.Requests.{is_server}
 use Rattle.std.specs.Prelude.{option_to_list}
 use Rattle.std.specs.List.{find}
@@ -10,24 +12,30 @@ use Rattle.packet_header.specs.Reading.{message_of}
 use Rattle.rpc_base.proofs.BasicLemmas.{false-true}
 use Rattle.rpc_base.specs.declared.event.Event.{Event}
 use Rattle.rpc_base.specs.declared.event.Event.TheVariants.{Posted, Flushed, Took, Again, Given}
-use Rattle.rpc_base.specs.declared.event.Event.TheVariants.{Ran, Arrived}
+use Rattle.rpc_base.specs.declared.event.Event.TheVariants.{Ran, Arrived, Dropped}
 use Rattle.rpc_base.specs.declared.event.Event.TheVariants.{Overflowed, Bad, Rolled, Broken}
 use Rattle.rpc_base.specs.declared.owner.Owner.TheVariants.{Ask, Reply, Control}
 use Rattle.rpc_laws.specs.declared.tables.InFlight.{InFlight}
 use Rattle.rpc_laws.specs.declared.tables.Job.{Job}
 use Rattle.rpc_laws.specs.declared.tables.Lists.{Lists}
 use Rattle.rpc_laws.specs.declared.tables.Queued.{Queued}
+use Rattle.rpc_laws.specs.Facts.{with_two}
+use Rattle.rpc_laws.specs.Front.{front_header}
 use Rattle.rpc_laws.specs.Jobs.{is_job, new_job, jobs_after}
+use Rattle.rpc_laws.specs.NodeLists.{after}
+use Rattle.rpc_laws.specs.Pacing.{due_of}
 use Rattle.rpc_laws.specs.Queues.{ring_after, queued_after}
+use Rattle.end_laws.specs.Kinds.{is_ask}
 use Rattle.end_laws.specs.Moments.{Moment}
 use Rattle.end_laws.proofs.Allowed.{May, owes, is_packet}
 use Rattle.end_laws.proofs.Rights.{job-number}
 use Rattle.ring_laws.proofs.ClientReach.{is_noted}
-use Rattle.ring_laws.proofs.Counting.{count, count-append, count-out, count-found}
+use Rattle.ring_laws.proofs.ClientSteps.{front-counts}
+use Rattle.ring_laws.proofs.Counting.{count, count-append, count-out, count-found, value}
 use Rattle.ring_laws.proofs.Loads.{Filter, Pairing, asks, own_job, own_reply, server_packets}
-use Rattle.ring_laws.proofs.Loads.{count-put}
-use Rattle.ring_laws.proofs.Loads.{given_ask, sent_reply, client_part, server_part, on_way}
-use Rattle.ring_laws.proofs.ServerReach.{is_other, server-reach, spilt_ask}
+use Rattle.ring_laws.proofs.Loads.{count-arrives, count-put}
+use Rattle.ring_laws.proofs.Loads.{given_ask, sent_reply, client_part, on_way}
+use Rattle.ring_laws.proofs.ServerReach.{drop-counts, is_other, server-reach, spilt_ask}
 use Rattle.ring_laws.proofs.ServerSteps.{new-counts}
 use Rattle.stall_laws.proofs.Dues.{Due, nothing, reply, delivery, flushed, covers, is_alone, Step}
 use Rattle.stall_laws.proofs.Dues.{alone, older}
@@ -50,12 +58,27 @@ abbrev pub due_copy : Due → Option InFlight → List InFlight
 due_copy delivery hand = option_to_list hand
 due_copy _ hand = []
 
+-- packets for a server session of another life than its node has stand in the ring alone
+abbrev pub foreign_packets : Filter → (life t : ℕ) → Lists → ℕ
+foreign_packets p life t l = count (λ a. asks p life t (message_of a.bytes)) l.ring
+
+-- what a node has of server session t of this life, where so many of its replies are due: packets
+-- of its own where that is its present life
+abbrev pub server_here : Filter → (life t owed : ℕ) → Lists → ℕ
+server_here p life t owed l =
+    cond (l.life == life) (server_packets p t l + owed) (foreign_packets p life t l)
+
+abbrev pub server_now : Filter → Pairing → (owed : ℕ) → List Lists → ℕ
+server_now p x owed nodes =
+    value (server_here p x.node_life x.session owed) (slice_get nodes x.node)
+
 -- in how many places packet k of request r stands
 abbrev pub standing : (r k : ℕ) → Pairing → Due → Moment → ℕ
 standing r k x d w =
-    client_part (is_packet r k) x w.nodes + server_part (is_packet r k) x w.nodes
-    + owed_at (is_packet r k) x.node x.session d + flushed_at r x.home x.client d
-    + on_way (is_packet r k) x w.flight + on_way (is_packet r k) x (due_copy d w.hand)
+    client_part (is_packet r k) x w.nodes
+    + server_now (is_packet r k) x (owed_at (is_packet r k) x.node x.session d) w.nodes
+    + flushed_at r x.home x.client d + on_way (is_packet r k) x w.flight
+    + on_way (is_packet r k) x (due_copy d w.hand)
 
 -- which facts are noted, and of which the server's lemma speaks
 alone-other : (e : Event) → is_alone e ≡ true → is_other e ≡ true
@@ -103,10 +126,10 @@ self p n t s r k = ap {B = ℕ} (λ (b : Bool). cond (b && (s == t && p r k)) 1 
 -- a packet of a server session stays there, or is sent, dropped or flushed
 abbrev pub ServerMoves : Filter → ℕ → Option ℕ → Due → Due → Event → List ℕ → Lists → Type 0
 ServerMoves p t due d u e first l =
-    server_packets p t l + owed_at p l.me t d + given_ask p t e first ≤ count
+    server_packets p t l + owed_at p l.me t d + given_ask p l.life t e first ≤ count
     (λ q. own_reply p t q.owner q.number) (queued_after e due l.queued)
     + count (own_job p t) (jobs_after e l.servers l.jobs).out
-    + count (λ a. asks p t (message_of a.bytes)) (ring_after e first l.ring)
+    + count (λ a. asks p l.life t (message_of a.bytes)) (ring_after e first l.ring)
     + owed_at p l.me t u + sent_reply p t e + spilt_ask p t e l
 
 pub server-moves : (p : Filter) (t : ℕ) (due : Option ℕ) (hand : Option InFlight) (l : Lists)
@@ -194,3 +217,112 @@ server-moves p t due hand l first second d e u (breaks (flushed n a b) s go) m s
     let g = server-reach p t due hand l (Broken s) first second m refl in omega arith
 server-moves p t due hand l first second d e u (breaks (reply n a b k) s go) m stands = absurd go
 server-moves p t due hand l first second d e u (breaks delivery s go) m stands = absurd go
+
+-- what a fact takes out of the ring or the queue otherwise; own: the session is of the present life
+abbrev pub spilt_at : Filter → (life t : ℕ) → (own : Bool) → Event → Lists → ℕ
+spilt_at p life t own (Dropped why) l = cond (asks p life t (front_header l.ring)) 1 0
+spilt_at p life t own (Flushed (Reply s r) k) l = cond (own && (s == t && p r k)) 1 0
+spilt_at p life t own _ l = 0
+
+spilt-own : (p : Filter) (t : ℕ) (e : Event) (l : Lists)
+    → spilt_at p l.life t true e l ≡ spilt_ask p t e l
+spilt-own p t (Dropped why) l = refl
+spilt-own p t (Flushed (Reply s r) k) l = refl
+spilt-own p t (Flushed (Ask s r) k) l = refl
+spilt-own p t (Flushed Control k) l = refl
+spilt-own p t _ l = refl
+
+-- a packet for another life stays in the ring, or is dropped
+abbrev ForeignMoves : Filter → (life t : ℕ) → Event → List ℕ → Lists → Type 0
+ForeignMoves p life t e first l =
+    foreign_packets p life t l + given_ask p life t e first ≤ count
+    (λ a. asks p life t (message_of a.bytes)) (ring_after e first l.ring)
+    + spilt_at p life t false e l
+
+other-life : (p : Filter) (life t : ℕ) (l : Lists) (h : MessageHeader) → (l.life == life) ≡ false
+    → h.to_life ≡ l.life → cond {A = ℕ} (asks p life t (Some h)) 1 0 ≡ 0
+other-life p life t l h apart goes =
+    let no : (h.to_life == life) ≡ false = ap (λ (i : ℕ). i == life) goes ∙ apart in
+    rw no (by (is_ask h.kind))
+  where
+    by : (b : Bool) → cond {A = ℕ} (b && false) 1 0 ≡ 0
+    by true = refl
+    by false = refl
+
+foreign-moves : (p : Filter) (life t : ℕ) (hand : Option InFlight) (l : Lists) (e : Event)
+    (first second : List ℕ) → (l.life == life) ≡ false → May hand l e first second
+    → is_noted e ≡ true → ForeignMoves p life t e first l
+foreign-moves p life t hand l (Arrived peer) first second apart m noted =
+    let r = count-arrives (asks p life t) refl (record { peer = peer; bytes = first }) l.ring in
+    omega arith
+foreign-moves p life t hand l (Took (Reply s r) k) first second apart m noted =
+    let front = front-counts (asks p life t) l.ring m.front m.header m.is_front.is_front
+    m.is_front.reads in
+    let none = other-life p life t l m.header apart m.is_front.for_us in
+    omega arith
+foreign-moves p life t hand l (Took (Ask s r) k) first second apart m noted =
+    let front = front-counts (asks p life t) l.ring m.front m.header m.is_front.is_front
+    m.is_front.reads in
+    let none = other-life p life t l m.header apart m.is_front.for_us in
+    omega arith
+foreign-moves p life t hand l (Took Control k) first second apart m noted = absurd m
+foreign-moves p life t hand l (Again (Reply s r) k) first second apart m noted =
+    let front = front-counts (asks p life t) l.ring m.front m.header m.is_front.is_front
+    m.is_front.reads in
+    let none = other-life p life t l m.header apart m.is_front.for_us in
+    omega arith
+foreign-moves p life t hand l (Again (Ask s r) k) first second apart m noted =
+    absurd (both_ways false refl noted)
+foreign-moves p life t hand l (Again Control k) first second apart m noted =
+    absurd (both_ways false refl noted)
+foreign-moves p life t hand l (Dropped why) first second apart m noted =
+    let d = drop-counts p life t l.ring in omega arith
+foreign-moves p life t hand l _ first second apart m noted = omega arith
+
+-- so a packet of a server session of whatever life moves
+abbrev pub HereMoves : Filter → (life t : ℕ) → (own : Bool) → (clock n : ℕ) → (d u : Due)
+    → (e : Event) → (first second : List ℕ) → Lists → Type 0
+HereMoves p life t own clock n d u e first second l =
+    server_here p life t (owed_at p l.me t d) l + given_ask p life t e first
+    ≤ server_here p life t (owed_at p l.me t u) (after clock l (with_two n e first second))
+    + cond own (sent_reply p t e) 0 + spilt_at p life t own e l
+
+server-own : (p : Filter) (life t o : ℕ) (l : Lists) → (l.life == life) ≡ true
+    → server_here p life t o l ≡ server_packets p t l + o
+server-own p life t o l e =
+    ap (λ (b : Bool). cond b (server_packets p t l + o) (foreign_packets p life t l)) e
+
+server-foreign : (p : Filter) (life t o : ℕ) (l : Lists) → (l.life == life) ≡ false
+    → server_here p life t o l ≡ foreign_packets p life t l
+server-foreign p life t o l e =
+    ap (λ (b : Bool). cond b (server_packets p t l + o) (foreign_packets p life t l)) e
+
+own-moves : (p : Filter) (t clock n : ℕ) (hand : Option InFlight) (l : Lists)
+    (first second : List ℕ) (d : Due) (e : Event) (u : Due) → Step hand l first d e u
+    → May hand l e first second → (find (is_server t) l.servers ≡ None → ⊥)
+    → HereMoves p l.life t true clock n d u e first second l
+own-moves p t clock n hand l first second d e u step m stands =
+    let now = after clock l (with_two n e first second) in
+    let moves = server-moves p t (due_of clock e l.paces) hand l first second d e u step m stands in
+    let self : (l.life == l.life) ≡ true = eq-eqb l.life l.life refl in
+    let before = server-own p l.life t (owed_at p l.me t d) l self in
+    let later = server-own p l.life t (owed_at p l.me t u) now self in
+    let spilt = spilt-own p t e l in
+    omega arith
+
+pub here-moves : (p : Filter) (life t clock n : ℕ) (own : Bool) (hand : Option InFlight)
+    (l : Lists) (first second : List ℕ) (d : Due) (e : Event) (u : Due)
+    → (l.life == life) ≡ own → Step hand l first d e u → May hand l e first second
+    → (l.life ≡ life → find (is_server t) l.servers ≡ None → ⊥)
+    → HereMoves p life t own clock n d u e first second l
+here-moves p life t clock n true hand l first second d e u same step m stands =
+    let is = eqb-true l.life life same in
+    subst (λ (i : ℕ). HereMoves p i t true clock n d u e first second l) is
+    (own-moves p t clock n hand l first second d e u step m (stands is))
+here-moves p life t clock n false hand l first second d e u apart step m stands =
+    let now = after clock l (with_two n e first second) in
+    let moves = foreign-moves p life t hand l e first second apart m
+    (step-noted hand l first d e u step) in
+    let before = server-foreign p life t (owed_at p l.me t d) l apart in
+    let later = server-foreign p life t (owed_at p l.me t u) now apart in
+    omega arith

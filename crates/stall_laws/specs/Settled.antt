@@ -2,7 +2,7 @@
 use Rattle.std.specs.Prelude.{ℕ, ◌≡◌, Bool, true, false, Some, List, [], ◌∷◌, slice_get}
 use Rattle.end_laws.specs.Moments.{Moment, first_moment, moved}
 use Rattle.rpc_base.specs.declared.event.Event.{Event}
-use Rattle.rpc_base.specs.declared.event.Event.TheVariants.{Asked, Polled}
+use Rattle.rpc_base.specs.declared.event.Event.TheVariants.{Asked, Polled, Restarted}
 use Rattle.rpc_base.specs.declared.fact.Fact.{Fact}
 use Rattle.rpc_laws.specs.declared.tables.Lists.{Lists}
 use Rattle.world_laws.specs.NodeFacts.{facts_of}
@@ -22,10 +22,11 @@ pub record IsEmpty (l : Lists) : Type 0 where
   pub queued : l.queued ≡ []
   pub jobs : l.jobs.out ≡ []
 
--- whether a call was asked and no poll came since
+-- whether a call was asked in the present life and no poll came since
 abbrev pub awaits_after : Event → Bool → Bool
 awaits_after (Asked call session req_type room) awaits = true
 awaits_after (Polled now) awaits = false
+awaits_after (Restarted life) awaits = false
 awaits_after _ awaits = awaits
 
 abbrev pub awaits_poll : Bool → List Fact → Bool

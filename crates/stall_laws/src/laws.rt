@@ -10,9 +10,10 @@ ghost use Rattle.stall_laws.specs.NoStall.{NoStall};
 ghost use Rattle.world_laws.specs.FewCredits.{PairsFewCredits};
 
 /// At each end of a command at which nothing is in flight, all lists are empty and no call was
-/// asked since its node's last poll, each call that isn't over has a cause. Where it has unanswered
-/// packets, a datagram of its request was lost, found a full ring or was dropped since it began or
-/// was rolled back last. An active call without any has no free credit, and a waiting one no slot.
+/// asked since its node's last poll, each call of a present life that isn't over has a cause. Where
+/// it has unanswered packets, a datagram of its request was lost, found a full ring or was dropped,
+/// or its peer was restarted, since it began or was rolled back last. An active call without any
+/// has no free credit, and a waiting one no slot.
 pub fn no_stall()
     ensures { (script : List Line) (h : List Fact) → PairsTwoNodes script
         → PairsFewCredits script → Follows script h → NoStall script h }
