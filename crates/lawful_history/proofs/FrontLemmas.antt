@@ -9,7 +9,9 @@ use Rattle.report_text.specs.Told.{IsTold}
 use Rattle.rpc_base.specs.declared.event.Event.TheVariants.{Made}
 use Rattle.rpc_base.specs.declared.fact.Fact.{Fact}
 use Rattle.rpc_laws.specs.AtMostOnce.{is_at}
+use Rattle.rpc_laws.specs.Endpoints.{Lived, told}
 use Rattle.rpc_laws.specs.Facts.{plain}
+use Rattle.rpc_laws.specs.Lives.{first_life}
 use Rattle.rpc_laws.specs.OwnAnswer.{AtEach}
 use Rattle.rpc_laws.specs.Service.{plain_serving}
 use Rattle.rpc_laws.specs.UsualLimits.{with_ring}
@@ -21,9 +23,10 @@ pub all-front : (P : Fact → Type 0) (x y : List Fact) → AllByRecursion P (x 
 all-front P [] y a = tt
 all-front P (f ∷ x) y a = (a.0, all-front P x y a.1)
 
-pub each-front : (P : List Fact → Fact → Type 0) (past x y : List Fact) → AtEach P past (x ++ y) → AtEach P past x
+pub each-front : (P : List Lived → Fact → Type 0) (past : List Lived) (x y : List Fact) → AtEach P past (x ++ y)
+    → AtEach P past x
 each-front P past [] y a = tt
-each-front P past (f ∷ x) y a = (a.0, each-front P (f ∷ past) x y a.1)
+each-front P past (f ∷ x) y a = (a.0, each-front P (told past f ∷ past) x y a.1)
 
 -- whether a node is in the midst of a poll is told by its own facts
 pub open-own : (n : ℕ) (busy : Bool) (h : List Fact) → is_open n busy h ≡ ends_open busy (facts_of n h)
@@ -48,12 +51,12 @@ runs-front n (f ∷ g) x (nowhere e) shut = absurd (no-empty e)
 runs-front n (f ∷ g) x (runs t r) shut =
     let head : f ≡ plain n (Made r.ring) = first r.made in
     let tail : g ++ x ≡ r.later = rest r.made in
-    let run : NodeRun plain_serving n (with_ring r.ring) (g ++ x) t =
-    subst (λ (z : List Fact). NodeRun plain_serving n (with_ring r.ring) z t) (sym tail) r.run in
+    let run : NodeRun plain_serving n (with_ring r.ring) first_life (g ++ x) t =
+    subst (λ (z : List Fact). NodeRun plain_serving n (with_ring r.ring) first_life z t) (sym tail) r.run in
     let closed : ends_open false g ≡ false =
     subst (λ (z : Fact). ends_open (open_after z.event false) g ≡ false) head shut in
-    let p = run-front plain_serving n (with_ring r.ring) g x t run closed in
-    runs p.between (record { ring = r.ring; later = g; made = ap (λ (z : Fact). z ∷ g) head; run = p.run })
+    let p = run-front plain_serving n first_life (with_ring r.ring) g x t run closed in
+    runs p.left (record { ring = r.ring; later = g; made = ap (λ (z : Fact). z ∷ g) head; run = p.run })
   where
     first : f ∷ g ++ x ≡ plain n (Made r.ring) ∷ r.later → f ≡ plain n (Made r.ring)
     first e = cc

@@ -16,7 +16,7 @@ pub record Checked (h : List Fact) : Type 0 where
   pub net : AllOfNet h
   -- each fact is of a call, as the facts before it tell
   pub calls : AtEach (λ past f. is_own_at past f.who f.event f.first ≡ true) [] h
-  -- before a repeat and a rollback no packet of a call finds a full ring
+  -- before a repeat, a rollback and a restart no packet of a call finds a full ring
   pub fits : MessagesFit h
   -- each fact has just the bytes that its line shows
   pub told : AllTold h

@@ -5,8 +5,8 @@ ghost use Rattle.lawful_history.specs.OwnTold.{WhatIsOwnIsTold, WhatIsToldIsOwn}
 
 /// A history is lawful where each node's facts are its Made and a run, the network notes its own
 /// events, each handler runs on its call's bytes and each call ends with its answer, no message
-/// finds a full ring before a repeat and a rollback, and each fact has the bytes that its line
-/// shows.
+/// finds a full ring before a repeat, a rollback and a restart, and each fact has the bytes that
+/// its line shows.
 pub fn runs_are_lawful()
     ensures { RunsAreLawful }
 {}
@@ -23,15 +23,15 @@ pub fn what_is_told_is_own()
     ensures { WhatIsToldIsOwn }
 {}
 
-/// In a history that is own, and in which numbers are used once, each fact's call is told by the
-/// facts before it.
+/// In a history that is own, and in which the numbers of each endpoint are used once, each fact's
+/// call is told by the facts before it.
 pub fn what_is_own_is_told()
     ensures { WhatIsOwnIsTold }
 {}
 
 /// A history is lawful exactly where each node's facts are its Made and a run, the network notes
 /// its own events, each fact's call is told by the facts before it, no message finds a full ring
-/// before a repeat and a rollback, and each fact has the bytes that its line shows.
+/// before a repeat, a rollback and a restart, and each fact has the bytes that its line shows.
 pub fn lawful_is_checked()
     ensures { LawfulIsChecked }
 {}

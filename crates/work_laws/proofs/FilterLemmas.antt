@@ -24,6 +24,10 @@ module _ {A : Type 0} where
   filter-twice p q [] = refl
   filter-twice p q (x ∷ xs) = twice-by p q x (filter q xs) _ (q x) (filter-twice p q xs)
 
+  pub filter-none : (p : A → Bool) → ((x : A) → p x ≡ false) → (xs : List A) → filter p xs ≡ []
+  filter-none p fails [] = refl
+  filter-none p fails (x ∷ xs) = rw (fails x) (filter-none p fails xs)
+
   pub filter-all : (p : A → Bool) (xs : List A) → AllByRecursion (λ x. p x ≡ true) xs → filter p xs ≡ xs
   filter-all p [] h = refl
   filter-all p (x ∷ xs) h = rw h.0 (ap (λ ys. x ∷ ys) (filter-all p xs h.1))

@@ -1,26 +1,28 @@
 -- What facts do to the world's list of worked jobs.
-use Rattle.std.proofs.Common.{◌≡◌, ℕ, ◌≤◌, true, false, not, ◌&&◌, List, [], ◌∷◌}
+use Rattle.std.proofs.Common.{◌≡◌, ℕ, ◌≤◌, Bool, true, false, not, ◌&&◌, List, [], ◌∷◌}
 use Rattle.std.proofs.Common.{◌++◌, map, refl, sym, ap, ◌∙◌, arith, eq-eqb, append-nil}
 use Rattle.std.specs.Prelude.{◌==◌, count_by}
 use Rattle.std.specs.List.{list_any, AllByRecursion}
 use Rattle.std.proofs.lemmas.Bool.{and_parts, eqb-true}
 use Rattle.std.proofs.lemmas.List.Elements.{filter-append}
 use Rattle.end_laws.proofs.OwnFacts.{AllOwn, is_work}
-use Rattle.rpc_base.proofs.BasicLemmas.{unless-true}
+use Rattle.rpc_base.proofs.BasicLemmas.{and-false, unless-true}
 use Rattle.rpc_base.proofs.FirstLemmas.{counted-cons}
 use Rattle.rpc_base.proofs.TakingLemmas.{filter-without_first}
 use Rattle.rpc_base.specs.declared.event.Event.{Event}
-use Rattle.rpc_base.specs.declared.event.Event.TheVariants.{Ran, Worked}
+use Rattle.rpc_base.specs.declared.event.Event.TheVariants.{Ran, Restarted, Worked}
 use Rattle.rpc_base.specs.declared.fact.Fact.{Fact}
 use Rattle.rpc_base.specs.declared.fact.Who.{Who}
 use Rattle.rpc_base.specs.declared.fact.Who.TheVariants.{Net, Node}
 use Rattle.rpc_laws.specs.AtMostOnce.{is_at, runs_request}
+use Rattle.rpc_laws.specs.Facts.{plain}
 use Rattle.rpc_laws.specs.declared.tables.Job.{Job}
 use Rattle.rpc_laws.specs.declared.tables.Lists.{Lists}
 use Rattle.rpc_laws.specs.declared.tables.WorkedJob.{WorkedJob}
 use Rattle.rpc_laws.specs.Working.{is_worked, waiting_of, worked_after, worked_after_all}
 use Rattle.rpc_laws.specs.Working.{worked_after_node, worked_at, worked_of}
-use Rattle.work_laws.proofs.FilterLemmas.{any-filtered, filter-same, map-any, map-filtered, none-first}
+use Rattle.work_laws.proofs.FilterLemmas.{any-filtered, filter-none, filter-same, filter-twice, map-any, map-filtered}
+use Rattle.work_laws.proofs.FilterLemmas.{none-first}
 use Rattle.work_laws.proofs.NameLemmas.{unworked}
 use Rattle.work_laws.specs.Known.{changes_work, is_name, job_name, worked_name}
 
@@ -55,6 +57,7 @@ idle-node : (n : ℕ) (e : Event) (worked : List WorkedJob) → changes_work e �
     → worked_after_node n e worked ≡ worked
 idle-node n (Worked t r) worked h = cc
 idle-node n (Ran t r y) worked h = cc
+idle-node n (Restarted life) worked h = cc
 idle-node n _ worked h = refl
 
 idle-at : (who : Who) (e : Event) (worked : List WorkedJob) → changes_work e ≡ false
@@ -68,6 +71,24 @@ idle-all [] worked h = refl
 idle-all (f ∷ x) worked h =
     ap (λ (w : List WorkedJob). worked_after_all w x) (idle-at f.who f.event worked h.0) ∙ idle-all x worked h.1
 
+-- a node that is restarted has none
+none-own : (b : Bool) → (not b && b) ≡ false
+none-own true = refl
+none-own false = refl
+
+pub restart-worked : (me life : ℕ) (worked : List WorkedJob)
+    → worked_of me (worked_after_all worked (plain me (Restarted life) ∷ [])) ≡ []
+restart-worked me life worked =
+    filter-twice (λ (w : WorkedJob). w.node == me) (λ (w : WorkedJob). not (w.node == me)) worked
+    ∙ filter-none (λ (w : WorkedJob). not (w.node == me) && w.node == me) (λ w. none-own (w.node == me)) worked
+
+-- those of another node stay
+still-there : (k n me : ℕ) (b : Bool) → (k == me) ≡ b → (n == me) ≡ false → (not (k == n) && b) ≡ b
+still-there k n me false e h = and-false (not (k == n))
+still-there k n me true e h =
+    let own : (k == n) ≡ true → (n == me) ≡ true = λ same. ap (λ (i : ℕ). i == me) (sym (eqb-true k n same)) ∙ e in
+    rw (unless-true (k == n) (λ same. let here = own same in cc)) refl
+
 -- facts that aren't of a node change nothing of it
 other-node : (me n : ℕ) (e : Event) (worked : List WorkedJob) → (n == me) ≡ false
     → worked_of me (worked_after_node n e worked) ≡ worked_of me worked
@@ -78,6 +99,10 @@ other-node me n (Ran t r y) worked h =
     filter-without_first (is_worked n t r) (λ (w : WorkedJob). w.node == me) worked
     (λ w e. let parts = and_parts (w.node == n) (w.session == t && w.request == r) e in
     ap (λ (k : ℕ). k == me) (eqb-true w.node n parts.0) ∙ h)
+other-node me n (Restarted life) worked h =
+    filter-twice (λ (w : WorkedJob). w.node == me) (λ (w : WorkedJob). not (w.node == n)) worked
+    ∙ filter-same (λ (w : WorkedJob). not (w.node == n) && w.node == me) (λ (w : WorkedJob). w.node == me)
+    (λ w. still-there w.node n me (w.node == me) refl h) worked
 other-node me n _ worked h = refl
 
 other-at : (me : ℕ) (who : Who) (e : Event) (worked : List WorkedJob) → is_at me who ≡ false
@@ -104,6 +129,7 @@ unrun-node : (me : ℕ) (e : Event) (worked : List WorkedJob) → is_work e ≡ 
 unrun-node me (Worked t r) worked idle h = cc
 unrun-node me (Ran t r y) worked idle h =
     none-first (is_worked me t r) worked (h t r (rw (eq-eqb t t refl, eq-eqb r r refl) refl))
+unrun-node me (Restarted life) worked idle h = cc
 unrun-node me _ worked idle h = refl
 
 pub unrun-all : (me : ℕ) (x : List Fact) (worked : List WorkedJob) → AllOwn false me x

@@ -1,6 +1,6 @@
 -- What a node's workers hold stays as the world says by facts of others, and by facts that change no job.
-use Rattle.std.proofs.Common.{◌≡◌, ℕ, Bool, true, false, ◌==◌, cond, List, [], ◌∷◌, ◌++◌, map, length, Option, Some}
-use Rattle.std.proofs.Common.{None, refl, eq-eqb, sym, ap, ap₂, ◌∙◌, nat_lt, inl, inr}
+use Rattle.std.proofs.Common.{◌≡◌, ℕ, ◌+◌, Bool, true, false, ◌==◌, cond, List, [], ◌∷◌, ◌++◌, map, length, Option}
+use Rattle.std.proofs.Common.{Some, None, refl, eq-eqb, sym, ap, ap₂, ◌∙◌, nat_lt, inl, inr}
 use Rattle.std.specs.Prelude.{count_by}
 use Rattle.std.specs.List.{find, AllByRecursion}
 use Rattle.node_laws.specs.NodeRun.{Notes, Refuses}
@@ -10,7 +10,8 @@ use Rattle.rpc_base.specs.declared.event.Event.{Event}
 use Rattle.rpc_base.specs.declared.event.Event.TheVariants.{Arrived, Bad, Closing, Given, NcallTooLarge}
 use Rattle.rpc_base.specs.declared.event.Event.TheVariants.{NcloseBusy, NcloseState, NconnectNumbers}
 use Rattle.rpc_base.specs.declared.event.Event.TheVariants.{NconnectRing, Nrate, Overflowed}
-use Rattle.rpc_base.specs.declared.event.Event.TheVariants.{PairedClient, PairedServer, Ran, Rated, Worked}
+use Rattle.rpc_base.specs.declared.event.Event.TheVariants.{PairedClient, PairedServer, Ran, Rated}
+use Rattle.rpc_base.specs.declared.event.Event.TheVariants.{Restarted, Worked}
 use Rattle.rpc_base.specs.declared.fact.Fact.{Fact}
 use Rattle.rpc_base.specs.declared.fact.Who.TheVariants.{Net, Node}
 use Rattle.rpc_base.specs.declared.limits.Limits.{Limits}
@@ -25,8 +26,7 @@ use Rattle.rpc_laws.specs.Groups.{ask_by_state, Asks, client_refusal, clients_sp
 use Rattle.rpc_laws.specs.Groups.{Disconnects, has_no_room, pending, servers_spent, SetsRate, shares}
 use Rattle.rpc_laws.specs.Groups.{state_of}
 use Rattle.rpc_laws.specs.Jobs.{jobs_after}
-use Rattle.rpc_laws.specs.Lives.{first_life}
-use Rattle.rpc_laws.specs.NodeLists.{after, after_all, new_node}
+use Rattle.rpc_laws.specs.NodeLists.{after, after_all, limits_of, new_node, restarted}
 use Rattle.rpc_laws.specs.Sessions.{is_client, is_live}
 use Rattle.rpc_laws.specs.Steps.{Goes}
 use Rattle.rpc_laws.specs.Working.{worked_after_all, worked_of}
@@ -37,10 +37,11 @@ use Rattle.rpc_laws.specs.declared.tables.Server.{Server}
 use Rattle.rpc_laws.specs.declared.tables.Timed.{Timed}
 use Rattle.rpc_laws.specs.declared.tables.WorkedJob.{WorkedJob}
 use Rattle.world_laws.proofs.WorkLemmas.{AllNode}
-use Rattle.work_laws.proofs.HistoryLemmas.{idle-all, not-at, others-all, waiting-names}
+use Rattle.work_laws.proofs.HistoryLemmas.{idle-all, not-at, others-all, restart-worked, waiting-names}
 use Rattle.work_laws.proofs.NameLemmas.{unworked}
 use Rattle.work_laws.specs.Known.{changes_jobs, changes_work, HasJobs, is_of_request, job_name}
 use Rattle.work_laws.specs.Known.{KnowsWork, parcel_name, worked_name}
+use Rattle.work_laws.specs.Laws.{StartsAnew}
 use Rattle.worker_board.specs.declared.Parcel.{Parcel}
 use Rattle.worker_crew.specs.Local.{Local}
 
@@ -63,18 +64,29 @@ pub has-by : (s t : Timed) (w : Local) → t.lists.jobs ≡ s.lists.jobs → Has
 has-by s t w jobs h n r = h n r ∙ ap (λ (j : Jobs). jobs_of n r j.out) (sym jobs)
 
 -- a new node has no jobs, nor have its workers
-pub new-knows : (me : ℕ) (limits : Limits) (worked : List WorkedJob) (w : Local)
+pub new-knows : (me life : ℕ) (limits : Limits) (worked : List WorkedJob) (w : Local)
     → worked_of me worked ≡ [] → w.waiting ≡ [] → w.worked ≡ []
-    → KnowsWork worked (new_node me first_life limits) w
-new-knows me limits worked w none waits done = record {
+    → KnowsWork worked (new_node me life limits) w
+new-knows me life limits worked w none waits done = record {
   waits = ap (map parcel_name) waits;
   done = ap (map parcel_name) done ∙ ap (map worked_name) (sym none);
 }
 
-pub new-has : (me : ℕ) (limits : Limits) (w : Local) → w.waiting ≡ [] → w.worked ≡ []
-    → HasJobs (new_node me first_life limits) w
-new-has me limits w waits done n r =
+pub new-has : (me life : ℕ) (limits : Limits) (w : Local) → w.waiting ≡ [] → w.worked ≡ []
+    → HasJobs (new_node me life limits) w
+new-has me life limits w waits done n r =
     ap₂ (λ (a b : List Parcel). count_by (is_of_request n r) (a ++ b)) waits done
+
+-- nor has one that is restarted
+pub restart-knows : StartsAnew
+restart-knows worked s w waits done =
+    let life = s.lists.life + 1 in
+    new-knows s.lists.me life (limits_of s.lists)
+    (worked_after_all worked (plain s.lists.me (Restarted life) ∷ [])) w
+    (restart-worked s.lists.me life worked) waits done
+
+pub restart-has : (s : Timed) (w : Local) → w.waiting ≡ [] → w.worked ≡ [] → HasJobs (restarted s) w
+restart-has s w waits done = new-has s.lists.me (s.lists.life + 1) (limits_of s.lists) w waits done
 
 -- facts that aren't the node's
 pub elsewhere-knows : (x : List Fact) (worked : List WorkedJob) (s : Timed) (w : Local)
@@ -125,6 +137,7 @@ pub record Stays (s : Timed) (x : List Fact) (t : Timed) : Type 0 where
 still-idle : (e : Event) → changes_jobs e ≡ false → changes_work e ≡ false
 still-idle (Worked t r) h = h
 still-idle (Ran t r y) h = h
+still-idle (Restarted life) h = h
 still-idle _ h = refl
 
 still-event : (e : Event) (servers : List Server) (jobs : Jobs) → changes_jobs e ≡ false
@@ -158,15 +171,15 @@ pub notes-stays : (e : Event) (s : Timed) (x : List Fact) (t : Timed) → change
     → Notes e s x t → Stays s x t
 notes-stays e s x t still h = goes-stays s x t h.goes (rw h.facts (still, tt))
 
-pub pairs-client-stays : (session peer server credits : ℕ) (s : Timed) (x : List Fact) (t : Timed)
-    → Notes (PairedClient session peer server credits) s x t → Stays s x t
-pairs-client-stays session peer server credits s x t h =
-    notes-stays (PairedClient session peer server credits) s x t refl h
+pub pairs-client-stays : (session peer server credits life : ℕ) (s : Timed) (x : List Fact) (t : Timed)
+    → Notes (PairedClient session peer server credits life) s x t → Stays s x t
+pairs-client-stays session peer server credits life s x t h =
+    notes-stays (PairedClient session peer server credits life) s x t refl h
 
-pub pairs-server-stays : (session peer client credits : ℕ) (s : Timed) (x : List Fact) (t : Timed)
-    → Notes (PairedServer session peer client credits) s x t → Stays s x t
-pairs-server-stays session peer client credits s x t h =
-    notes-stays (PairedServer session peer client credits) s x t refl h
+pub pairs-server-stays : (session peer client credits life : ℕ) (s : Timed) (x : List Fact) (t : Timed)
+    → Notes (PairedServer session peer client credits life) s x t → Stays s x t
+pairs-server-stays session peer client credits life s x t h =
+    notes-stays (PairedServer session peer client credits life) s x t refl h
 
 -- a refusal of a session
 refusal-still : (a b : Bool) (x y z : ℕ) (e : Event)

@@ -4,7 +4,7 @@ use Rattle.std.specs.Prelude.{map, count_by}
 use Rattle.node_laws.specs.Valid.{jobs_of}
 use Rattle.rpc_base.specs.Tables.{without_first}
 use Rattle.rpc_base.specs.declared.event.Event.{Event}
-use Rattle.rpc_base.specs.declared.event.Event.TheVariants.{Given, Ran, Worked}
+use Rattle.rpc_base.specs.declared.event.Event.TheVariants.{Given, Ran, Restarted, Worked}
 use Rattle.rpc_base.specs.declared.fact.Fact.{Fact}
 use Rattle.rpc_laws.specs.declared.tables.Job.{Job}
 use Rattle.rpc_laws.specs.declared.tables.Timed.{Timed}
@@ -57,10 +57,12 @@ pub record FinishesFirst (done : List WorkedJob) (none_left : Type 0) (s : Timed
   pub finishes : FinishesEach done s x t
   pub over : none_left ⊎ (t.lists.room ≤ replies t.lists.queued)
 
--- whether an event works a job or runs a handler; no other one changes which jobs were worked
+-- whether an event works a job, runs a handler or restarts a node; no other one changes which jobs
+-- were worked
 abbrev pub changes_work : Event → Bool
 changes_work (Worked session request) = true
 changes_work (Ran session request y) = true
+changes_work (Restarted life) = true
 changes_work _ = false
 
 -- whether it changes the jobs of a node, or which of them were worked

@@ -1,14 +1,15 @@
 -- Workers on the world's own thread have what the world says that they have, at every step.
-use Rattle.std.specs.Prelude.{ℕ, ◌≡◌, ◌≤◌, true, false, List, [], ◌∷◌, ◌++◌, length, map}
+use Rattle.std.specs.Prelude.{ℕ, ◌≡◌, ◌+◌, ◌≤◌, true, false, List, [], ◌∷◌, ◌++◌, length, map}
 use Rattle.std.specs.List.{AllByRecursion}
 use Rattle.node_laws.specs.Valid.{Valid}
-use Rattle.rpc_base.specs.declared.event.Event.TheVariants.{Missed, Worked}
+use Rattle.rpc_base.specs.declared.event.Event.TheVariants.{Missed, Restarted, Worked}
 use Rattle.rpc_base.specs.declared.fact.Fact.{Fact}
 use Rattle.rpc_base.specs.declared.fact.Who.TheVariants.{Net}
 use Rattle.rpc_laws.specs.declared.tables.Timed.{Timed}
 use Rattle.rpc_laws.specs.declared.tables.WorkedJob.{WorkedJob}
 use Rattle.rpc_laws.specs.AtMostOnce.{is_at}
 use Rattle.rpc_laws.specs.Facts.{plain}
+use Rattle.rpc_laws.specs.NodeLists.{restarted}
 use Rattle.rpc_laws.specs.PollOrder.{PollBy, SendsAll}
 use Rattle.rpc_laws.specs.Working.{FinishesWorked, worked_after_all, Works, WorksAll}
 use Rattle.rpc_outside.specs.declared.service.Mode.{Mode}
@@ -30,12 +31,19 @@ StaysByNetwork =
     → AllByRecursion (λ f. f.who ≡ Net) x → KnowsWork worked s w
     → KnowsWork (worked_after_all worked x) s w
 
--- nor do facts that work no job and run no handler, where the node's jobs stay
+-- nor do facts that work no job, run no handler and restart no node, where the node's jobs stay
 abbrev pub StaysIdle : Type 0
 StaysIdle =
     (x : List Fact) (worked : List WorkedJob) (s t : Timed) (w : Local)
     → AllByRecursion (λ f. changes_work f.event ≡ false) x → t.lists.jobs ≡ s.lists.jobs
     → t.lists.me ≡ s.lists.me → KnowsWork worked s w → KnowsWork (worked_after_all worked x) t w
+
+-- a node that is restarted has no jobs, nor have its new workers
+abbrev pub StartsAnew : Type 0
+StartsAnew =
+    (worked : List WorkedJob) (s : Timed) (w : Local) → w.waiting ≡ [] → w.worked ≡ []
+    → KnowsWork
+    (worked_after_all worked (plain s.lists.me (Restarted (s.lists.life + 1)) ∷ [])) (restarted s) w
 
 -- a worked job is the one that the world says, and the workers have what it says then
 pub record WorksOne (worked : List WorkedJob) (j session request : ℕ) (s : Timed) (later : Local)

@@ -1,7 +1,7 @@
 //! What a node's workers hold, where they work on the world's own thread, agrees with the world's
 //! list of worked jobs: each step of the world keeps it so.
 ghost use Rattle.work_laws.specs.Laws.{MissesByOrder, PollsByOrder, StaysByNetwork, StaysByOthers};
-ghost use Rattle.work_laws.specs.Laws.{StaysIdle, WorksByOrder, WorksNext, WorksNone};
+ghost use Rattle.work_laws.specs.Laws.{StartsAnew, StaysIdle, WorksByOrder, WorksNext, WorksNone};
 
 /// It stays so by the facts of another node.
 pub fn stays_by_others()
@@ -13,9 +13,15 @@ pub fn stays_by_network()
     ensures { StaysByNetwork }
 {}
 
-/// It stays so by facts that work no job and run no handler, where the node's jobs stay.
+/// It stays so by facts that work no job, run no handler and restart no node, where the node's jobs
+/// stay.
 pub fn stays_idle()
     ensures { StaysIdle }
+{}
+
+/// So it is of new workers at a restart of the node: neither they nor it have a job.
+pub fn starts_anew()
+    ensures { StartsAnew }
 {}
 
 /// The job that the workers work is the one that the world says, and so it is afterwards.

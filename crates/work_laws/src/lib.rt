@@ -5,6 +5,6 @@
 mod laws;
 
 pub use laws::{
-    misses_by_order, polls_by_order, stays_by_network, stays_by_others, stays_idle, works_by_order,
-    works_next, works_none,
+    misses_by_order, polls_by_order, starts_anew, stays_by_network, stays_by_others, stays_idle,
+    works_by_order, works_next, works_none,
 };

@@ -1,5 +1,5 @@
 -- Each command of a script makes steps of a joint run.
-use Rattle.std.proofs.Common.{◌≡◌, ◌≤◌, ◌⊎◌, inl, inr, ◌||◌, ℕ, zero, suc, Bool, true, false, cond, nat_lt, List, [], ◌∷◌, ◌++◌, length, Option, Some, None}
+use Rattle.std.proofs.Common.{◌≡◌, ◌+◌, ◌≤◌, ◌⊎◌, inl, inr, ◌||◌, ℕ, zero, suc, Bool, true, false, cond, nat_lt, List, [], ◌∷◌, ◌++◌, length, Option, Some, None}
 use Rattle.std.proofs.Common.{slice_get, refl, sym, ap, ◌∙◌, subst, append_assoc, append-nil, arith, ltb-true, leb-false}
 use Rattle.std.specs.Bool.{MatchBool}
 use Rattle.std.specs.List.{list_all, remove, slice_set}
@@ -8,6 +8,7 @@ use Rattle.rpc_base.specs.declared.event.Event.{Event}
 use Rattle.rpc_base.specs.declared.event.Event.TheVariants.{Made, Missed, Lost, Repeated, Ticked}
 use Rattle.rpc_base.specs.declared.event.Event.TheVariants.{NconnectNumbers, NconnectRing}
 use Rattle.rpc_base.specs.declared.fact.Fact.{Fact}
+use Rattle.rpc_base.specs.declared.limits.Limits.{Limits}
 use Rattle.rpc_laws.specs.declared.tables.InFlight.{InFlight}
 use Rattle.rpc_laws.specs.declared.tables.Lists.{Lists}
 use Rattle.rpc_laws.specs.declared.tables.Timed.{Timed}
@@ -20,14 +21,18 @@ use Rattle.rpc_laws.specs.Groups.{Asks, Connects, Disconnects, SetsRate, pair_re
 use Rattle.rpc_laws.specs.Groups.{clients_spent, servers_spent, has_no_room, shares}
 use Rattle.rpc_base.proofs.PlaceLemmas.{set-here}
 use Rattle.rpc_laws.specs.InFlight.{flight_after, flight_after_all, flight_after_net}
+use Rattle.rpc_laws.specs.Lives.{first_life}
 use Rattle.rpc_laws.specs.NodeLists.{after}
+use Rattle.rpc_laws.specs.Service.{plain_serving}
+use Rattle.rpc_laws.specs.UsualLimits.{with_ring}
 use Rattle.rpc_laws.specs.Steps.{Rel, Chain, none as no_group, more as more_groups}
 use Rattle.rpc_laws.specs.Working.{Works}
 use Rattle.rpc_outside.specs.PlainAnswer.{plain_mode}
 use Rattle.rpc_laws.proofs.PollLemmas.{poll-within}
 use Rattle.node_laws.specs.NodeRun.{Notes, IsCredits, refuses, connects}
 use Rattle.node_laws.specs.NodeRun.{disconnects, sets_rate, asks, polls}
-use Rattle.end_laws.specs.JointRun.{Party, Joint, JointSteps, JointRun, usual_party}
+use Rattle.node_laws.specs.NodeRun.{LifeRun, NodeRun, lives_on, restarts}
+use Rattle.end_laws.specs.JointRun.{Party, Joint, JointSteps, usual_party}
 use Rattle.end_laws.specs.JointRun.{NetMay, AloneGroup}
 use Rattle.end_laws.specs.JointRun.{makes, acts, pairs, carries, of_network, none, more}
 use Rattle.end_laws.specs.TwoNodes.{PairsTwo, PairsTwoNodes}
@@ -36,17 +41,20 @@ use Rattle.script_grammar.specs.declared.line.Command.{Command}
 use Rattle.script_grammar.specs.declared.line.Command.TheVariants.{Node, Pair, Connect, Disconnect}
 use Rattle.script_grammar.specs.declared.line.Command.TheVariants.{Rate, Call, Poll as PollNode}
 use Rattle.script_grammar.specs.declared.line.Command.TheVariants.{Arrive, Lose, Repeat, Tick, Work}
-use Rattle.script_grammar.specs.declared.line.Command.TheVariants.{Settle}
+use Rattle.script_grammar.specs.declared.line.Command.TheVariants.{Restart, Settle}
 use Rattle.script_grammar.specs.declared.line.Line.{Line}
 use Rattle.sim_script.specs.FollowsScript.{ask_bytes, AtNode, Makes}
 use Rattle.sim_script.specs.FollowsScript.{PairsBy, Pairs, OfNet, or_missed, Carries, Ticks}
 use Rattle.sim_script.specs.FollowsScript.{PollsNode, Joins, Times, PollsFirst, WorksNode}
 use Rattle.sim_script.specs.FollowsScript.{WorksFirst, WorksAndPolls, Round, is_polled, Unless}
-use Rattle.sim_script.specs.FollowsScript.{Settles, Does, FollowsFrom, Follows, empty_stage}
+use Rattle.sim_script.specs.FollowsScript.{Settles, Does, FollowsFrom, empty_stage}
 use Rattle.world_laws.specs.FewCredits.{PairsFew, PairsFewCredits}
-use Rattle.world_laws.specs.JointNodes.{joint_of}
+use Rattle.world_laws.specs.JointNodes.{FollowsJointly, joint_of}
+use Rattle.world_laws.specs.NeverRestarts.{NeverRestarts, RestartsNone}
 use Rattle.world_laws.specs.NodeFacts.{facts_of, RunAt}
 use Rattle.world_laws.proofs.FactLemmas.{set-same}
+use Rattle.world_laws.proofs.JointNodes.{joint-life}
+use Rattle.world_laws.proofs.LifeFacts.{life-least}
 use Rattle.world_laws.proofs.WorkLemmas.{times_worked, worked-cons}
 use Rattle.world_laws.proofs.WorkSteps.{Alone, all-alone, works-alone}
 
@@ -320,41 +328,53 @@ pairs-joint : (a b credits : ℕ) → (a ≡ b → ⊥) → PairsFew (Pair a b c
 pairs-joint a b credits two few s h x t r p =
     pairs-by a b credits p.client p.server _ _ s h x t r two few p.is_client p.is_server refl refl p.pairs
 
-does-joint : (c : Command) → PairsTwo c → PairsFew c → Jointly (Does c)
-does-joint (Node ring) two few = made-joint ring
-does-joint (Pair a b credits) two few = pairs-joint a b credits two few
-does-joint (Connect n peer credits) two few = connect-joint n peer credits (record { some = few.0; few = few.1 })
-does-joint (Disconnect n session) two few = disconnect-joint n session
-does-joint (Rate n session rate) two few = rate-joint n session rate
-does-joint (Call n session y ask room) two few = call-joint n session y (ask_bytes ask) room
-does-joint (PollNode n) two few = poll-joint n
-does-joint (Arrive i) two few = λ s h x t r d. arrive-by i (nat_lt i (length s.flight)) s h x t r d
-does-joint (Lose i) two few = lose-joint i
-does-joint (Repeat i) two few = repeat-joint i
-does-joint (Tick by) two few = tick-joint by
-does-joint (Work n i) two few = work-joint n i
-does-joint (Settle rounds) two few = settles-joint rounds
+does-joint : (c : Command) → PairsTwo c → PairsFew c → RestartsNone c → Jointly (Does c)
+does-joint (Node ring) two few never = made-joint ring
+does-joint (Pair a b credits) two few never = pairs-joint a b credits two few
+does-joint (Connect n peer credits) two few never = connect-joint n peer credits (record { some = few.0; few = few.1 })
+does-joint (Disconnect n session) two few never = disconnect-joint n session
+does-joint (Rate n session rate) two few never = rate-joint n session rate
+does-joint (Call n session y ask room) two few never = call-joint n session y (ask_bytes ask) room
+does-joint (PollNode n) two few never = poll-joint n
+does-joint (Arrive i) two few never = λ s h x t r d. arrive-by i (nat_lt i (length s.flight)) s h x t r d
+does-joint (Lose i) two few never = lose-joint i
+does-joint (Repeat i) two few never = repeat-joint i
+does-joint (Tick by) two few never = tick-joint by
+does-joint (Work n i) two few never = work-joint n i
+does-joint (Settle rounds) two few never = settles-joint rounds
+does-joint (Restart n) two few never = absurd never
 
-lines-joint : (lines : List Line) → PairsTwoNodes lines → PairsFewCredits lines → Jointly (FollowsFrom lines)
-lines-joint [] two few s h x t r d = joint-none s h x t r d.0 d.1
-lines-joint (line ∷ lines) two few s h x t r d =
-    both-joint (Does line.command) (FollowsFrom lines) (does-joint line.command two.0 few.0)
-    (lines-joint lines two.1 few.1) s h x t r d
+lines-joint : (lines : List Line) → PairsTwoNodes lines → PairsFewCredits lines → NeverRestarts lines
+    → Jointly (FollowsFrom lines)
+lines-joint [] two few never s h x t r d = joint-none s h x t r d.0 d.1
+lines-joint (line ∷ lines) two few never s h x t r d =
+    both-joint (Does line.command) (FollowsFrom lines) (does-joint line.command two.0 few.0 never.0)
+    (lines-joint lines two.1 few.1 never.1) s h x t r d
+
+-- a node in its first life has one
+one-life : (n : ℕ) (limits : Limits) (life : ℕ) (g : List Fact) (t : Timed)
+    → NodeRun plain_serving n limits life g t → t.lists.life ≡ life → LifeRun plain_serving n life limits g t
+one-life n limits _ _ _ (lives_on life g t r) e = r
+one-life n limits _ _ _ (restarts life part rest s t r later) e =
+    let least = life-least plain_serving n limits (life + 1) rest t later in absurd (omega arith)
 
 -- no node works a job twice
-run-worked : (n : ℕ) (facts : List Fact) (o : Option Timed) → RunAt n facts o → (s r : ℕ) → times_worked s r facts ≤ 1
-run-worked n facts (Some t) run s r =
-    let few = run.run.worked_once s r in
+run-worked : (n : ℕ) (facts : List Fact) (o : Option Timed) → RunAt n facts o
+    → ((t : Timed) → o ≡ Some t → t.lists.life ≡ first_life) → (s r : ℕ) → times_worked s r facts ≤ 1
+run-worked n facts (Some t) run life s r =
+    let one = one-life n (with_ring run.ring) first_life run.later t run.run (life t refl) in
+    let few = one.worked_once s r in
     let count = ap (times_worked s r) run.made ∙ worked-cons s r (plain n (Made run.ring)) run.later in
     omega arith
-run-worked n facts None run s r =
+run-worked n facts None run life s r =
     let count = ap (times_worked s r) run in omega arith
 
-pub follows-jointly : (script : List Line) (h : List Fact) → PairsTwoNodes script → PairsFewCredits script
-    → (f : Follows script h) → JointRun usual h (joint_of f.0)
-follows-jointly script h two few f =
+pub follows-jointly : FollowsJointly
+follows-jointly script h two few never f =
+    let steps = lines-joint script two few never empty_stage [] h f.0 none f.1.commands in
     record {
-      steps = lines-joint script two few empty_stage [] h f.0 none f.1.commands;
-      worked_once = λ n s r. run-worked n (facts_of n h) (slice_get f.0.nodes n) (runs script h two few f n) s r;
+      steps = steps;
+      worked_once = λ n s r. run-worked n (facts_of n h) (slice_get f.0.nodes n) (runs script h two few f n)
+          (λ t is. joint-life usual h (joint_of f.0) steps n t is) s r;
       answers = f.1.answers;
     }

@@ -3,6 +3,7 @@ pub mod FewLemmas
 pub mod JointCalls
 pub mod JointNodes
 pub mod JointScripts
+pub mod LifeFacts
 pub mod NodeLaws
 pub mod OneCallLaws
 pub mod OrderLaws

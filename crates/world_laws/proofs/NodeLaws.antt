@@ -1,6 +1,6 @@
--- What each run of a node keeps, each node of a history keeps: the Made before its run changes none of it.
+-- What each run of a node keeps, each life of a node of a history keeps: the Made before it changes none of it.
 use Rattle.std.proofs.Common.{◌≡◌, ◌+◌, ◌&&◌, ◌||◌, ℕ, Bool, true, false, cond, List, [], ◌∷◌}
-use Rattle.std.proofs.Common.{Option, Some, None, slice_get, refl, sym, ap, ◌∙◌, arith, eqb}
+use Rattle.std.proofs.Common.{None, Option, Some, slice_get, refl, ap, ◌∙◌, arith, eqb}
 use Rattle.std.specs.List.{list_any}
 use Rattle.std.proofs.lemmas.List.Sums.{sum_by-cons}
 use Rattle.node_laws.proofs.CreditLaws.{credit}
@@ -21,6 +21,7 @@ use Rattle.rpc_base.specs.declared.event.Event.TheVariants.{Made}
 use Rattle.rpc_base.specs.declared.fact.Fact.{Fact}
 use Rattle.rpc_laws.specs.declared.tables.Timed.{Timed}
 use Rattle.rpc_laws.specs.AtMostOnce.{is_at, runs_request, works_request, begins_call, ends_call, times, Once}
+use Rattle.rpc_laws.specs.Endpoints.{EachLife}
 use Rattle.rpc_laws.specs.Facts.{plain}
 use Rattle.rpc_laws.specs.Service.{plain_serving}
 use Rattle.rpc_laws.specs.UsualLimits.{with_ring}
@@ -31,9 +32,10 @@ use Rattle.end_laws.specs.TwoNodes.{PairsTwoNodes}
 use Rattle.world_laws.specs.FewCredits.{PairsFewCredits}
 use Rattle.world_laws.specs.Laws.{CreditBalances, EndedCallsAreNotQueued, EndedSessionsAreNotQueued}
 use Rattle.world_laws.specs.Laws.{FollowsRuns, HappensAtMostOnce, InboxFits}
-use Rattle.world_laws.specs.Laws.{EachNode, KeepsRing, OlderRequestsAreNotQueued, RingFits}
+use Rattle.world_laws.specs.Laws.{KeepsRing, OlderRequestsAreNotQueued, RingFits}
 use Rattle.world_laws.specs.Laws.{SendsItsOwn, SendsOwnPackets}
-use Rattle.world_laws.specs.NodeFacts.{facts_of, EachRuns, IsRun, RunAt, Runs, ring_of}
+use Rattle.world_laws.specs.NodeFacts.{facts_of, EachRuns, RunAt, Runs}
+use Rattle.world_laws.proofs.LifeFacts.{of-node}
 use Rattle.world_laws.proofs.ScriptLaws.{script-runs}
 
 -- each node's facts are its Made and a run
@@ -50,32 +52,22 @@ pub script-each : (script : List Line) (h : List Fact) → PairsTwoNodes script
 script-each script h two few f n =
     run-somehow n (facts_of n h) (slice_get f.0.nodes n) (runs script h two few f n)
 
--- a claim of the facts of every node: it is of no facts, and of each run with its Made
-of-run : (P : List Fact → Type 0) → P []
-    → ((n : ℕ) (facts : List Fact) (t : Timed) → IsRun n facts t → P facts)
-    → (n : ℕ) (facts : List Fact) → Runs n facts → P facts
-of-run P none each n facts (Runs.runs t r) = each n facts t r
-of-run P none each n facts (Runs.nowhere e) = rw e none
-
-pub of-node : (P : List Fact → Type 0) → P []
-    → ((n : ℕ) (facts : List Fact) (t : Timed) → IsRun n facts t → P facts)
-    → (h : List Fact) → EachRuns h → EachNode P h
-of-node P none each h r n = of-run P none each n (facts_of n h) (r n)
-
 -- credit
-pub credit-each : (h : List Fact) → EachRuns h → EachNode Credit h
-credit-each h each =
-    of-node Credit tt
-    (λ n facts t r. let kept : Credit r.later = credit plain_serving n (with_ring r.ring) r.later t r.run in rw r.made (tt, tt, kept)) h each
+pub credit-each : (h : List Fact) → EachRuns h → EachLife Credit h
+credit-each h each e =
+    of-node (λ ring g. Credit g) (λ ring. tt) e.node e.life
+    (λ ring g t r. credit plain_serving e.node e.life (with_ring ring) g t r)
+    (λ ring g c. (tt, tt, c)) h (each e.node)
 
 pub credit-balances : CreditBalances
 credit-balances script h two few f = credit-each h (script-each script h two few f)
 
 -- the receive ring
-pub ring-each : (h : List Fact) → EachRuns h → EachNode KeepsRing h
-ring-each h each =
-    of-node (λ facts. RingWithin (ring_of facts) [] facts) (omega arith)
-    (λ n facts t r. let kept : RingWithin r.ring [] r.later = ring_within plain_serving n (with_ring r.ring) r.later t r.run in rw r.made (omega arith, kept)) h each
+pub ring-each : (h : List Fact) → EachRuns h → KeepsRing h
+ring-each h each e =
+    of-node (λ ring g. RingWithin ring [] g) (λ ring. omega arith) e.node e.life
+    (λ ring g t r. ring_within plain_serving e.node e.life (with_ring ring) g t r)
+    (λ ring g c. (omega arith, c)) h (each e.node)
 
 pub ring-fits : RingFits
 ring-fits script h two few f = ring-each h (script-each script h two few f)
@@ -101,10 +93,12 @@ ends-other past other (f ∷ g) s e =
 made-past : (n ring : ℕ) → SamePast [] (plain n (Made ring) ∷ [])
 made-past n ring = record { queued = refl; asked = λ c s. refl; begun = λ c r. refl }
 
-pub ended-each : (h : List Fact) → EachRuns h → EachNode (EndsClean []) h
-ended-each h each =
-    of-node (EndsClean []) tt
-    (λ n facts t r. let kept : EndsClean [] r.later = ended plain_serving n (with_ring r.ring) r.later t r.run in rw r.made ((λ c s q ends began. cc), ends-other [] (plain n (Made r.ring) ∷ []) r.later (made-past n r.ring) kept)) h each
+pub ended-each : (h : List Fact) → EachRuns h → EachLife (EndsClean []) h
+ended-each h each e =
+    of-node (λ ring g. EndsClean [] g) (λ ring. tt) e.node e.life
+    (λ ring g t r. ended plain_serving e.node e.life (with_ring ring) g t r)
+    (λ ring g c. ((λ c s q ends began. cc), ends-other [] (plain e.node (Made ring) ∷ []) g (made-past e.node ring) c))
+    h (each e.node)
 
 pub ended-clean : EndedCallsAreNotQueued
 ended-clean script h two few f = ended-each h (script-each script h two few f)
@@ -115,10 +109,12 @@ begins-other past other [] s e = tt
 begins-other past other (f ∷ g) s e =
     (λ t r old takes older. let back = e.0 t r old takes older in record { unqueued = rw (← s.queued) back.unqueued; unposted = back.unposted }, begins-other (f ∷ past) (f ∷ other) g (same-next past other f s) e.1)
 
-pub older-each : (h : List Fact) → EachRuns h → EachNode (BeginsClean []) h
-older-each h each =
-    of-node (BeginsClean []) tt
-    (λ n facts t r. let kept : BeginsClean [] r.later = older_clean plain_serving n (with_ring r.ring) r.later t r.run in rw r.made ((λ t r old takes older. cc), begins-other [] (plain n (Made r.ring) ∷ []) r.later (made-past n r.ring) kept)) h each
+pub older-each : (h : List Fact) → EachRuns h → EachLife (BeginsClean []) h
+older-each h each e =
+    of-node (λ ring g. BeginsClean [] g) (λ ring. tt) e.node e.life
+    (λ ring g t r. older_clean plain_serving e.node e.life (with_ring ring) g t r)
+    (λ ring g c. ((λ t r old takes older. cc), begins-other [] (plain e.node (Made ring) ∷ []) g (made-past e.node ring) c))
+    h (each e.node)
 
 pub older-clean : OlderRequestsAreNotQueued
 older-clean script h two few f = older-each h (script-each script h two few f)
@@ -129,50 +125,37 @@ sessions-other past other [] s e = tt
 sessions-other past other (f ∷ g) s e =
     (λ t ends. let back = e.0 t ends in record { unqueued = rw (← s.queued) back.unqueued; unposted = back.unposted }, sessions-other (f ∷ past) (f ∷ other) g (same-next past other f s) e.1)
 
-pub sessions-each : (h : List Fact) → EachRuns h → EachNode (SessionsEndClean []) h
-sessions-each h each =
-    of-node (SessionsEndClean []) tt
-    (λ n facts t r. let kept : SessionsEndClean [] r.later = ended_sessions plain_serving n (with_ring r.ring) r.later t r.run in rw r.made ((λ t ends. cc), sessions-other [] (plain n (Made r.ring) ∷ []) r.later (made-past n r.ring) kept)) h each
+pub sessions-each : (h : List Fact) → EachRuns h → EachLife (SessionsEndClean []) h
+sessions-each h each e =
+    of-node (λ ring g. SessionsEndClean [] g) (λ ring. tt) e.node e.life
+    (λ ring g t r. ended_sessions plain_serving e.node e.life (with_ring ring) g t r)
+    (λ ring g c. ((λ t ends. cc), sessions-other [] (plain e.node (Made ring) ∷ []) g (made-past e.node ring) c))
+    h (each e.node)
 
 pub sessions-clean : EndedSessionsAreNotQueued
 sessions-clean script h two few f = sessions-each h (script-each script h two few f)
 
 -- the inbox
-pub inbox-each : (h : List Fact) → EachRuns h → EachNode (InboxWithin []) h
-inbox-each h each =
-    of-node (InboxWithin []) (omega arith)
-    (λ n facts t r. let kept : InboxWithin [] r.later = inbox_within plain_serving n (with_ring r.ring) r.later t r.run in rw r.made (omega arith, kept)) h each
+pub inbox-each : (h : List Fact) → EachRuns h → EachLife (InboxWithin []) h
+inbox-each h each e =
+    of-node (λ ring g. InboxWithin [] g) (λ ring. omega arith) e.node e.life
+    (λ ring g t r. inbox_within plain_serving e.node e.life (with_ring ring) g t r)
+    (λ ring g c. (omega arith, c)) h (each e.node)
 
 pub inbox-fits : InboxFits
 inbox-fits script h two few f = inbox-each h (script-each script h two few f)
 
 -- what is sent
-pub sends-each : (h : List Fact) → EachRuns h → EachNode SendsOwnPackets h
-sends-each h each =
-    of-node SendsOwnPackets (λ me limits same. tt)
-    (λ n facts t r. let kept : SendsOwn r.ring r.later = sends_own plain_serving n (with_ring r.ring) r.later t r.run in rw r.made (λ me limits same. (tt, λ clock. kept me limits same))) h each
+pub sends-each : (h : List Fact) → EachRuns h → SendsOwnPackets h
+sends-each h each e =
+    of-node (λ ring g. SendsOwn e.life ring g) (λ ring me limits same. tt) e.node e.life
+    (λ ring g t r. sends_own plain_serving e.node e.life (with_ring ring) g t r)
+    (λ ring g c me limits same. (tt, λ clock. c me limits same)) h (each e.node)
 
 pub sends-own : SendsItsOwn
 sends-own script h two few f = sends-each h (script-each script h two few f)
 
--- at most once: what is counted of a node is counted over its facts
-count-here : (n : ℕ) (test : Event → Bool) (f : Fact) (h : List Fact) (b : Bool) → is_at n f.who ≡ b
-    → times n test h ≡ times n test (facts_of n h)
-    → cond (b && test f.event) 1 0 + times n test h
-    ≡ times n test (cond b (f ∷ facts_of n h) (facts_of n h))
-count-here n test f h true at same =
-    sym (sum_by-cons (λ e. cond (is_at n e.who && test e.event) 1 0) f (facts_of n h)
-    ∙ (ap (λ (b : Bool). cond (b && test f.event) 1 0 + times n test (facts_of n h)) at ∙ ap
-    (λ (k : ℕ). cond (test f.event) 1 0 + k) (sym same)))
-count-here n test f h false at same = omega arith
-
-times-own : (n : ℕ) (test : Event → Bool) (h : List Fact) → times n test h ≡ times n test (facts_of n h)
-times-own n test [] = refl
-times-own n test (f ∷ h) =
-    sum_by-cons (λ e. cond (is_at n e.who && test e.event) 1 0) f h
-    ∙ count-here n test f h (is_at n f.who) refl (times-own n test h)
-
--- a Made is none of what is counted
+-- at most once: a Made is none of what is counted
 both-false : (a b : Bool) → b ≡ false → ◌≡◌ {A = ℕ} (cond (a && b) 1 0) 0
 both-false true b e = rw e refl
 both-false false b e = refl
@@ -202,17 +185,11 @@ made-once n ring g o = record {
   done = λ m c. rw (made-none n m ring (ends_call c) g refl) (o.done m c);
 }
 
-pub once-all : (h : List Fact) → EachNode Once h → Once h
-once-all h each = record {
-  ran = λ m t r. rw (times-own m (runs_request t r) h) ((each m).ran m t r);
-  worked = λ m t r. rw (times-own m (works_request t r) h) ((each m).worked m t r);
-  begun = λ n c. rw (times-own n (begins_call c) h) ((each n).begun n c);
-  done = λ n c. rw (times-own n (ends_call c) h) ((each n).done n c);
-}
-
-pub once-each : (h : List Fact) → EachRuns h → Once h
-once-each h runs =
-    once-all h (of-node Once once-nothing (λ n facts t r. let kept : Once r.later = once plain_serving n (with_ring r.ring) r.later t r.run in rw r.made (made-once n r.ring r.later kept)) h runs)
+pub once-each : (h : List Fact) → EachRuns h → EachLife Once h
+once-each h each e =
+    of-node (λ ring g. Once g) (λ ring. once-nothing) e.node e.life
+    (λ ring g t r. once plain_serving e.node e.life (with_ring ring) g t r)
+    (λ ring g c. made-once e.node ring g c) h (each e.node)
 
 pub happens-once : HappensAtMostOnce
 happens-once script h two few f = once-each h (script-each script h two few f)

@@ -1,4 +1,5 @@
--- The table of requests of each node says what its facts tell: the Made before its run changes no reading.
+-- The table of requests of each node says what the facts of its present life tell: a Made before them changes no
+-- reading.
 use Rattle.std.proofs.Common.{◌≡◌, ◌+◌, ℕ, cond, Bool, List, [], ◌∷◌, Option, Some, refl, ap, ◌∙◌, sym}
 use Rattle.std.specs.Prelude.{◌||◌, count_by, if◌then◌else◌}
 use Rattle.std.specs.List.{list_any}
@@ -16,11 +17,12 @@ use Rattle.rpc_laws.specs.declared.tables.Lists.{Lists}
 use Rattle.rpc_laws.specs.declared.tables.Served.{Served}
 use Rattle.rpc_laws.specs.declared.tables.Timed.{Timed}
 use Rattle.rpc_laws.specs.AtMostOnce.{runs_request}
+use Rattle.rpc_laws.specs.Endpoints.{facts_by}
 use Rattle.rpc_laws.specs.Facts.{plain}
 use Rattle.rpc_laws.specs.Service.{plain_serving}
-use Rattle.rpc_laws.specs.UsualLimits.{with_ring}
 use Rattle.rpc_laws.specs.Queues.{ring_after}
-use Rattle.world_laws.specs.NodeFacts.{IsRun}
+use Rattle.world_laws.specs.NodeFacts.{facts_of, IsRun}
+use Rattle.world_laws.proofs.LifeFacts.{end_of, of-end}
 
 -- two lists of facts tell the same of each request
 record SameTold (past other : List Fact) : Type 0 where
@@ -97,12 +99,10 @@ requests-other past other l s h = record {
   requests = λ t i v q server served. request-other past other t q s (h.requests t i v q server served);
 }
 
-pub requests-tell : (n : ℕ) (facts : List Fact) (t : Timed) → IsRun n facts t
-    → TellsRequests (latest_first [] facts) t.lists
-requests-tell n facts t r =
-    let kept : TellsRequests (latest_first [] r.later) t.lists =
-    requests_tell plain_serving n (with_ring r.ring) r.later t r.run in
-    let same : SameTold (latest_first [] r.later)
-    (latest_first (plain n (Made r.ring) ∷ []) r.later) =
-    told-all [] (plain n (Made r.ring) ∷ []) r.later (told-made n r.ring) in
-    rw r.made (requests-other _ _ t.lists same kept)
+pub requests-tell : (n : ℕ) (h : List Fact) (t : Timed) → IsRun n (facts_of n h) t
+    → TellsRequests (latest_first [] (facts_by (end_of n t.lists.life) h)) t.lists
+requests-tell n h t r =
+    of-end (λ g. TellsRequests (latest_first [] g) t.lists) n t
+    (λ life limits g run. requests_tell plain_serving n life limits g t run)
+    (λ ring g c. requests-other (latest_first [] g) (latest_first (plain n (Made ring) ∷ []) g) t.lists
+    (told-all [] (plain n (Made ring) ∷ []) g (told-made n ring)) c) h r

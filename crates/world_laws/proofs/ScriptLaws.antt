@@ -1,5 +1,5 @@
 -- Each command of a script leads from nodes at the ends of runs to such nodes, and so does the whole script.
-use Rattle.std.proofs.Common.{◌≡◌, ◌<◌, ◌||◌, ◌⊎◌, inl, inr, ℕ, zero, suc, nat_lt, Bool, true}
+use Rattle.std.proofs.Common.{◌≡◌, ◌+◌, ◌<◌, ◌||◌, ◌⊎◌, inl, inr, ℕ, zero, suc, nat_lt, Bool, true}
 use Rattle.std.proofs.Common.{false, cond, List, [], ◌∷◌, ◌++◌, length, Option, Some, None}
 use Rattle.std.proofs.Common.{slice_get, refl, sym, ap, ◌∙◌, subst, append_assoc, arith, leb-false}
 use Rattle.std.specs.Bool.{MatchBool}
@@ -8,9 +8,9 @@ use Rattle.end_laws.specs.TwoNodes.{PairsTwo, PairsTwoNodes}
 use Rattle.network_model.specs.declared.stage.Stage.{Stage}
 use Rattle.node_laws.specs.NodeRun.{IsCredits, MayPair, Notes, asks, connects, delivers}
 use Rattle.node_laws.specs.NodeRun.{disconnects, pairs_client, pairs_server, polls, refuses}
-use Rattle.node_laws.specs.NodeRun.{sets_rate}
+use Rattle.node_laws.specs.NodeRun.{sets_rate, NodeRun, lives_on, restarts}
 use Rattle.rpc_base.specs.declared.event.Event.{Event}
-use Rattle.rpc_base.specs.declared.event.Event.TheVariants.{Made, PairedClient, PairedServer}
+use Rattle.rpc_base.specs.declared.event.Event.TheVariants.{Made, PairedClient, PairedServer, Restarted}
 use Rattle.rpc_base.specs.declared.event.Event.TheVariants.{NconnectNumbers, NconnectRing, Missed}
 use Rattle.rpc_base.specs.declared.event.Event.TheVariants.{Carried, Lost, Repeated, Ticked}
 use Rattle.rpc_base.specs.declared.fact.Fact.{Fact}
@@ -25,14 +25,18 @@ use Rattle.rpc_laws.specs.Groups.{has_no_room, pair_refusal, server_refusal, ser
 use Rattle.rpc_laws.specs.Groups.{SetsRate, shares}
 use Rattle.rpc_laws.specs.NodeLists.{after}
 use Rattle.rpc_laws.specs.PollOrder.{PollBy, SendsAll}
-use Rattle.rpc_laws.specs.Service.{Answers, plain_serving}
+use Rattle.rpc_base.specs.declared.limits.Limits.{Limits}
+use Rattle.rpc_laws.specs.Service.{Answers, plain_serving, served_after}
+use Rattle.rpc_outside.specs.Served.{Served}
+use Rattle.rpc_laws.specs.Lives.{first_life}
+use Rattle.rpc_laws.specs.UsualLimits.{with_ring}
 use Rattle.rpc_laws.specs.Working.{FinishesWorked, worked_after_all, Works, WorksAll}
 use Rattle.rpc_outside.specs.PlainAnswer.{plain_mode}
 use Rattle.script_grammar.specs.declared.line.Command.{Command}
 use Rattle.script_grammar.specs.declared.line.Command.TheVariants.{Node, Pair, Connect, Disconnect}
 use Rattle.script_grammar.specs.declared.line.Command.TheVariants.{Rate, Call, Poll as PollNode}
 use Rattle.script_grammar.specs.declared.line.Command.TheVariants.{Arrive, Lose, Repeat, Tick, Work}
-use Rattle.script_grammar.specs.declared.line.Command.TheVariants.{Settle}
+use Rattle.script_grammar.specs.declared.line.Command.TheVariants.{Restart, Settle}
 use Rattle.script_grammar.specs.declared.line.Line.{Line}
 use Rattle.sim_script.specs.FollowsScript.{AnswersPlainly, ask_bytes, AtNode, noted, PairsEnds}
 use Rattle.sim_script.specs.FollowsScript.{PairsBy, Pairs, OfNet, or_missed, Carries, Ticks}
@@ -45,8 +49,8 @@ use Rattle.world_laws.proofs.FactLemmas.{set-same}
 use Rattle.end_laws.proofs.OwnFacts.{Still, asks-own, connects-own, delivers-own, disconnects-own}
 use Rattle.end_laws.proofs.OwnFacts.{Owned, poll-own, rates-own, refusal-idle}
 use Rattle.world_laws.proofs.RunLemmas.{Runs, Running, NodeRuns, runs-none, mine-group, one-group}
-use Rattle.world_laws.proofs.RunLemmas.{step-runs, at-runs-all, at-runs, net-runs, made-runs}
-use Rattle.world_laws.proofs.WorkLemmas.{times_worked, worked-cons}
+use Rattle.world_laws.proofs.RunLemmas.{step-runs, at-runs-all, at-runs, net-runs, made-runs, restart-runs}
+use Rattle.world_laws.proofs.RunLemmas.{Lives, past, present}
 use Rattle.world_laws.proofs.WorkSteps.{all-groups, all-mine, works-group, works-mine}
 use Rattle.rpc_base.proofs.BasicLemmas.{false-true}
 use Rattle.rpc_base.proofs.PlaceLemmas.{set-other}
@@ -268,9 +272,9 @@ ends-run a b credits client server s h x t r two is_client is_server few fits_cl
       other_is = low_client;
       fits = rw (server_fits.1, server_fits.2) refl;
     } in
-    let made : Event = PairedClient (length c.clients) b v.server_numbers credits in
+    let made : Event = PairedClient (length c.clients) b v.server_numbers credits v.life in
     let one : Fact = plain c.me made in
-    let group = pairs_client b v.server_numbers credits may_client (record { facts = refl; goes = refl }) in
+    let group = pairs_client b v.server_numbers credits v.life may_client (record { facts = refl; goes = refl }) in
     let own_one : Owned false client (one ∷ []) (noted client one) =
     record {
       facts = (
@@ -292,9 +296,9 @@ ends-run a b credits client server s h x t r two is_client is_server few fits_cl
     let is_there : slice_get between b ≡ Some server =
     set-other s.nodes a b (noted client one) (λ e. two (sym e)) ∙ is_server in
     let at_b = first.nodes b server is_there in
-    let taken : Event = PairedServer v.server_numbers a (length c.clients) credits in
+    let taken : Event = PairedServer v.server_numbers a (length c.clients) credits c.life in
     let other : Fact = plain v.me taken in
-    let next = pairs_server a (length c.clients) credits may_server (record { facts = refl; goes = refl }) in
+    let next = pairs_server a (length c.clients) credits c.life may_server (record { facts = refl; goes = refl }) in
     let own_other : Owned false server (other ∷ []) (noted server other) =
     record {
       facts = (
@@ -347,6 +351,7 @@ does-run (Repeat i) two few = λ s h x t r d. of-net-runs (or_missed s.flight i 
 does-run (Tick by) two few = tick-runs by
 does-run (Work n i) two few = work-runs n i
 does-run (Settle rounds) two few = settles-run rounds
+does-run (Restart n) two few = restart-runs n
 
 lines-run : (lines : List Line) → PairsTwoNodes lines → PairsFewCredits lines → Running (FollowsFrom lines)
 lines-run [] two few s h x t r d = runs-none s h x t r d.0 d.1
@@ -357,6 +362,36 @@ lines-run (line ∷ lines) two few s h x t r d =
 -- before the first command
 empty-runs : Runs [] [] []
 empty-runs = record { nodes = λ j z is. cc; others = λ n e. refl }
+
+-- the answers of a life, and of those after it
+answers-part : (served : Served) (part : List Fact) (f : Fact) (rest : List Fact)
+    → Answers plain_serving served (part ++ f ∷ rest) → Answers plain_serving served part
+answers-part served [] f rest a = tt
+answers-part served (g ∷ part) f rest a =
+    (a.0, answers-part (served_after plain_mode g.event g.first served) part f rest a.1)
+
+answers-rest : (served : Served) (part : List Fact) (n life : ℕ) (rest : List Fact)
+    → Answers plain_serving served (part ++ plain n (Restarted life) ∷ rest)
+    → Answers plain_serving [] rest
+answers-rest served [] n life rest a = a.1
+answers-rest served (g ∷ part) n life rest a =
+    answers-rest (served_after plain_mode g.event g.first served) part n life rest a.1
+
+node-run : (n : ℕ) (limits : Limits) (worked : List WorkedJob) (life : ℕ) (g : List Fact) (t : Timed)
+    → Lives n limits worked life g t → Answers plain_serving [] g
+    → NodeRun plain_serving n limits life g t
+node-run n limits worked _ _ _ (present life g t was at with few) a =
+    lives_on life g t (record {
+      steps = was;
+      worked_once = λ s k. let most = few s k in omega arith;
+      answers = a;
+    })
+node-run n limits worked _ _ _ (past life part rest s t was once later) a =
+    restarts life part rest s t (record {
+      steps = was;
+      worked_once = once;
+      answers = answers-part [] part (plain n (Restarted (life + 1))) rest a;
+    }) (node-run n limits worked (life + 1) rest t later (answers-rest [] part n (life + 1) rest a))
 
 -- so a node's facts are its Made and a run
 is-run : (h : List Fact) (worked : List WorkedJob) (n : ℕ) (t : Timed) → NodeRuns h worked n t
@@ -369,14 +404,7 @@ is-run h worked n t r a =
       ring = g.ring;
       later = g.later;
       made = g.made;
-      run = record {
-        steps = g.steps;
-        worked_once = λ s k.
-            let count = ap (times_worked s k) g.made ∙ worked-cons s k (plain n (Made g.ring)) g.later in
-            let few = r.few s k in
-            omega arith;
-        answers = answers.1;
-      };
+      run = node-run n (with_ring g.ring) worked first_life g.later t g.lives answers.1;
     }
 
 run-at : (h : List Fact) (worked : List WorkedJob) (nodes : List Timed) → Runs h worked nodes

@@ -1,4 +1,5 @@
--- The tables of each node say what its facts tell: the Made before its run changes no reading of calls either.
+-- The tables of each node say what the facts of its present life tell: a Made before them changes no reading of
+-- calls either.
 use Rattle.std.proofs.Common.{◌≡◌, ◌||◌, ◌∙◌, ℕ, Bool, Option, Some, None, List, [], ◌∷◌, refl, sym, ap, subst}
 use Rattle.std.specs.Prelude.{count_by}
 use Rattle.std.specs.List.{list_any}
@@ -16,12 +17,13 @@ use Rattle.rpc_laws.specs.declared.tables.Lists.{Lists}
 use Rattle.rpc_laws.specs.declared.tables.Progress.{Progress}
 use Rattle.rpc_laws.specs.declared.tables.Timed.{Timed}
 use Rattle.rpc_laws.specs.AtMostOnce.{begins_call, ends_call}
+use Rattle.rpc_laws.specs.Endpoints.{facts_by}
 use Rattle.rpc_laws.specs.Facts.{plain}
 use Rattle.rpc_laws.specs.Queues.{ring_after}
 use Rattle.rpc_laws.specs.Service.{plain_serving}
-use Rattle.rpc_laws.specs.UsualLimits.{with_ring}
 use Rattle.world_laws.specs.Laws.{TablesTellTheHistory}
 use Rattle.world_laws.specs.NodeFacts.{facts_of, IsRun, RunAt}
+use Rattle.world_laws.proofs.LifeFacts.{end_of, of-end}
 use Rattle.world_laws.proofs.NodeLaws.{runs}
 use Rattle.world_laws.proofs.RequestLaws.{count-next, requests-tell}
 
@@ -104,21 +106,15 @@ table-other past other l s h = record {
   calls = λ n i x c client call. call-other past other n c s (h.calls n i x c client call);
 }
 
-calls-tell : (n : ℕ) (facts : List Fact) (t : Timed) → IsRun n facts t
-    → TellsTable (latest_first [] facts) t.lists
-calls-tell n facts t r =
-    let kept : TellsTable (latest_first [] r.later) t.lists =
-    table_tells plain_serving n (with_ring r.ring) r.later t r.run in
-    let same : SameTold (latest_first [] r.later)
-    (latest_first (plain n (Made r.ring) ∷ []) r.later) =
-    told-all [] (plain n (Made r.ring) ∷ []) r.later (told-made n r.ring) in
-    rw r.made (table-other _ _ t.lists same kept)
+calls-tell : (n : ℕ) (h : List Fact) (t : Timed) → IsRun n (facts_of n h) t
+    → TellsTable (latest_first [] (facts_by (end_of n t.lists.life) h)) t.lists
+calls-tell n h t r =
+    of-end (λ g. TellsTable (latest_first [] g) t.lists) n t
+    (λ life limits g run. table_tells plain_serving n life limits g t run)
+    (λ ring g c. table-other (latest_first [] g) (latest_first (plain n (Made ring) ∷ []) g) t.lists
+    (told-all [] (plain n (Made ring) ∷ []) g (told-made n ring)) c) h r
 
 pub tables-tell : TablesTellTheHistory
 tables-tell script h two few f n t is =
-    let run : RunAt n (facts_of n h) (Some t) =
-    subst (RunAt n (facts_of n h)) is (runs script h two few f n) in
-    record {
-      calls = calls-tell n (facts_of n h) t run;
-      requests = requests-tell n (facts_of n h) t run;
-    }
+    let run : IsRun n (facts_of n h) t = subst (RunAt n (facts_of n h)) is (runs script h two few f n) in
+    record { calls = calls-tell n h t run; requests = requests-tell n h t run }

@@ -1,8 +1,8 @@
 -- How often a job may still be worked: where it may still be given, or is out and wasn't worked.
 use Rattle.std.proofs.Common.{◌≡◌, ◌+◌, ◌≤◌, ◌==◌, ◌&&◌, ◌||◌, ℕ, Bool, true, false, cond, List, []}
-use Rattle.std.proofs.Common.{◌∷◌, ◌++◌, refl, ap, ◌∙◌, subst, arith, eq-eqb}
+use Rattle.std.proofs.Common.{◌∷◌, ◌++◌, not, refl, ap, ◌∙◌, subst, arith, eq-eqb}
 use Rattle.std.specs.Prelude.{count_by}
-use Rattle.std.specs.List.{list_any, AllByRecursion}
+use Rattle.std.specs.List.{filter, list_any, AllByRecursion}
 use Rattle.std.proofs.lemmas.Bool.{and_parts, eqb-true}
 use Rattle.std.proofs.lemmas.List.Sums.{sum_by-cons, sum_by-append}
 use Rattle.node_laws.proofs.Allowed.{Allowed, AllAllowed, allowed-of}
@@ -14,7 +14,7 @@ use Rattle.node_laws.proofs.ValidLemmas.{valid_after}
 use Rattle.node_laws.specs.Valid.{is_due, jobs_of, to_give, Valid}
 use Rattle.rpc_base.specs.Tables.{without_first}
 use Rattle.rpc_base.specs.declared.event.Event.{Event}
-use Rattle.rpc_base.specs.declared.event.Event.TheVariants.{Given, Ran, Worked}
+use Rattle.rpc_base.specs.declared.event.Event.TheVariants.{Given, Ran, Restarted, Worked}
 use Rattle.rpc_base.specs.declared.fact.Fact.{Fact}
 use Rattle.rpc_base.specs.declared.fact.Who.{Who}
 use Rattle.rpc_base.specs.declared.fact.Who.TheVariants.{Node}
@@ -28,7 +28,7 @@ use Rattle.rpc_laws.specs.Jobs.{is_job}
 use Rattle.rpc_laws.specs.NodeLists.{after, after_all}
 use Rattle.rpc_laws.specs.Working.{is_worked, worked_after, worked_after_all, worked_after_node, worked_at}
 use Rattle.end_laws.proofs.OwnFacts.{AllOwn, is_work}
-use Rattle.rpc_base.proofs.BasicLemmas.{and-false}
+use Rattle.rpc_base.proofs.BasicLemmas.{and-false, not-false}
 
 abbrev pub to_work : List WorkedJob → (t r : ℕ) → Lists → ℕ
 to_work worked t r l =
@@ -70,6 +70,17 @@ module _ {A : Type 0} (p : A → Bool) where
   any-out q [] apart = refl
   any-out q (x ∷ xs) apart = out-by q x xs (q x) refl (apart x) (any-out q xs apart)
 
+  kept-by : (q : A → Bool) (x : A) (xs : List A) (b : Bool) → q x ≡ b → (q x ≡ false → p x ≡ false)
+      → list_any p (filter q xs) ≡ list_any p xs
+      → list_any p (cond b (x ∷ filter q xs) (filter q xs)) ≡ (p x || list_any p xs)
+  kept-by q x xs true e apart ih = ap (λ (b : Bool). p x || b) ih
+  kept-by q x xs false e apart ih = rw (apart e) ih
+
+  pub any-kept : (q : A → Bool) (xs : List A) → ((x : A) → q x ≡ false → p x ≡ false)
+      → list_any p (filter q xs) ≡ list_any p xs
+  any-kept q [] apart = refl
+  any-kept q (x ∷ xs) apart = kept-by q x xs (q x) refl (apart x) (any-kept q xs apart)
+
 -- entries of another request, and of another node
 other-request : (me t r n k : ℕ) → (n == t && k == r) ≡ false → (w : WorkedJob)
     → is_worked me n k w ≡ true → is_worked me t r w ≡ false
@@ -99,6 +110,9 @@ others-by n j t r ne (Worked s k) worked =
     (rw (differs n j ne) refl)
 others-by n j t r ne (Ran s k y) worked =
     any-out (is_worked j t r) (is_worked n s k) worked (other-node n j t r ne s k)
+others-by n j t r ne (Restarted life) worked =
+    any-kept (is_worked j t r) (λ w. not (w.node == n)) worked
+    (λ w e. rw (eqb-true w.node n (not-false (w.node == n) e), differs n j ne) refl)
 others-by n j t r ne _ worked = refl
 
 abbrev pub AllNode : ℕ → List Fact → Type 0
@@ -117,10 +131,12 @@ others-same n j t r ne (f ∷ x) worked a =
 -- a job that is worked is out, and wasn't worked
 abbrev pub MayWork : List WorkedJob → Lists → Event → Type 0
 MayWork worked l (Worked n k) = (list_any (is_worked l.me n k) worked ≡ false) × (1 ≤ jobs_of n k l.jobs.out)
+MayWork worked l (Restarted life) = ⊥
 MayWork worked l _ = Unit {0}
 
 pub idle-may : (worked : List WorkedJob) (l : Lists) (e : Event) → is_work e ≡ false → MayWork worked l e
 idle-may worked l (Worked n k) h = absurd (cc)
+idle-may worked l (Restarted life) h = absurd (cc)
 idle-may worked l _ h = tt
 
 cond-le : (b : Bool) (m : ℕ) → cond b 0 m ≤ m
@@ -201,6 +217,7 @@ module _ (worked : List WorkedJob) (t r clock : ℕ) (l : Lists) (v : Valid l) w
   work-spends (Given n k) first second a m = let k = given-work n k first second a (list_any (is_worked l.me t r) worked) in omega arith
   work-spends (Ran n k y) first second a m = let k = ran-work n k y first second a (n == t && k == r) refl in omega arith
   work-spends (Worked n k) first second a m = worked-work n k m (n == t && k == r) refl
+  work-spends (Restarted life) first second a m = absurd m
   work-spends e first second a m =
       let less = left-after is_due falls-due t r e second (front_header l.ring)
       (front_body l.ring) l v a in omega arith

@@ -283,6 +283,8 @@ all-mine n worked s x t me v h =
     let few : (i r : ℕ) → jobs_of i r jobs ≤ 1 = λ i r. let le = fewer i r (λ (j : Job). not (list_any (is_worked l.me j.session j.request) worked)) l.jobs.out in let runs = v.runs i r in omega arith in
     rw (facts, same) (record {
       at = subst (λ (k : ℕ). AllNode k y) me (jobs-own l.me jobs);
+      life = refl;
+      limits = refl;
       me = me;
       valid = v;
       few = λ i r. subst (λ (k : Lists). times_worked i r y

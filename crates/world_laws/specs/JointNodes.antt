@@ -10,12 +10,14 @@ use Rattle.rpc_base.specs.declared.event.Event.TheVariants.{Made}
 use Rattle.rpc_base.specs.declared.fact.Fact.{Fact}
 use Rattle.rpc_laws.specs.declared.tables.Timed.{Timed}
 use Rattle.rpc_laws.specs.AtMostOnce.{Once}
+use Rattle.rpc_laws.specs.Endpoints.{EachLife}
 use Rattle.rpc_laws.specs.Facts.{plain}
+use Rattle.rpc_laws.specs.Lives.{first_life}
 use Rattle.script_grammar.specs.declared.line.Line.{Line}
 use Rattle.sim_script.specs.FollowsScript.{Follows}
 use Rattle.world_laws.specs.CallOrder.{CallsInOrder}
 use Rattle.world_laws.specs.FewCredits.{PairsFewCredits}
-use Rattle.world_laws.specs.Laws.{EachNode}
+use Rattle.world_laws.specs.NeverRestarts.{NeverRestarts}
 use Rattle.world_laws.specs.NodeFacts.{facts_of}
 use Rattle.world_laws.specs.OneCall.{OneCall}
 
@@ -25,7 +27,7 @@ pub record IsPartyRun (p : Party) (n : ℕ) (facts : List Fact) (t : Timed) : Ty
   pub ring : ℕ
   pub later : List Fact
   pub made : facts ≡ plain n (Made ring) ∷ later
-  pub run : NodeRun p.serving n (limits_of p ring) later t
+  pub run : NodeRun p.serving n (limits_of p ring) first_life later t
 
 abbrev pub PartyRunAt : Party → ℕ → List Fact → Option Timed → Type 0
 PartyRunAt p n facts (Some t) = IsPartyRun p n facts t
@@ -40,11 +42,11 @@ JointRunsNodes =
 
 -- a node's call numbers, session numbers and the requests of a session are used once
 abbrev pub JointNumbersAreUsedOnce : Type 0
-JointNumbersAreUsedOnce = OfEveryJointRun (λ h t. EachNode UsedOnce h)
+JointNumbersAreUsedOnce = OfEveryJointRun (λ h t. EachLife UsedOnce h)
 
 -- no request runs twice at a node, and no call begins or ends twice
 abbrev pub JointHappensAtMostOnce : Type 0
-JointHappensAtMostOnce = OfEveryJointRun (λ h t. Once h)
+JointHappensAtMostOnce = OfEveryJointRun (λ h t. EachLife Once h)
 
 -- each run of a handler is for one call, and each call has one at most
 abbrev pub JointCallsRunOnce : Type 0
@@ -66,8 +68,8 @@ WireCallsAreInOrder = OfEveryWireRun (λ g t. CallsInOrder g)
 abbrev pub joint_of : Stage → Joint
 joint_of s = record { nodes = s.nodes; flight = s.flight }
 
--- a history that follows a script is a joint run of usual nodes
+-- a history that follows a script in which no node is restarted is a joint run of usual nodes
 abbrev pub FollowsJointly : Type 0
 FollowsJointly =
     (script : List Line) (h : List Fact) → PairsTwoNodes script → PairsFewCredits script
-    → (f : Follows script h) → JointRun (λ n. usual_party) h (joint_of f.0)
+    → NeverRestarts script → (f : Follows script h) → JointRun (λ n. usual_party) h (joint_of f.0)

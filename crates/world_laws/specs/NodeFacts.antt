@@ -9,6 +9,7 @@ use Rattle.rpc_base.specs.declared.fact.Fact.{Fact}
 use Rattle.rpc_laws.specs.declared.tables.Timed.{Timed}
 use Rattle.rpc_laws.specs.AtMostOnce.{is_at}
 use Rattle.rpc_laws.specs.Facts.{plain}
+use Rattle.rpc_laws.specs.Lives.{first_life}
 use Rattle.rpc_laws.specs.Service.{plain_serving}
 use Rattle.rpc_laws.specs.UsualLimits.{with_ring}
 
@@ -16,13 +17,13 @@ use Rattle.rpc_laws.specs.UsualLimits.{with_ring}
 abbrev pub facts_of : ℕ → List Fact → List Fact
 facts_of n h = filter (λ f. is_at n f.who) h
 
--- these facts are node n's Made, and then a run of a node with this number and the ring that it was
--- made with. The run leaves the node as t
+-- these facts are node n's Made, and then a run of a node with this number, the first life and the
+-- ring that it was made with. The run leaves the node as t
 pub record IsRun (n : ℕ) (facts : List Fact) (t : Timed) : Type 0 where
   pub ring : ℕ
   pub later : List Fact
   pub made : facts ≡ plain n (Made ring) ∷ later
-  pub run : NodeRun plain_serving n (with_ring ring) later t
+  pub run : NodeRun plain_serving n (with_ring ring) first_life later t
 
 -- node n has no facts, or its facts are its Made and then a run of the plain service's node with
 -- that ring, which leaves it somehow

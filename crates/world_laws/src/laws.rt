@@ -130,7 +130,8 @@ pub fn joint_calls_are_in_order()
     ensures wires { WireCallsAreInOrder }
 {}
 
-/// A history that follows a script is a joint run of nodes with the usual limits.
+/// A history that follows a script in which no node is restarted is a joint run of nodes with the
+/// usual limits.
 pub fn follows_jointly()
     ensures { FollowsJointly }
 {}
