@@ -179,7 +179,7 @@ asked clock w x =
     clients_after clock (Asked w.call x.way.number w.req_type (capacity_of w.resp)) (bytes_of w.req)
     None [] (x ∷ [])
 
--- the session is opened
-abbrev pub paired : (clock number server peer credits : ℕ) → List Client
-paired clock number server peer credits =
-    clients_after clock (PairedClient number peer server credits) [] None [] []
+-- the session is opened, to a server of this life
+abbrev pub paired : (clock number server peer credits life : ℕ) → List Client
+paired clock number server peer credits life =
+    clients_after clock (PairedClient number peer server credits life) [] None [] []

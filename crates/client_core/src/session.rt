@@ -6,7 +6,6 @@ ghost use Rattle.std.specs.Prelude.{◌-◌, IfSome, IsNone, IsTrue, OnErr, OnOk
 ghost use Rattle.std.specs.Prelude.{slice_get};
 ghost use Rattle.std.specs.List.{list_any};
 ghost use Rattle.packet_header.specs.Header.{AreBytes};
-ghost use Rattle.rpc_laws.specs.Lives.{first_life};
 ghost use Rattle.buffer_pool.specs.Pool.{Pool, spare_of};
 ghost use Rattle.credit_book.specs.Credits.{limit_of};
 ghost use Rattle.rpc_laws.specs.Posting.{beginning, posting};
@@ -107,8 +106,8 @@ impl ClientSession {
         requires most { credits ≤ MOST_CREDITS }
         ensures session { result ≡ new_session session server life credits }
         ensures keeps_pool { (pool : Pool) → KeepsPool pool result.active }
-        ensures step { life ≡ first_life → (pool : Pool) → (clock peer : ℕ)
-            → paired clock session server peer credits ≡ shown pool peer result ∷ [] }
+        ensures step { (pool : Pool) → (clock peer : ℕ)
+            → paired clock session server peer credits life ≡ shown pool peer result ∷ [] }
     {
         ClientSession {
             number: session,

@@ -42,7 +42,7 @@ abbrev pub shown : Pool → Session → Server
 shown pool s =
     record { way = way_of s; credits = s.credits; slots = map (shown_request pool) s.slots }
 
--- the session is opened
-abbrev pub paired : (number client peer credits : ℕ) → List Server
-paired number client peer credits =
-    servers_after (PairedServer number peer client credits) [] None [] []
+-- the session is opened, to a client of this life
+abbrev pub paired : (number client peer credits life : ℕ) → List Server
+paired number client peer credits life =
+    servers_after (PairedServer number peer client credits life) [] None [] []

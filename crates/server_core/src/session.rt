@@ -1,7 +1,6 @@
 //! A server session.
 ghost use Rattle.std.specs.Prelude.{◌≡◌, ◌<◌, ◌≤◌, [], ◌∷◌, IfOk};
 ghost use Rattle.buffer_pool.specs.Pool.{Pool};
-ghost use Rattle.rpc_laws.specs.Lives.{first_life};
 ghost use Rattle.server_core.specs.Counting.{CountsQueued};
 ghost use Rattle.server_core.specs.Flushing.{HoldsAll};
 ghost use Rattle.server_core.specs.KeepsPool.{KeepsPool};
@@ -84,8 +83,8 @@ impl ServerSession {
         ensures keeps_pool { IfOk result (λ s. (pool : Pool) → KeepsPool pool s.slots) }
         ensures holds { IfOk result (λ s. (pool : Pool) → HoldsAll s pool []) }
         ensures queued { IfOk result (λ s. CountsQueued s []) }
-        ensures step { IfOk result (λ s. (pool : Pool) → life ≡ first_life →
-            paired session client peer credits ≡ shown pool s ∷ []) }
+        ensures step { IfOk result (λ s. (pool : Pool)
+            → paired session client peer credits life ≡ shown pool s ∷ []) }
     {
         let slots = Slots::new(alloc)?;
         Ok(ServerSession {
