@@ -1,8 +1,8 @@
 -- The order of the server sessions by whose other end they are: what it tells, and how it is kept.
-use Rattle.std.proofs.Common.{◌≡◌, ℕ, zero, suc, ◌+◌, ◌*◌, ◌≤◌, ◌<◌, ◌==◌, Bool, true, false}
+use Rattle.std.proofs.Common.{◌≡◌, ℕ, zero, suc, ◌+◌, ◌*◌, ◌≤◌, ◌<◌, ◌==◌, ◌&&◌, Bool, true, false}
 use Rattle.std.proofs.Common.{◌⊎◌, Some, None, List, [], ◌∷◌, ◌++◌, length, get_or, cond, refl, sym}
-use Rattle.std.proofs.Common.{ap, ◌∙◌, arith, inl, inr, eq-eqb, lt-ltb, le-ltb}
-use Rattle.std.specs.Prelude.{count_by, map, position, slice_get}
+use Rattle.std.proofs.Common.{ap, ◌∙◌, arith, inl, inr, eq-eqb, lt-ltb, le-ltb, ltb-true}
+use Rattle.std.specs.Prelude.{count_by, map, nat_lt, position, slice_get}
 use Rattle.std.specs.List.{insert, position_or_len, remove}
 use Rattle.std.specs.List.Sorted.{IsNonDecreasing, IsPartitionPoint}
 use Rattle.std.proofs.lemmas.Bool.{and_from, and_parts, cases_lt, eqb-true}
@@ -18,9 +18,9 @@ use Rattle.rpc_laws.specs.declared.tables.Way.{Way}
 use Rattle.packet_rings.specs.Entries.{option_is}
 use Rattle.server_core.specs.Session.{Session as Serving}
 use Rattle.server_core.specs.Shown.{way_of}
-use Rattle.session_store.specs.declared.ends.TheConstants.{SPAN}
-use Rattle.session_store.specs.EndOrder.{EndOrder, code_of, end_code}
-use Rattle.session_store.specs.Sides.{Rises, ends_at, has_number, numbers_in}
+use Rattle.session_store.specs.declared.ends.TheConstants.{LIVES, SPAN}
+use Rattle.session_store.specs.EndOrder.{EndOrder, HasParts, code_of, end_code}
+use Rattle.session_store.specs.Sides.{Rises, ends_at, has_number, is_of_older, numbers_in}
 use Rattle.session_store.proofs.EndingLemmas.{all-removed, map-removed, sum-less}
 use Rattle.rpc_base.proofs.PlaceLemmas.{all-at, get-map}
 use Rattle.session_store.proofs.ListLemmas.{got-same, sum-one}
@@ -29,6 +29,11 @@ use Rattle.session_store.proofs.SearchLemmas.{found-at, rising}
 -- a number is made of its parts in one way
 parts : (a b c d : ℕ) → b < SPAN → d < SPAN → a * SPAN + b ≡ c * SPAN + d → (a ≡ c) × (b ≡ d)
 parts a b c d first second e =
+    let same : a ≡ c = omega (arith, first, second, e) in
+    (same, omega (arith, same, e))
+
+senders : (a b c d : ℕ) → b < LIVES → d < LIVES → a * LIVES + b ≡ c * LIVES + d → (a ≡ c) × (b ≡ d)
+senders a b c d first second e =
     let same : a ≡ c = omega (arith, first, second, e) in
     (same, omega (arith, same, e))
 
@@ -68,9 +73,9 @@ module _ {A : Type 0} (f : A → ℕ) (n : ℕ) where
 -- a code in the list is a session's, and the other way round
 module _ (ends : List ℕ) (servers : List Serving) (order : EndOrder ends (map way_of servers)) where
   small-at : (k : ℕ) (v : Serving) → slice_get servers k ≡ Some v
-      → (v.client < SPAN) × (v.number < SPAN)
-  small-at k v at = all-at (λ (w : Way). (w.other < SPAN) × (w.number < SPAN)) (map way_of servers)
-      k (way_of v) order.small (get-map way_of servers k v at)
+      → (v.life < LIVES) × (v.client < SPAN) × (v.number < SPAN)
+  small-at k v at =
+      all-at HasParts (map way_of servers) k (way_of v) order.small (get-map way_of servers k v at)
 
   in-order : (k : ℕ) (v : Serving) → slice_get servers k ≡ Some v
       → Stands (λ e. e) (code_of (way_of v)) ends
@@ -125,41 +130,49 @@ module _ (p : Serving → Bool) where
 
 -- The look-up: the first code that isn't below those of an end tells the session of lowest number,
 -- and with numbers that rise that is the first with this end.
-module _ (ends : List ℕ) (servers : List Serving) (peer client place : ℕ)
+module _ (ends : List ℕ) (servers : List Serving) (peer client life place : ℕ)
     (order : EndOrder ends (map way_of servers)) (up : Rises (numbers_in servers))
-    (narrow : client < SPAN)
-    (point : IsPartitionPoint (λ e. e < end_code peer client 0) (λ e. end_code peer client 0 ≤ e)
-    ends place) where
-  own-code : (k : ℕ) (v : Serving) → slice_get servers k ≡ Some v → ends_at peer client v ≡ true
-      → code_of (way_of v) ≡ end_code peer client 0 + v.number
+    (narrow : client < SPAN) (short : life < LIVES)
+    (point : IsPartitionPoint (λ e. e < end_code peer life client 0)
+    (λ e. end_code peer life client 0 ≤ e) ends place) where
+  own-code : (k : ℕ) (v : Serving) → slice_get servers k ≡ Some v
+      → ends_at peer client life v ≡ true
+      → code_of (way_of v) ≡ end_code peer life client 0 + v.number
   own-code k v at is =
-      let both = and_parts (v.peer == peer) (v.client == client) is in
-      omega (arith, eqb-true v.peer peer both.0, eqb-true v.client client both.1)
+      let both = and_parts (v.peer == peer) (v.client == client && v.life == life) is in
+      let inner = and_parts (v.client == client) (v.life == life) both.1 in
+      omega (
+        arith,
+        eqb-true v.peer peer both.0,
+        eqb-true v.client client inner.0,
+        eqb-true v.life life inner.1,
+      )
 
-  own-least : (k : ℕ) (v : Serving) → slice_get servers k ≡ Some v → ends_at peer client v ≡ true
-      → (place < length ends) × (get_or ends place 0 ≤ end_code peer client 0 + v.number)
+  own-least : (k : ℕ) (v : Serving) → slice_get servers k ≡ Some v
+      → ends_at peer client life v ≡ true
+      → (place < length ends) × (get_or ends place 0 ≤ end_code peer life client 0 + v.number)
   own-least k v at is =
       let code = own-code k v at is in
-      let h = least ends servers order (end_code peer client 0) place k v point at
+      let h = least ends servers order (end_code peer life client 0) place k v point at
       (omega (arith, code)) in
       (h.0, omega (arith, h.1, code))
 
-  pub no-end : (length ends ≤ place) ⊎ (end_code peer client 0 + SPAN ≤ get_or ends place 0)
-      → None ≡ position (ends_at peer client) servers
-  no-end none = none-passes (ends_at peer client) servers (λ k v at.
-      unless-true (ends_at peer client v) (λ is.
+  pub no-end : (length ends ≤ place) ⊎ (end_code peer life client 0 + SPAN ≤ get_or ends place 0)
+      → None ≡ position (ends_at peer client life) servers
+  no-end none = none-passes (ends_at peer client life) servers (λ k v at.
+      unless-true (ends_at peer client life v) (λ is.
       let h = own-least k v at is in
       let small = small-at ends servers order k v at in
       elim none [
         | inl past ↦ omega (arith, past, h.0)
-        | inr far ↦ omega (arith, far, h.1, small.1)
+        | inr far ↦ omega (arith, far, h.1, small.2)
       ]))
 
   module _ (within : place < length ends) (number : ℕ)
-      (is : get_or ends place 0 ≡ end_code peer client 0 + number) (near : number < SPAN) where
-    here : Stands code_of (end_code peer client 0 + number) (map way_of servers)
+      (is : get_or ends place 0 ≡ end_code peer life client 0 + number) (near : number < SPAN) where
+    here : Stands code_of (end_code peer life client 0 + number) (map way_of servers)
     here =
-        let code = end_code peer client 0 + number in
+        let code = end_code peer life client 0 + number in
         stands code_of code (map way_of servers) (rw (← order.each code)
         (counted (λ e. e) code ends place (get_or ends place 0)
         (slice_get-get_or ends place 0 within) is))
@@ -167,19 +180,22 @@ module _ (ends : List ℕ) (servers : List Serving) (peer client place : ℕ)
     there : (v : Serving) × (slice_get servers here.place ≡ Some v) × (way_of v ≡ here.one)
     there = mapped way_of servers here.place here.one here.at
 
-    same : (there.0.peer ≡ peer) × (there.0.client ≡ client) × (there.0.number ≡ number)
+    same : (there.0.peer ≡ peer) × (there.0.life ≡ life) × (there.0.client ≡ client)
+        × (there.0.number ≡ number)
     same =
         let v = there.0 in
         let small = small-at ends servers order here.place v there.1 in
-        let code : end_code v.peer v.client v.number ≡ end_code peer client number =
+        let code : end_code v.peer v.life v.client v.number ≡ end_code peer life client number =
         omega (arith, ap code_of there.2, here.is) in
-        let outer = parts (v.peer * SPAN + v.client) v.number (peer * SPAN + client) number
-        small.1 near code in
-        let inner = parts v.peer v.client peer client small.0 narrow outer.0 in
-        (inner.0, inner.1, outer.1)
+        let outer = parts ((v.peer * LIVES + v.life) * SPAN + v.client) v.number
+        ((peer * LIVES + life) * SPAN + client) number small.2 near code in
+        let inner = parts (v.peer * LIVES + v.life) v.client (peer * LIVES + life) client small.1
+        narrow outer.0 in
+        let sender = senders v.peer v.life peer life small.0 short inner.0 in
+        (sender.0, sender.1, inner.1, outer.1)
 
     not-before : (j : ℕ) → j < here.place
-        → ends_at peer client (get_or servers j there.0) ≡ false
+        → ends_at peer client life (get_or servers j there.0) ≡ false
     not-before j less =
         let v = there.0 in
         let inside = slice_get_within servers here.place v there.1 in
@@ -187,38 +203,67 @@ module _ (ends : List ℕ) (servers : List Serving) (peer client place : ℕ)
         let at = slice_get-get_or servers j v (omega (arith, less, inside)) in
         let rise = rising servers j here.place v up less inside in
         let own = got-same servers here.place v v there.1 in
-        unless-true (ends_at peer client w) (λ passes.
+        unless-true (ends_at peer client life w) (λ passes.
         let h = own-least j w at passes in
-        omega (arith, h.1, is, rise, ap (λ (x : Serving). x.number) own, same.2))
+        omega (arith, h.1, is, rise, ap (λ (x : Serving). x.number) own, same.3))
 
-    first-end : position (ends_at peer client) servers ≡ Some here.place
+    first-end : position (ends_at peer client life) servers ≡ Some here.place
     first-end =
         let v = there.0 in
         let inside = slice_get_within servers here.place v there.1 in
-        let passes : ends_at peer client v ≡ true =
-        and_from (v.peer == peer) (v.client == client) (eq-eqb v.peer peer same.0)
-        (eq-eqb v.client client same.1) in
-        let first : position_or_len (ends_at peer client) servers ≡ here.place =
-        position_or_len_is (ends_at peer client) servers here.place v (omega (arith, inside))
+        let passes : ends_at peer client life v ≡ true =
+        and_from (v.peer == peer) (v.client == client && v.life == life)
+        (eq-eqb v.peer peer same.0)
+        (and_from (v.client == client) (v.life == life) (eq-eqb v.client client same.2)
+        (eq-eqb v.life life same.1)) in
+        let first : position_or_len (ends_at peer client life) servers ≡ here.place =
+        position_or_len_is (ends_at peer client life) servers here.place v (omega (arith, inside))
         not-before
-        (λ _. ap (ends_at peer client) (got-same servers here.place v v there.1) ∙ passes) in
+        (λ _. ap (ends_at peer client life) (got-same servers here.place v v there.1) ∙ passes) in
         rw (first, lt-ltb here.place (length servers) inside) refl
 
     first-number : Some here.place ≡ position (has_number number) servers
     first-number =
         found-at servers number here.place up
-        (ap (option_is (has_number number)) there.1 ∙ eq-eqb there.0.number number same.2)
+        (ap (option_is (has_number number)) there.1 ∙ eq-eqb there.0.number number same.3)
 
-    pub the-end : position (has_number number) servers ≡ position (ends_at peer client) servers
+    pub the-end : position (has_number number) servers ≡ position (ends_at peer client life) servers
     the-end = sym first-number ∙ sym first-end
+
+-- No session is of an older life of a peer where no code stands from those of its first life on and
+-- below those of this one.
+module _ (ends : List ℕ) (servers : List Serving) (peer life place : ℕ)
+    (order : EndOrder ends (map way_of servers))
+    (point : IsPartitionPoint (λ e. e < end_code peer 0 0 0) (λ e. end_code peer 0 0 0 ≤ e)
+    ends place) where
+  older-code : (k : ℕ) (v : Serving) → slice_get servers k ≡ Some v
+      → is_of_older peer life v ≡ true → (end_code peer 0 0 0 ≤ code_of (way_of v))
+      × (code_of (way_of v) < end_code peer life 0 0)
+  older-code k v at is =
+      let both = and_parts (v.peer == peer) (nat_lt v.life life) is in
+      let small = small-at ends servers order k v at in
+      let own = eqb-true v.peer peer both.0 in
+      let older = ltb-true v.life life both.1 in
+      (omega (arith, own), omega (arith, own, older, small.1, small.2))
+
+  pub none-older : (length ends ≤ place) ⊎ (end_code peer life 0 0 ≤ get_or ends place 0)
+      → None ≡ position (is_of_older peer life) servers
+  none-older none = none-passes (is_of_older peer life) servers (λ k v at.
+      unless-true (is_of_older peer life v) (λ is.
+      let code = older-code k v at is in
+      let h = least ends servers order (end_code peer 0 0 0) place k v point at code.0 in
+      elim none [
+        | inl past ↦ omega (arith, past, h.0)
+        | inr far ↦ omega (arith, far, h.1, code.1)
+      ]))
 
 -- a session more
 pub end-added : (ends : List ℕ) (servers : List Serving) (place : ℕ) (v : Serving) (code : ℕ)
-    → EndOrder ends (map way_of servers) → code ≡ code_of (way_of v) → v.client < SPAN
-    → v.number < SPAN → place ≤ length ends
+    → EndOrder ends (map way_of servers) → code ≡ code_of (way_of v) → HasParts (way_of v)
+    → place ≤ length ends
     → IsPartitionPoint (λ e. e < code) (λ e. code ≤ e) ends place
     → EndOrder (insert ends place code) (map way_of (servers ++ v ∷ []))
-end-added ends servers place v code order is narrow few within point =
+end-added ends servers place v code order is small within point =
     rw (map_push way_of servers v) (record {
       rises = IsNonDecreasingBy-insert (λ e. e) ends place code order.rises within
           (λ k d less. (let h = point.0 k d (omega arith) less in omega (arith, h)))
@@ -237,8 +282,7 @@ end-added ends servers place v code order is narrow few within point =
             same,
             order.each n,
           ));
-      small = all-push (λ (w : Way). (w.other < SPAN) × (w.number < SPAN)) (map way_of servers)
-          (way_of v) order.small (narrow, few);
+      small = all-push HasParts (map way_of servers) (way_of v) order.small small;
     })
 
 -- numbers that rise still do without one of them
@@ -292,6 +336,5 @@ module _ (ends : List ℕ) (servers : List Serving) (order : EndOrder ends (map 
               same,
               order.each n,
             ));
-        small = all-removed (λ (w : Way). (w.other < SPAN) × (w.number < SPAN))
-            (map way_of servers) i order.small;
+        small = all-removed HasParts (map way_of servers) i order.small;
       })

@@ -19,7 +19,7 @@ use Rattle.packet_rings.specs.Entries.{is_of}
 use Rattle.packet_rings.specs.Rings.{Ring}
 use Rattle.packet_rings.specs.Values.{EntryValue}
 use Rattle.pacing_wheel.specs.Wheel.{Wheel}
-use Rattle.rpc_laws.specs.ControlTable.{is_end_of}
+use Rattle.rpc_laws.specs.ControlTable.{is_end_of, is_older}
 use Rattle.rpc_laws.specs.Requests.{in_slot_of, is_server}
 use Rattle.rpc_laws.specs.declared.tables.Served.{Served}
 use Rattle.client_core.proofs.ShownLemmas.{found-shown}
@@ -40,7 +40,7 @@ use Rattle.session_store.specs.Joined.{joined, queue_of, shown_with}
 use Rattle.session_store.specs.Sides.{HasPlaces, IsOf, IsOfOwner, Kept, Rises, ServerHolds}
 use Rattle.session_store.specs.Sides.{ServerKept, ServerQueued, Shown, is_end}
 use Rattle.session_store.specs.Sides.{numbers_in, places_in, queued_of, served_places}
-use Rattle.session_store.specs.Sides.{ends_at, shown_side, side_handed}
+use Rattle.session_store.specs.Sides.{ends_at, is_of_older, shown_side, side_handed}
 use Rattle.session_store.proofs.KeptLemmas.{ServerActs, clients-same, handed-same, server-acted, server-places}
 use Rattle.session_store.proofs.KeptLemmas.{servers-set}
 use Rattle.session_store.proofs.ListLemmas.{get-there}
@@ -430,14 +430,27 @@ module _ (pool : Pool) (slot : ℕ) (small : slot < 8) where
       rw (← view, get-map (shown_server pool) servers i v at) (is ∙ sym (owner-shown v))
 
 -- where a server session stands that is the other end of a client session
-end-place : (pool : Pool) (peer client : ℕ) (servers : List Serving)
-    → position_or_len (is_end_of peer client) (map (shown_server pool) servers)
-    ≡ position_or_len (ends_at peer client) servers
-end-place pool peer client [] = refl
-end-place pool peer client (v ∷ vs) = rw (end-place pool peer client vs) refl
+end-place : (pool : Pool) (peer client life : ℕ) (servers : List Serving)
+    → position_or_len (is_end_of peer client life) (map (shown_server pool) servers)
+    ≡ position_or_len (ends_at peer client life) servers
+end-place pool peer client life [] = refl
+end-place pool peer client life (v ∷ vs) = rw (end-place pool peer client life vs) refl
 
-pub end-seen : (pool : Pool) (peer client : ℕ) (servers : List Serving)
-    → position (is_end_of peer client) (map (shown_server pool) servers)
-    ≡ position (ends_at peer client) servers
-end-seen pool peer client servers =
-    rw (end-place pool peer client servers, length-map servers (shown_server pool)) refl
+pub end-seen : (pool : Pool) (peer client life : ℕ) (servers : List Serving)
+    → position (is_end_of peer client life) (map (shown_server pool) servers)
+    ≡ position (ends_at peer client life) servers
+end-seen pool peer client life servers =
+    rw (end-place pool peer client life servers, length-map servers (shown_server pool)) refl
+
+-- and where one stands that is of an older life
+older-place : (pool : Pool) (peer life : ℕ) (servers : List Serving)
+    → position_or_len (is_older peer life) (map (shown_server pool) servers)
+    ≡ position_or_len (is_of_older peer life) servers
+older-place pool peer life [] = refl
+older-place pool peer life (v ∷ vs) = rw (older-place pool peer life vs) refl
+
+pub older-seen : (pool : Pool) (peer life : ℕ) (servers : List Serving)
+    → position (is_older peer life) (map (shown_server pool) servers)
+    ≡ position (is_of_older peer life) servers
+older-seen pool peer life servers =
+    rw (older-place pool peer life servers, length-map servers (shown_server pool)) refl

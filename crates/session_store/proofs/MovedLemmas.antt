@@ -115,15 +115,16 @@ module _ (pool : Pool) (sides : List Side) (servers : List Serving) (tx : Ring E
 
 -- what is shown of it
 module _ (pool : Pool) (peer : ℕ) (s : Session) where
-  pub connects-end : (stage : Stage) (t : ℕ)
+  pub connects-end : (stage : Stage) (t life : ℕ)
       → (shown_end stage pool peer s).state ≡ SessionState.Connecting
-      → shown_end Connected pool peer (record s { server = t }) ≡ connects t (shown_end stage pool peer s)
-  connects-end (Connecting n m) t e = refl
-  connects-end Connected t e = cc
-  connects-end (Closing n m) t e = cc
-  connects-end Closed t e = cc
-  connects-end Failed t e = cc
-  connects-end Broken t e = cc
+      → shown_end Connected pool peer (record s { server = t; life = life })
+      ≡ connects t life (shown_end stage pool peer s)
+  connects-end (Connecting n m) t life e = refl
+  connects-end Connected t life e = cc
+  connects-end (Closing n m) t life e = cc
+  connects-end Closed t life e = cc
+  connects-end Failed t life e = cc
+  connects-end Broken t life e = cc
 
   pub fails-end : (stage : Stage) → (shown_end stage pool peer s).state ≡ SessionState.Connecting
       → shown_end Failed pool peer s ≡ comes_to SessionState.Failed (shown_end stage pool peer s)
@@ -234,17 +235,17 @@ module _ (pool : Pool) (sides : List Side) (servers : List Serving) (tx : Ring E
       (never-unconnected side (not-connected pool side.peer side.session side.stage
       (ap takes_calls is ∙ other))) tx.items kept.stands
 
-  pub moved-connected : (t : ℕ) (session : Session)
-      → session ≡ record side.session { server = t }
+  pub moved-connected : (t life : ℕ) (session : Session)
+      → session ≡ record side.session { server = t; life = life }
       → IsInState SessionState.Connecting (slice_get seen.clients i)
-      → Moved pool sides servers tx i (connects t) seen
+      → Moved pool sides servers tx i (connects t life) seen
       (slice_set sides i (record side { stage = Connected; session = session }))
-  moved-connected t session is h =
+  moved-connected t life session is h =
       rw is (moved (record side {
         stage = Connected;
-        session = record side.session { server = t };
-      }) (connects t) (idle-in SessionState.Connecting refl h) refl refl refl
-      (connects-end pool side.peer side.session side.stage t
+        session = record side.session { server = t; life = life };
+      }) (connects t life) (idle-in SessionState.Connecting refl h) refl refl refl
+      (connects-end pool side.peer side.session side.stage t life
       (looked (λ x. x.state ≡ SessionState.Connecting) h)))
 
   pub moved-failed : IsInState SessionState.Connecting (slice_get seen.clients i)

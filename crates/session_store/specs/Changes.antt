@@ -101,6 +101,7 @@ pub record IsEnd (e : ServerEnd) (v : Server) : Type 0 where
   pub number : e.session ≡ v.way.number
   pub peer : e.peer ≡ v.way.peer
   pub client : e.client ≡ v.way.other
+  pub life : e.life ≡ v.way.life
   pub credits : e.credits ≡ v.credits
 
 -- no reply to a request of a server session is queued

@@ -11,6 +11,7 @@ use Rattle.client_core.specs.declared.active.Active.{Active}
 use Rattle.client_core.specs.Session.{Session}
 use Rattle.client_core.specs.Shown.{shown, shown_broken}
 use Rattle.rpc_laws.specs.Calls.{is_call}
+use Rattle.rpc_laws.specs.Lives.{no_life}
 use Rattle.rpc_laws.specs.Sessions.{comes_to, no_session}
 use Rattle.rpc_laws.specs.declared.tables.Call.{Call}
 use Rattle.rpc_laws.specs.declared.tables.Client.{Client}
@@ -23,9 +24,9 @@ use Rattle.session_store.specs.declared.stage.Stage.TheVariants.{Closed, Failed,
 abbrev pub asking_in : SessionState → (sends sent_at : ℕ) → Client → Client
 asking_in state sends sent_at x = record x { state = state; sends = sends; sent_at = sent_at }
 
--- one that was never connected: the server's number isn't known
+-- one that was never connected: the server's number and its life aren't known
 abbrev pub unconnected : Client → Client
-unconnected x = record x { way = record x.way { other = no_session } }
+unconnected x = record x { way = record x.way { other = no_session; life = no_life } }
 
 -- a session as the definitions over histories have it, at its stage
 abbrev pub shown_end : Stage → Pool → ℕ → Session → Client

@@ -1,6 +1,7 @@
 -- Sessions that share a pool and a transmit ring: what they show, and what always holds of them. The
 -- ring has here all that is queued, also what is paced.
-use Rattle.std.specs.Prelude.{◌≡◌, ℕ, ◌+◌, ◌*◌, ◌<◌, ◌≤◌, ◌==◌, ◌&&◌, Bool, true, false, Option}
+use Rattle.std.specs.Prelude.{◌≡◌, ℕ, ◌+◌, ◌*◌, ◌<◌, ◌≤◌, ◌==◌, ◌&&◌, nat_lt, Bool, true, false}
+use Rattle.std.specs.Prelude.{Option}
 use Rattle.std.specs.Prelude.{Some, None, List, [], ◌∷◌, count_by, length, map, sum_by, slice_get}
 use Rattle.std.specs.List.{AllByRecursion, find, list_any}
 use Rattle.rpc_base.specs.declared.owner.Owner.{Owner}
@@ -11,6 +12,7 @@ use Rattle.packet_rings.specs.Rings.{Ring}
 use Rattle.packet_rings.specs.Values.{EntryValue}
 use Rattle.rpc_base.specs.declared.limits.TheConstants.{MOST_CREDITS, MOST_REFERENCES}
 use Rattle.rpc_laws.specs.Groups.{live_credits}
+use Rattle.rpc_laws.specs.Lives.{no_life}
 use Rattle.rpc_laws.specs.Sessions.{no_session}
 use Rattle.rpc_laws.specs.declared.tables.Call.{Call}
 use Rattle.rpc_laws.specs.declared.tables.Client.{Client}
@@ -46,6 +48,15 @@ server_at (Closing sends sent_at) s = s.server
 server_at Closed s = s.server
 server_at Failed s = no_session
 server_at Broken s = s.server
+
+-- and the life of its server, nobody's before it is connected
+abbrev pub life_at : Stage → Session → ℕ
+life_at (Connecting sends sent_at) s = no_life
+life_at Connected s = s.life
+life_at (Closing sends sent_at) s = s.life
+life_at Closed s = s.life
+life_at Failed s = no_life
+life_at Broken s = s.life
 
 -- and what was handed in with its calls
 abbrev pub side_handed : Pool → Side → List Handed
@@ -123,9 +134,13 @@ IsOfSide e (Some s) =
 abbrev pub is_end : (number peer : ℕ) → Serving → Bool
 is_end number peer v = v.number == number && v.peer == peer
 
--- whether a server session is the other end of a peer's client session
-abbrev pub ends_at : (peer client : ℕ) → Serving → Bool
-ends_at peer client v = v.peer == peer && v.client == client
+-- whether a server session is the other end of a client session that a peer has in this life
+abbrev pub ends_at : (peer client life : ℕ) → Serving → Bool
+ends_at peer client life v = v.peer == peer && (v.client == client && v.life == life)
+
+-- and whether it is of an older life of the peer
+abbrev pub is_of_older : (peer life : ℕ) → Serving → Bool
+is_of_older peer life v = v.peer == peer && nat_lt v.life life
 
 -- the session of an entry is there and its peer is the entry's: that of a call's packet posted it.
 -- That a reply is one of its session's is what HoldsAll says

@@ -22,7 +22,7 @@ ghost use Rattle.server_core.specs.Session.{IsSession};
 ghost use Rattle.server_core.specs.Steps.{IsAsking};
 
 use buffer_pool::BufferPool;
-use packet_header::MessageHeader;
+use packet_header::{Life, MessageHeader};
 use packet_rings::{Entry, TxRing};
 use rpc_base::{HEAD_BYTES, Peer, SessionNo, Who};
 use rpc_outside::{Recorder, Service};
@@ -37,6 +37,8 @@ pub struct ServerEnd {
     pub peer: Peer,
     /// Its number at the client.
     pub client: SessionNo,
+    /// The client's life.
+    pub life: Life,
     pub credits: u16,
 }
 

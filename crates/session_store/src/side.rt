@@ -12,7 +12,7 @@ ghost use Rattle.session_store.specs.Effects.{SideBegins, SideFlushes, SideLoses
 ghost use Rattle.session_store.specs.Effects.{RepliesTo, SideChanges, SideRolls, SideSends};
 ghost use Rattle.session_store.specs.Effects.{SideWaits};
 ghost use Rattle.session_store.specs.Effects.{SpellsIn};
-ghost use Rattle.session_store.specs.Sides.{IsOfSide, MayPost, SideKept, server_at};
+ghost use Rattle.session_store.specs.Sides.{IsOfSide, MayPost, SideKept, life_at, server_at};
 
 use crate::stage::Stage;
 use buffer_pool::BufferPool;
@@ -40,7 +40,7 @@ pub struct ClientEnd {
     pub credits: u16,
     /// The session's number at the server, 65,535 before it is connected.
     pub server: SessionNo,
-    /// The life of the server's endpoint.
+    /// The life of the server's endpoint, 0 before it is connected.
     pub life: Life,
 }
 
@@ -53,6 +53,18 @@ impl Side {
             Stage::Connecting { .. } | Stage::Failed => SessionNo(SESSION_NUMBERS),
             Stage::Connected | Stage::Closing { .. } | Stage::Closed | Stage::Broken => {
                 self.session.server()
+            }
+        }
+    }
+
+    /// The life of the server's endpoint, 0 before the session is connected.
+    pub fn life(&self) -> Life
+        ensures { result ≡ life_at self.now.stage self.now.session }
+    {
+        match &self.stage {
+            Stage::Connecting { .. } | Stage::Failed => Life(0),
+            Stage::Connected | Stage::Closing { .. } | Stage::Closed | Stage::Broken => {
+                self.session.life()
             }
         }
     }

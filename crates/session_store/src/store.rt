@@ -34,7 +34,7 @@ pub struct Store {
     // The credits of the live sessions.
     shares: u32,
     // The codes of the server sessions, in rising order.
-    ends: Vec<u64>,
+    ends: Vec<u128>,
     // What a server session is made by.
     alloc: Global,
 }

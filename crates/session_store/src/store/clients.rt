@@ -32,7 +32,7 @@ use crate::line::{holds_in, put_in};
 use crate::side::{Side, begin_at, enqueue_at, heard_at, post_at};
 use crate::stage::Stage;
 use client_core::{Active, ClientSession, Reply};
-use packet_header::{FIRST_LIFE, Life, MessageHeader};
+use packet_header::{Life, MessageHeader};
 use packet_rings::Entry;
 use rpc_base::{
     CallNo, DropReason, HEAD_BYTES, MOST_CALLS, MOST_CREDITS, MOST_DATAGRAM_BYTES,
@@ -92,25 +92,27 @@ impl Store {
     }
 
     /// A client session is made that is connected from the start, with 1 to 256 credits; its number
-    /// is its place, and the server's is below 65,535. `NoMemory` comes where there is no memory
-    /// for it.
+    /// is its place, the server's is below 65,535, and the life of the server's endpoint isn't 0.
+    /// `NoMemory` comes where there is no memory for it.
     pub fn pair_client(
         &mut self,
         alloc: Global,
         peer: Peer,
+        life: Life,
         server: SessionNo,
         credits: u16,
     ) -> Result<(), NoMemory>
         requires numbers { length self.old.clients < SESSION_NUMBERS }
+        requires alive { 1 ≤ life }
         requires server { server < SESSION_NUMBERS }
         requires some { 1 ≤ credits }
         requires most { credits ≤ MOST_CREDITS }
-        ensures { MakesClient (client_end (length self.old.clients) peer server credits) result
+        ensures { MakesClient (client_end (length self.old.clients) peer server credits life) result
             self.old self.new }
     {
         let shares = self.shares_with(credits);
         let number = SessionNo(self.sides.len() as u16);
-        let session = ClientSession::new(alloc, number, server, Life(FIRST_LIFE), credits);
+        let session = ClientSession::new(alloc, number, server, life, credits);
         let side = Side {
             peer,
             stage: Stage::Connected,

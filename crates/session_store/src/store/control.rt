@@ -38,7 +38,7 @@ impl Store {
     {
         let shares = self.shares_with(credits);
         let number = SessionNo(self.sides.len() as u16);
-        // The server's number isn't known yet, and isn't shown.
+        // The server's number and its life aren't known yet, and aren't shown.
         let session = ClientSession::new(alloc, number, SessionNo(0), Life(FIRST_LIFE), credits);
         let side = Side {
             peer,
@@ -54,15 +54,16 @@ impl Store {
     }
 
     /// Session `i`, which is Connecting, is connected with a server session, whose number is below
-    /// 65,535.
-    pub fn connected(&mut self, i: usize, server: SessionNo)
+    /// 65,535, in this life of the server's endpoint, which isn't 0.
+    pub fn connected(&mut self, i: usize, server: SessionNo, life: Life)
         requires known { i < length self.old.clients }
         requires connecting { IsInState Connecting (slice_get self.old.clients i) }
         requires server { server < SESSION_NUMBERS }
-        ensures { ChangesClient i (connects server) self.old self.new }
+        requires alive { 1 ≤ life }
+        ensures { ChangesClient i (connects server life) self.old self.new }
     {
         let side = &mut self.sides[i];
-        side.session.connected(server);
+        side.session.connected(server, life);
         side.stage = Stage::Connected;
     }
 
@@ -112,7 +113,7 @@ impl Store {
             peer: side.peer,
             credits: side.session.limit(),
             server: side.server(),
-            life: side.session.life(),
+            life: side.life(),
         }
     }
 

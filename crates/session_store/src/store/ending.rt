@@ -32,7 +32,12 @@ impl Store {
     {
         self.shares -= u32::from(self.servers[i].credits());
         let server = &self.servers[i];
-        let code = code_at(server.peer(), server.client(), server.session());
+        let code = code_at(
+            server.peer(),
+            server.life(),
+            server.client(),
+            server.session(),
+        );
         let place = place_in(&self.ends, code);
         self.ends.remove(place);
         end_at(&mut self.servers, i, &mut self.pool);

@@ -5,7 +5,7 @@ ghost use Rattle.std.specs.List.{AllByRecursion, position};
 ghost use Rattle.rpc_outside.specs.Served.{StandsForSome};
 ghost use Rattle.message_buffer.specs.Buffer.{bytes_of};
 ghost use Rattle.packet_header.specs.Parts.{IsMessage};
-ghost use Rattle.rpc_laws.specs.ControlTable.{is_end_of};
+ghost use Rattle.rpc_laws.specs.ControlTable.{is_end_of, is_older};
 ghost use Rattle.rpc_laws.specs.Requests.{is_server, server_end};
 ghost use Rattle.server_core.specs.Steps.{IsAsking, UnlessRan};
 ghost use Rattle.session_store.specs.Serving.{AreServedAt, HandlesAt};
@@ -14,9 +14,9 @@ ghost use Rattle.session_store.specs.Sides.{HasRoom};
 ghost use Rattle.session_store.specs.Leaving.{FinishesServer, MakesServer};
 
 use super::Store;
-use crate::ends::{code_at, end_in, place_in};
+use crate::ends::{code_at, end_in, older_in, place_in};
 use crate::server::{ServerEnd, asked_at, finished_at, place_of, reply_of};
-use packet_header::{FIRST_LIFE, Life, MessageHeader};
+use packet_header::{Life, MessageHeader};
 use packet_rings::Entry;
 use rpc_base::{MOST_CREDITS, NoMemory, NodeId, Peer, SESSION_NUMBERS, SessionNo, Who};
 use rpc_outside::{Recorder, Service};
@@ -39,15 +39,23 @@ impl Store {
         place_of(&self.servers, number)
     }
 
-    /// Where the first server session stands that is the other end of a peer's client session. None
-    /// comes exactly where there is none.
-    pub fn place_of_end(&self, peer: Peer, client: SessionNo) -> Option<usize>
-        ensures { result ≡ position (is_end_of peer client) self.now.servers }
+    /// Where the first server session stands that is the other end of a client session that a peer
+    /// has in this life. None comes exactly where there is none.
+    pub fn place_of_end(&self, peer: Peer, client: SessionNo, life: Life) -> Option<usize>
+        ensures { result ≡ position (is_end_of peer client life) self.now.servers }
     {
-        end_in(&self.servers, &self.ends, peer, client)
+        end_in(&self.servers, &self.ends, peer, client, life)
     }
 
-    /// The number, the credits and the client's number of the server session at place `i`.
+    /// Where the first server session stands that is of an older life of a peer than this one. None
+    /// comes exactly where there is none; that is told in few steps.
+    pub fn place_of_older(&self, peer: Peer, life: Life) -> Option<usize>
+        ensures { result ≡ position (is_older peer life) self.now.servers }
+    {
+        older_in(&self.servers, &self.ends, peer, life)
+    }
+
+    /// What never changes of the server session at place `i`.
     pub fn end_of_server(&self, i: usize) -> ServerEnd
         requires known { i < length self.now.servers }
         ensures { IfSome (slice_get self.now.servers i) (IsEnd result) }
@@ -57,6 +65,7 @@ impl Store {
             session: server.session(),
             peer: server.peer(),
             client: server.client(),
+            life: server.life(),
             credits: server.credits(),
         }
     }
@@ -70,34 +79,30 @@ impl Store {
     }
 
     /// A server session is made that is connected from the start, with 1 to 256 credits. Its number
-    /// is above those of the others, and the client's is below 65,535. `NoMemory` comes where there
-    /// is no memory for it.
+    /// is above those of the others, the client's is below 65,535, and the life of the client's
+    /// endpoint isn't 0. `NoMemory` comes where there is no memory for it.
     pub fn pair_server(
         &mut self,
         number: SessionNo,
         client: SessionNo,
         peer: Peer,
+        life: Life,
         credits: u16,
     ) -> Result<(), NoMemory>
         requires number { number < SESSION_NUMBERS }
         requires above { AllByRecursion (λ v. v.way.number < number) self.old.servers }
         requires client { client < SESSION_NUMBERS }
+        requires alive { 1 ≤ life }
         requires some { 1 ≤ credits }
         requires most { credits ≤ MOST_CREDITS }
-        ensures { MakesServer (server_end number peer client credits) result self.old self.new }
+        ensures { MakesServer (server_end number peer client credits life) result self.old
+            self.new }
     {
         let shares = self.shares_with(credits);
-        let session = ServerSession::new(
-            self.alloc,
-            number,
-            client,
-            Life(FIRST_LIFE),
-            peer,
-            credits,
-        )?;
+        let session = ServerSession::new(self.alloc, number, client, life, peer, credits)?;
         // There is room for the session before anything changes.
         self.servers.reserve(1)?;
-        let code = code_at(peer, client, number);
+        let code = code_at(peer, life, client, number);
         let place = place_in(&self.ends, code);
         self.ends.insert(place, code)?;
         self.servers.push(session).unwrap();

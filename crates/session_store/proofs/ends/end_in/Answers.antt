@@ -6,7 +6,7 @@ use Rattle.session_store.proofs.ends.end_in.Goals as goal
 pub returns-then-place-len : goal.returns-then-place-len
 returns-then-place-len c =
     no-end c.args.ends.now.items c.args.servers.now.items c.args.peer c.args.client
-    c.place_in-place.result c.requires.order c.requires.rises (omega arith)
+    c.args.life c.place_in-place.result c.requires.order c.requires.rises (omega arith) (omega arith)
     (rw (← c.code_at-first.ensures) c.place_in-place.ensures.parts) (inl (omega (
       arith,
       c.if-place-len.true,
@@ -16,7 +16,7 @@ returns-then-place-len c =
 pub returns-then-number-ge-SPAN : goal.returns-then-number-ge-SPAN
 returns-then-number-ge-SPAN c =
     no-end c.args.ends.now.items c.args.servers.now.items c.args.peer c.args.client
-    c.place_in-place.result c.requires.order c.requires.rises (omega arith)
+    c.args.life c.place_in-place.result c.requires.order c.requires.rises (omega arith) (omega arith)
     (rw (← c.code_at-first.ensures) c.place_in-place.ensures.parts) (inr (omega (
       arith,
       c.if-number-ge-SPAN.true,
@@ -43,7 +43,7 @@ returns c =
     let is : c.index.result.now ≡ get_or ends place 0 =
     c.index.ensures ∙ get_or_default_zero ends place c.index.result.now within in
     let from = c.place_in-place.ensures.parts.1 place 0 (omega arith) within in
-    c.place_of.ensures ∙ the-end ends c.args.servers.now.items c.args.peer c.args.client place
-    c.requires.order c.requires.rises (omega arith)
+    c.place_of.ensures ∙ the-end ends c.args.servers.now.items c.args.peer c.args.client
+    c.args.life place c.requires.order c.requires.rises (omega arith) (omega arith)
     (rw (← c.code_at-first.ensures) c.place_in-place.ensures.parts) within _
     (omega (arith, is, from, c.code_at-first.ensures)) (omega (arith, c.if-number-ge-SPAN.false))

@@ -19,7 +19,7 @@ invariant_of-self c =
     c.index_mut-side.ensures.value in
     let moved = moved-connected s.pool s.sides.items s.servers.items (joined s.tx s.pacer) c.self.invariant.0
     (undue c.args.self.now) seen c.args.i c.index_mut-side.result.now at
-    c.args.server c.connected.new.self c.connected.ensures c.requires.connecting in (
+    c.args.server c.args.life c.connected.new.self c.connected.ensures c.requires.connecting in (
       moved.kept,
       c.self.invariant.1,
       share-stays s.shares s.pool s.sides.items s.servers.items c.self.invariant.2 c.args.i
@@ -36,8 +36,8 @@ returns c =
     (undue c.args.self.now) seen c.args.i c.index_mut-side.result.now c.requires.known
     c.index_mut-side.ensures.value in
     let moved = moved-connected s.pool s.sides.items s.servers.items (joined s.tx s.pacer) c.self.invariant.0
-    (undue c.args.self.now) seen c.args.i c.index_mut-side.result.now at c.args.server c.connected.new.self
+    (undue c.args.self.now) seen c.args.i c.index_mut-side.result.now at c.args.server c.args.life c.connected.new.self
     c.connected.ensures c.requires.connecting in
     changes-clients s.pool s.pool s.sides.items _ s.servers.items s.servers.items s.tx s.tx s.pacer
-    s.pacer c.args.self.now c.self.view_is (ChangesAt c.args.i (connects c.args.server)) moved.clients refl
+    s.pacer c.args.self.now c.self.view_is (ChangesAt c.args.i (connects c.args.server c.args.life)) moved.clients refl
     moved.places moved.handed refl refl

@@ -37,7 +37,14 @@ remove-requires c =
       length-map s.servers.items (shown s.pool),
     )) c.index-server.ensures in
     let own : c.code_at-code.result ≡ code_of (way_of w) =
-    omega (arith, c.code_at-code.ensures, c.peer.ensures, c.client.ensures, c.session.ensures) in
+    omega (
+      arith,
+      c.code_at-code.ensures,
+      c.peer.ensures,
+      c.life.ensures,
+      c.client.ensures,
+      c.session.ensures,
+    ) in
     let there = end-there s.ends.items s.servers.items c.self.invariant.3 c.place_in-place.result
     c.code_at-code.result c.args.i w at own c.place_in-place.ensures.parts in
     omega (arith, there.0)
@@ -60,7 +67,14 @@ invariant_of-self c =
       length-map s.servers.items (shown s.pool),
     )) c.index-server.ensures in
     let own : c.code_at-code.result ≡ code_of (way_of w) =
-    omega (arith, c.code_at-code.ensures, c.peer.ensures, c.client.ensures, c.session.ensures) in
+    omega (
+      arith,
+      c.code_at-code.ensures,
+      c.peer.ensures,
+      c.life.ensures,
+      c.client.ensures,
+      c.session.ensures,
+    ) in
     let h = ended s.pool s.sides.items s.servers.items s.tx s.pacer c.self.invariant.0 c.args.self.now
     c.self.view_is c.args.i c.requires.drained c.end_at.new.pool c.end_at.new.servers.items
     c.end_at.ensures in (

@@ -1,6 +1,5 @@
 use Rattle.std.proofs.Common.{ℕ, refl, ◌≡◌, length, ap, ◌∙◌, arith}
 use Rattle.std.specs.Vec.{vec_len}
-use Rattle.rpc_laws.specs.Lives.{first_life}
 use Rattle.client_core.specs.Session.{Session, new_session}
 use Rattle.session_store.specs.declared.side.Side.{Side}
 use Rattle.session_store.specs.declared.stage.Stage.TheVariants.{Connected}
@@ -18,7 +17,7 @@ invariant_of-self-2 c =
       rw c.in_ok-push.ensures.items (kept-paired c.self.inside.pool c.self.inside.sides.items
           c.self.inside.servers.items (joined c.self.inside.tx c.self.inside.pacer) _ c.args.server
           _ c.args.credits c.self.invariant.0
-          (c.new-session.ensures.session ∙ ap (λ n. new_session n c.args.server first_life c.args.credits)
+          (c.new-session.ensures.session ∙ ap (λ n. new_session n c.args.server c.args.life c.args.credits)
           (c.len.ensures ∙ long))),
       c.self.invariant.1,
       rw c.in_ok-push.ensures.items (client-added c.self.inside.shares c.self.inside.pool

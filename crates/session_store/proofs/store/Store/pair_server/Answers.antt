@@ -26,8 +26,10 @@ invariant_of-self-2 c =
           (ap (λ (x : Serving). x.credits) own)),
       rw (pushed, c.in_ok-insert.ensures.items) (end-added s.ends.items s.servers.items
           c.place_in-place.result v c.code_at-code.result c.self.invariant.3
-          (c.code_at-code.ensures ∙ ap (λ (x : Serving). code_of (way_of x)) (sym own))
-          (omega (arith, ap (λ (x : Serving). x.client) own, c.requires.client))
-          (omega (arith, ap (λ (x : Serving). x.number) own, c.requires.number))
+          (c.code_at-code.ensures ∙ ap (λ (x : Serving). code_of (way_of x)) (sym own)) (
+            omega (arith, ap (λ (x : Serving). x.life) own, c.requires.alive),
+            omega (arith, ap (λ (x : Serving). x.client) own, c.requires.client),
+            omega (arith, ap (λ (x : Serving). x.number) own, c.requires.number),
+          )
           c.place_in-place.ensures.within c.place_in-place.ensures.parts),
     )
