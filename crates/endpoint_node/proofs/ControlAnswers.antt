@@ -1,12 +1,11 @@
 -- What a row of the control table leaves as it was, and what the packet is that answers it.
 use Rattle.std.proofs.Common.{◌≡◌, ℕ, ◌+◌, ◌<◌, ◌≤◌, Bool, true, false, not, ◌||◌, cond, Option}
-use Rattle.std.proofs.Common.{Some, None, List, [], ◌∷◌, ◌++◌, inl, inr, refl, sym, ap, ◌∙◌, arith}
+use Rattle.std.proofs.Common.{Some, None, List, [], ◌∷◌, ◌++◌, inl, inr, refl, ap, ◌∙◌, arith}
 use Rattle.std.specs.Prelude.{◌==◌, IfSome, flat_map, nat_le}
 use Rattle.std.specs.List.{AllByRecursion, find}
-use Rattle.std.proofs.lemmas.Bool.{eq-eqb, eqb-true, leb-false}
+use Rattle.std.proofs.lemmas.Bool.{leb-false}
 use Rattle.packet_header.specs.Header.{ControlInRange, IsServer}
 use Rattle.packet_header.specs.Ranges.{Within, lives, sessions}
-use Rattle.rpc_laws.specs.Lives.{first_life}
 use Rattle.packet_header.specs.declared.packet.ControlHeader.{ControlHeader}
 use Rattle.packet_header.specs.declared.packet.ControlKind.{ControlKind}
 use Rattle.packet_header.specs.declared.packet.ControlKind.TheVariants.{ConnectRequest}
@@ -30,13 +29,14 @@ use Rattle.rpc_laws.specs.declared.rows.ControlRow.{ControlRow}
 use Rattle.rpc_laws.specs.declared.rows.ControlRow.TheVariants.{Accepts, Closes, Confirms, Connects}
 use Rattle.rpc_laws.specs.declared.rows.ControlRow.TheVariants.{Declines, Disowns, Ends, Fails}
 use Rattle.rpc_laws.specs.declared.rows.ControlRow.TheVariants.{Ignores, Misses, Starves}
-use Rattle.rpc_laws.specs.declared.tables.Arrival.{Arrival}
 use Rattle.rpc_laws.specs.declared.tables.Client.{Client}
 use Rattle.rpc_laws.specs.declared.tables.Lists.{Lists}
 use Rattle.rpc_laws.specs.declared.tables.Queued.{Queued}
 use Rattle.rpc_laws.specs.declared.tables.Server.{Server}
+use Rattle.rpc_laws.specs.declared.tables.Way.{Way}
 use Rattle.rpc_laws.specs.ControlTable.{closed_row, confirm_row, control_facts, control_reply}
-use Rattle.rpc_laws.specs.ControlTable.{control_row, control_row_of, end_row, is_end_of, joined_row}
+use Rattle.rpc_laws.specs.ControlTable.{control_row, control_row_of, end_row, is_end_of, is_for}
+use Rattle.rpc_laws.specs.ControlTable.{is_named, is_stale, joined_row}
 use Rattle.rpc_laws.specs.ControlTable.{named_end, opened_row, over_row, refused_row, reply_row}
 use Rattle.rpc_laws.specs.ControlTable.{session_end, session_flushes}
 use Rattle.rpc_laws.specs.Facts.{plain}
@@ -44,7 +44,7 @@ use Rattle.rpc_laws.specs.Groups.{has_no_room, servers_spent}
 use Rattle.rpc_laws.specs.NodeLists.{after, after_all}
 use Rattle.rpc_laws.specs.Requests.{in_slot_of, is_server, server_end}
 use Rattle.rpc_laws.specs.ServerTable.{flushes}
-use Rattle.rpc_laws.specs.Sessions.{clients_told, is_client, is_request_of, requests}
+use Rattle.rpc_laws.specs.Sessions.{clients_told, is_client, is_request_of, is_with, requests}
 use Rattle.rpc_laws.proofs.RunLemmas.{after_all-append}
 use Rattle.node_laws.proofs.FlushLemmas.{no-more-same, slots-flushed}
 use Rattle.node_laws.proofs.ControlLemmas.{unless-disowns}
@@ -53,33 +53,6 @@ use Rattle.endpoint_node.specs.Fits.{HasCredit, IsCredit}
 use Rattle.endpoint_node.specs.Requests.{AllServed, SlotsServed}
 use Rattle.endpoint_node.proofs.NoteStill.{AllStill, still-append}
 use Rattle.endpoint_node.proofs.NoteCounts.{flushes-none}
-
--- the inbox doesn't matter
-module _ (lacks : Bool) (peer : ℕ) (h : ControlHeader) (s : Lists) (inbox : List Arrival) where
-  row-by : (kind : ControlKind) → control_row_of kind lacks peer h (record s { inbox = inbox })
-      ≡ control_row_of kind lacks peer h s
-  row-by ConnectRequest = refl
-  row-by ConnectReply = refl
-  row-by DisconnectRequest = refl
-  row-by DisconnectReply = refl
-
-  pub row-same : control_row lacks peer h (record s { inbox = inbox })
-      ≡ control_row lacks peer h s
-  row-same = row-by h.kind
-
-  pub facts-same : (row : ControlRow) → control_facts (record s { inbox = inbox }) peer h row
-      ≡ control_facts s peer h row
-  facts-same Ignores = refl
-  facts-same (Confirms t credits) = refl
-  facts-same Declines = refl
-  facts-same Starves = refl
-  facts-same (Accepts t) = refl
-  facts-same Ends = refl
-  facts-same Misses = refl
-  facts-same (Connects t) = refl
-  facts-same Disowns = refl
-  facts-same Fails = refl
-  facts-same Closes = refl
 
 -- each slot of a session
 abbrev slots : List ℕ
@@ -91,8 +64,8 @@ pub record IsSilent (q : Event → Bool) : Type 0 where
   pub ended : (t : ℕ) → q (Ended t) ≡ false
   pub declined : (peer client credits : ℕ) → q (Declined peer client credits) ≡ false
   pub starved : (peer client credits : ℕ) → q (Starved peer client credits) ≡ false
-  pub accepted : (t peer client credits : ℕ) → q (Accepted t peer client credits) ≡ false
-  pub connected : (client t : ℕ) → q (IsConnected client t) ≡ false
+  pub accepted : (t peer client credits life : ℕ) → q (Accepted t peer client credits life) ≡ false
+  pub connected : (client t life : ℕ) → q (IsConnected client t life) ≡ false
   pub failed : (client : ℕ) → q (FailedNoRoom client) ≡ false
   pub closed : (client : ℕ) → q (ClosedHeard client) ≡ false
 
@@ -106,7 +79,7 @@ module _ (q : Event → Bool) (silent : IsSilent q) where
       (flushes-none q silent.flushed me queued v.way.number (find (in_slot_of n) v.slots))
       (slots-still me queued v ns)
 
-  end-still : (me : ℕ) (queued : List Queued) (o : Option Server)
+  pub end-still : (me : ℕ) (queued : List Queued) (o : Option Server)
       → AllStill q (session_end me queued o)
   end-still me queued None = tt
   end-still me queued (Some v) =
@@ -119,10 +92,11 @@ module _ (q : Event → Bool) (silent : IsSilent q) where
   row-still s peer h (Confirms t credits) = tt
   row-still s peer h Declines = (silent.declined peer h.client h.credits, tt)
   row-still s peer h Starves = (silent.starved peer h.client h.credits, tt)
-  row-still s peer h (Accepts t) = (silent.accepted t peer h.client h.credits, tt)
-  row-still s peer h Ends = end-still s.me s.queued (named_end peer h.client h.server s.servers)
+  row-still s peer h (Accepts t) = (silent.accepted t peer h.client h.credits h.from_life, tt)
+  row-still s peer h Ends =
+      end-still s.me s.queued (named_end peer h.client h.from_life h.server s.servers)
   row-still s peer h Misses = tt
-  row-still s peer h (Connects t) = (silent.connected h.client t, tt)
+  row-still s peer h (Connects t) = (silent.connected h.client t h.from_life, tt)
   row-still s peer h Disowns = tt
   row-still s peer h Fails = (silent.failed h.client, tt)
   row-still s peer h Closes = (silent.closed h.client, tt)
@@ -132,7 +106,7 @@ pub record StaysBut (s t : Lists) : Type 0 where
   pub ring : t.ring ≡ s.ring
   pub served : (mode : ℕ → Mode) → AllServed mode s.servers → AllServed mode t.servers
 
-end-stays : (clock : ℕ) (s : Lists) (me : ℕ) (o : Option Server)
+pub end-stays : (clock : ℕ) (s : Lists) (me : ℕ) (o : Option Server)
     → StaysBut s (after_all clock s (session_end me s.queued o))
 end-stays clock s me None = record { ring = refl; served = λ mode all. all }
 end-stays clock s me (Some v) =
@@ -156,11 +130,11 @@ row-stays clock s peer h Declines = record { ring = refl; served = λ mode all. 
 row-stays clock s peer h Starves = record { ring = refl; served = λ mode all. all }
 row-stays clock s peer h (Accepts t) = record {
   ring = refl;
-  served = λ mode all. all-push (SlotsServed mode) s.servers (server_end t peer h.client h.credits)
-      all tt;
+  served = λ mode all. all-push (SlotsServed mode) s.servers
+      (server_end t peer h.client h.credits h.from_life) all tt;
 }
 row-stays clock s peer h Ends =
-    end-stays clock s s.me (named_end peer h.client h.server s.servers)
+    end-stays clock s s.me (named_end peer h.client h.from_life h.server s.servers)
 row-stays clock s peer h Misses = record { ring = refl; served = λ mode all. all }
 row-stays clock s peer h (Connects t) = record { ring = refl; served = λ mode all. all }
 row-stays clock s peer h Disowns = record { ring = refl; served = λ mode all. all }
@@ -180,69 +154,65 @@ RowInRange h _ = Unit {0}
 some-same : {A : Type 0} (a b : A) → Some a ≡ Some b → a ≡ b
 some-same a b e = cc
 
--- the life of a node is in its range
-pub first-within : Within lives first_life
-first-within = (omega arith, omega arith)
-
 is-session : (t : ℕ) → t < SESSION_NUMBERS → Within sessions t
 is-session t below = (omega arith, omega (arith, below))
 
 reply-in-range : (own : ℕ) (h r : ControlHeader) (row : ControlRow) → Within lives own
-    → Within sessions h.client → RowInRange h row → Some r ≡ control_reply own h row
-    → ControlInRange r
-reply-in-range own h r Ignores mine client range e = cc
-reply-in-range own h r (Confirms t credits) mine client range e = rw (some-same r _ e) (record {
+    → Within lives h.from_life → Within sessions h.client → RowInRange h row
+    → Some r ≡ control_reply own h row → ControlInRange r
+reply-in-range own h r Ignores mine theirs client range e = cc
+reply-in-range own h r (Confirms t credits) mine theirs client range e = rw (some-same r _ e) (record {
   client = client;
   server = is-session t range.0;
   credits = range.1;
   status = inl refl;
   from_life = mine;
-  to_life = (omega arith, omega arith);
+  to_life = theirs;
 })
-reply-in-range own h r Declines mine client range e = rw (some-same r _ e) (record {
+reply-in-range own h r Declines mine theirs client range e = rw (some-same r _ e) (record {
   client = client;
   server = tt;
   credits = range;
   status = inr refl;
   from_life = mine;
-  to_life = (omega arith, omega arith);
+  to_life = theirs;
 })
-reply-in-range own h r Starves mine client range e = cc
-reply-in-range own h r (Accepts t) mine client range e = rw (some-same r _ e) (record {
+reply-in-range own h r Starves mine theirs client range e = cc
+reply-in-range own h r (Accepts t) mine theirs client range e = rw (some-same r _ e) (record {
   client = client;
   server = is-session t range.0;
   credits = range.1;
   status = inl refl;
   from_life = mine;
-  to_life = (omega arith, omega arith);
+  to_life = theirs;
 })
-reply-in-range own h r Ends mine client range e = rw (some-same r _ e) (record {
+reply-in-range own h r Ends mine theirs client range e = rw (some-same r _ e) (record {
   client = client;
   server = range;
   credits = (omega arith, omega arith);
   status = inl refl;
   from_life = mine;
-  to_life = (omega arith, omega arith);
+  to_life = theirs;
 })
-reply-in-range own h r Misses mine client range e = rw (some-same r _ e) (record {
+reply-in-range own h r Misses mine theirs client range e = rw (some-same r _ e) (record {
   client = client;
   server = range;
   credits = (omega arith, omega arith);
   status = inr refl;
   from_life = mine;
-  to_life = (omega arith, omega arith);
+  to_life = theirs;
 })
-reply-in-range own h r (Connects t) mine client range e = cc
-reply-in-range own h r Disowns mine client range e = rw (some-same r _ e) (record {
+reply-in-range own h r (Connects t) mine theirs client range e = cc
+reply-in-range own h r Disowns mine theirs client range e = rw (some-same r _ e) (record {
   client = client;
   server = range;
   credits = (omega arith, omega arith);
   status = inl refl;
   from_life = mine;
-  to_life = (omega arith, omega arith);
+  to_life = theirs;
 })
-reply-in-range own h r Fails mine client range e = cc
-reply-in-range own h r Closes mine client range e = cc
+reply-in-range own h r Fails mine theirs client range e = cc
+reply-in-range own h r Closes mine theirs client range e = cc
 
 -- the number and the credits of a server session are in range
 abbrev IsNamed : Server → Type 0
@@ -282,17 +252,16 @@ connects-in-range : (h : ControlHeader) (b : Bool) (t : ℕ)
 connects-in-range h true t = tt
 connects-in-range h false t = tt
 
-joined-in-range : (h : ControlHeader) (state : SessionState) (limit other t credits : ℕ)
-    → IsServer true h.server → RowInRange h (joined_row state limit other t credits)
-joined-in-range h Connecting limit other t credits range =
-    connects-in-range h (credits == limit) t
-joined-in-range h Connected limit other t credits range = unless-in-range h (other == t) range
-joined-in-range h Spent limit other t credits range = unless-in-range h (other == t) range
-joined-in-range h Closing limit other t credits range = unless-in-range h (other == t) range
-joined-in-range h Unknown limit other t credits range = range
-joined-in-range h Closed limit other t credits range = range
-joined-in-range h Failed limit other t credits range = range
-joined-in-range h Broken limit other t credits range = range
+joined-in-range : (h : ControlHeader) (state : SessionState) (its : Bool) (limit t credits : ℕ)
+    → IsServer true h.server → RowInRange h (joined_row state its limit t credits)
+joined-in-range h Connecting its limit t credits range = connects-in-range h (credits == limit) t
+joined-in-range h Connected its limit t credits range = unless-in-range h its range
+joined-in-range h Spent its limit t credits range = unless-in-range h its range
+joined-in-range h Closing its limit t credits range = unless-in-range h its range
+joined-in-range h Unknown its limit t credits range = range
+joined-in-range h Closed its limit t credits range = range
+joined-in-range h Failed its limit t credits range = range
+joined-in-range h Broken its limit t credits range = range
 
 refused-in-range : (h : ControlHeader) (state : SessionState) → RowInRange h (refused_row state)
 refused-in-range h Connecting = tt
@@ -305,26 +274,38 @@ refused-in-range h Broken = tt
 refused-in-range h Spent = tt
 
 reply-row-in-range : (h : ControlHeader) (b : Bool) (server : Option ℕ) (x : Client)
-    → h.server ≡ server → IsServer b server → RowInRange h (reply_row server h.credits x)
+    → h.server ≡ server → IsServer b server
+    → RowInRange h (reply_row server h.from_life h.credits x)
 reply-row-in-range h b None x e range = refused-in-range h x.state
 reply-row-in-range h b (Some t) x e range =
-    joined-in-range h x.state x.limit x.way.other t h.credits (rw e (is-server b t range))
+    joined-in-range h x.state (is_with t h.from_life x.way) x.limit t h.credits
+    (rw e (is-server b t range))
 
 closes-in-range : (h : ControlHeader) (b : Bool) → RowInRange h (cond b Closes Ignores)
 closes-in-range h true = tt
 closes-in-range h false = tt
 
-over-in-range : (h : ControlHeader) (state : SessionState) (other : ℕ) (o : Option ℕ)
-    → RowInRange h (over_row state other o)
-over-in-range h Closing other (Some t) = closes-in-range h (other == t)
-over-in-range h Closing other None = tt
-over-in-range h Unknown other o = tt
-over-in-range h Connecting other o = tt
-over-in-range h Connected other o = tt
-over-in-range h Closed other o = tt
-over-in-range h Failed other o = tt
-over-in-range h Broken other o = tt
-over-in-range h Spent other o = tt
+over-in-range : (h : ControlHeader) (state : SessionState) (its : Bool)
+    → RowInRange h (over_row state its)
+over-in-range h Closing its = closes-in-range h its
+over-in-range h Unknown its = tt
+over-in-range h Connecting its = tt
+over-in-range h Connected its = tt
+over-in-range h Closed its = tt
+over-in-range h Failed its = tt
+over-in-range h Broken its = tt
+over-in-range h Spent its = tt
+
+-- a packet that has no effect
+own-in-range : (h : ControlHeader) (row : ControlRow) (b : Bool) → RowInRange h row
+    → RowInRange h (cond b row Ignores)
+own-in-range h row true range = range
+own-in-range h row false range = tt
+
+stale-in-range : (h : ControlHeader) (row : ControlRow) (b : Bool) → RowInRange h row
+    → RowInRange h (cond b Ignores row)
+stale-in-range h row true range = tt
+stale-in-range h row false range = range
 
 opened-in-range : (h : ControlHeader) (row : Client → ControlRow) (peer : ℕ) (o : Option Client)
     → ((x : Client) → RowInRange h (row x)) → RowInRange h (opened_row row peer o)
@@ -362,22 +343,28 @@ module _ (lacks : Bool) (peer : ℕ) (h : ControlHeader) (s : Lists)
   kind-in-range : (kind : ControlKind) → HasRange kind h
       → RowInRange h (control_row_of kind lacks peer h s)
   kind-in-range ConnectRequest range =
-      confirm-in-range lacks h s (find (is_end_of peer h.client) s.servers)
-      (found-if (is_end_of peer h.client) s.servers all) range
+      let ends = is_end_of peer h.client h.from_life in
+      stale-in-range h (confirm_row lacks h s (find ends s.servers)) (is_stale peer h s)
+      (confirm-in-range lacks h s (find ends s.servers) (found-if ends s.servers all) range)
   kind-in-range ConnectReply range =
-      opened-in-range h (reply_row h.server h.credits) peer (find (is_client h.client) s.clients)
-      (λ x. reply-row-in-range h (not (h.status == 1)) h.server x refl range)
+      own-in-range h _ (is_for s.life h.to_life)
+      (opened-in-range h (reply_row h.server h.from_life h.credits) peer
+      (find (is_client h.client) s.clients)
+      (λ x. reply-row-in-range h (not (h.status == 1)) h.server x refl range))
   kind-in-range DisconnectRequest range =
-      end-in-range h (named_end peer h.client h.server s.servers) range
+      own-in-range h _ (is_for s.life h.to_life)
+      (end-in-range h (named_end peer h.client h.from_life h.server s.servers) range)
   kind-in-range DisconnectReply range =
-      opened-in-range h (closed_row h.server) peer (find (is_client h.client) s.clients)
-      (λ x. over-in-range h x.state x.way.other h.server)
+      own-in-range h _ (is_for s.life h.to_life)
+      (opened-in-range h (closed_row h.server h.from_life) peer
+      (find (is_client h.client) s.clients)
+      (λ x. over-in-range h x.state (is_named h.server h.from_life x.way)))
 
   -- the packet that answers one in range is in range
   pub answer-in-range : (own : ℕ) (r : ControlHeader) → Within lives own → ControlInRange h
       → Some r ≡ control_reply own h (control_row lacks peer h s) → ControlInRange r
   answer-in-range own r mine range e =
-      reply-in-range own h r (control_row lacks peer h s) mine range.client
+      reply-in-range own h r (control_row lacks peer h s) mine range.from_life range.client
       (kind-in-range h.kind (has-range h.kind h refl range)) e
 
 -- no answer is a client session's own request
@@ -400,61 +387,47 @@ connects-never : (b : Bool) (t : ℕ) → cond b (Connects t) Ignores ≡ Disown
 connects-never true t e = cc
 connects-never false t e = cc
 
-other-way : (a b : ℕ) → (a == b) ≡ false → (b == a) ≡ false
-other-way a b e = by (b == a) refl
-  where
-    by : (c : Bool) → (b == a) ≡ c → c ≡ false
-    by false f = refl
-    by true f =
-        let same : (a == b) ≡ true = eq-eqb a b (sym (eqb-true b a f)) in cc
-
 -- a session that disowns a server session isn't Closing with it
-joined-disowns : (state : SessionState) (limit other t credits : ℕ)
-    → joined_row state limit other t credits ≡ Disowns
-    → is_request_of DisconnectRequest (Some t) state other ≡ false
-joined-disowns Connecting limit other t credits e = absurd (connects-never (credits == limit) t e)
-joined-disowns Connected limit other t credits e = refl
-joined-disowns Spent limit other t credits e = refl
-joined-disowns Closing limit other t credits e =
-    other-way other t (unless-disowns (other == t) e)
-joined-disowns Unknown limit other t credits e = refl
-joined-disowns Closed limit other t credits e = refl
-joined-disowns Failed limit other t credits e = refl
-joined-disowns Broken limit other t credits e = refl
+joined-disowns : (state : SessionState) (way : Way) (limit t life credits : ℕ)
+    → joined_row state (is_with t life way) limit t credits ≡ Disowns
+    → is_request_of DisconnectRequest (Some t) (Some life) state way ≡ false
+joined-disowns Connecting way limit t life credits e =
+    absurd (connects-never (credits == limit) t e)
+joined-disowns Connected way limit t life credits e = refl
+joined-disowns Spent way limit t life credits e = refl
+joined-disowns Closing way limit t life credits e = unless-disowns (is_with t life way) e
+joined-disowns Unknown way limit t life credits e = refl
+joined-disowns Closed way limit t life credits e = refl
+joined-disowns Failed way limit t life credits e = refl
+joined-disowns Broken way limit t life credits e = refl
 
-none-asked : (state : SessionState) (other : ℕ)
-    → is_request_of DisconnectRequest None state other ≡ false
-none-asked Connecting other = refl
-none-asked Connected other = refl
-none-asked Spent other = refl
-none-asked Closing other = refl
-none-asked Unknown other = refl
-none-asked Closed other = refl
-none-asked Failed other = refl
-none-asked Broken other = refl
+none-asked : (state : SessionState) (way : Way) (life : ℕ)
+    → is_request_of DisconnectRequest None (Some life) state way ≡ false
+none-asked Connecting way life = refl
+none-asked Connected way life = refl
+none-asked Spent way life = refl
+none-asked Closing way life = refl
+none-asked Unknown way life = refl
+none-asked Closed way life = refl
+none-asked Failed way life = refl
+none-asked Broken way life = refl
 
-reply-disowns : (server : Option ℕ) (credits : ℕ) (x : Client)
-    → reply_row server credits x ≡ Disowns
-    → is_request_of DisconnectRequest server x.state x.way.other ≡ false
-reply-disowns None credits x e = none-asked x.state x.way.other
-reply-disowns (Some t) credits x e =
-    joined-disowns x.state x.limit x.way.other t credits e
+reply-disowns : (server : Option ℕ) (life credits : ℕ) (x : Client)
+    → reply_row server life credits x ≡ Disowns
+    → is_request_of DisconnectRequest server (Some life) x.state x.way ≡ false
+reply-disowns None life credits x e = none-asked x.state x.way life
+reply-disowns (Some t) life credits x e = joined-disowns x.state x.way x.limit t life credits e
 
-over-never : (state : SessionState) (other : ℕ) (o : Option ℕ) → over_row state other o ≡ Disowns
-    → ⊥
-over-never Closing other (Some t) e = by (other == t) e
-  where
-    by : (b : Bool) → cond b Closes Ignores ≡ Disowns → ⊥
-    by true f = cc
-    by false f = cc
-over-never Closing other None e = cc
-over-never Unknown other o e = cc
-over-never Connecting other o e = cc
-over-never Connected other o e = cc
-over-never Closed other o e = cc
-over-never Failed other o e = cc
-over-never Broken other o e = cc
-over-never Spent other o e = cc
+over-never : (state : SessionState) (its : Bool) → over_row state its ≡ Disowns → ⊥
+over-never Closing true e = cc
+over-never Closing false e = cc
+over-never Unknown its e = cc
+over-never Connecting its e = cc
+over-never Connected its e = cc
+over-never Closed its e = cc
+over-never Failed its e = cc
+over-never Broken its e = cc
+over-never Spent its e = cc
 
 confirm-never : (lacks : Bool) (h : ControlHeader) (s : Lists) (o : Option Server)
     → confirm_row lacks h s o ≡ Disowns → ⊥
@@ -472,7 +445,7 @@ end-never (Some v) e = cc
 
 -- where a packet is disowned, its session has no such request of its own
 abbrev NotOwn : ControlHeader → Client → Type 0
-NotOwn h x = is_request_of DisconnectRequest h.server x.state x.way.other ≡ false
+NotOwn h x = is_request_of DisconnectRequest h.server (Some h.from_life) x.state x.way ≡ false
 
 opened-disowns : (h : ControlHeader) (row : Client → ControlRow) (peer : ℕ) (o : Option Client)
     → ((x : Client) → row x ≡ Disowns → NotOwn h x) → opened_row row peer o ≡ Disowns
@@ -484,23 +457,38 @@ opened-disowns h row peer (Some x) each e = by (not (x.way.peer == peer)) e
     by true f = cc
     by false f = each x f
 
+-- a packet that has no effect isn't disowned
+own-disowns : (row : ControlRow) (b : Bool) → cond b row Ignores ≡ Disowns → row ≡ Disowns
+own-disowns row true e = e
+own-disowns row false e = cc
+
+stale-disowns : (row : ControlRow) (b : Bool) → cond b Ignores row ≡ Disowns → row ≡ Disowns
+stale-disowns row true e = cc
+stale-disowns row false e = e
+
 kind-disowns : (lacks : Bool) (peer : ℕ) (h : ControlHeader) (s : Lists) (kind : ControlKind)
     → control_row_of kind lacks peer h s ≡ Disowns
     → IfSome (find (is_client h.client) s.clients) (NotOwn h)
 kind-disowns lacks peer h s ConnectRequest e =
-    absurd (confirm-never lacks h s (find (is_end_of peer h.client) s.servers) e)
+    let ends = find (is_end_of peer h.client h.from_life) s.servers in
+    absurd (confirm-never lacks h s ends
+    (stale-disowns (confirm_row lacks h s ends) (is_stale peer h s) e))
 kind-disowns lacks peer h s DisconnectRequest e =
-    absurd (end-never (named_end peer h.client h.server s.servers) e)
+    let named = named_end peer h.client h.from_life h.server s.servers in
+    absurd (end-never named (own-disowns (end_row named) (is_for s.life h.to_life) e))
 kind-disowns lacks peer h s ConnectReply e =
-    opened-disowns h (reply_row h.server h.credits) peer (find (is_client h.client) s.clients)
-    (λ x. reply-disowns h.server h.credits x) e
+    opened-disowns h (reply_row h.server h.from_life h.credits) peer
+    (find (is_client h.client) s.clients)
+    (λ x. reply-disowns h.server h.from_life h.credits x)
+    (own-disowns _ (is_for s.life h.to_life) e)
 kind-disowns lacks peer h s DisconnectReply e =
-    opened-disowns h (closed_row h.server) peer (find (is_client h.client) s.clients)
-    (λ x f. absurd (over-never x.state x.way.other h.server f)) e
+    opened-disowns h (closed_row h.server h.from_life) peer (find (is_client h.client) s.clients)
+    (λ x f. absurd (over-never x.state (is_named h.server h.from_life x.way) f))
+    (own-disowns _ (is_for s.life h.to_life) e)
 
 -- so the client sessions stay where the answer is sent
 requests-none : (clock : ℕ) (r : ControlHeader) (x : Client)
-    → is_request_of r.kind r.server x.state x.way.other ≡ false → requests clock r x ≡ x
+    → is_request_of r.kind r.server r.to_life x.state x.way ≡ false → requests clock r x ≡ x
 requests-none clock r x e = rw e refl
 
 reply-told : (clock : ℕ) (r : ControlHeader) (xs : List Client) → r.kind ≡ ConnectReply
@@ -526,8 +514,8 @@ module _ (clock : ℕ) (peer own : ℕ) (h r : ControlHeader) (s : Lists) where
       (by (find (is_client h.client) s.clients) none))
     where
       by : (o : Option Client) → IfSome o (NotOwn h)
-          → IfSome o (λ x. cond (is_request_of DisconnectRequest h.server x.state x.way.other)
-          (record x { sends = x.sends + 1; sent_at = clock }) x ≡ x)
+          → IfSome o (λ x. cond (is_request_of DisconnectRequest h.server (Some h.from_life)
+          x.state x.way) (record x { sends = x.sends + 1; sent_at = clock }) x ≡ x)
       by None n = tt
       by (Some x) n = rw n refl
 

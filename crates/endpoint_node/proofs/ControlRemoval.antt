@@ -15,6 +15,7 @@ use Rattle.rpc_base.specs.declared.owner.Owner.{Owner}
 use Rattle.rpc_base.specs.declared.owner.Owner.TheVariants.{Reply}
 use Rattle.rpc_base.specs.Tables.{without_first}
 use Rattle.rpc_base.proofs.FindLemmas.{at-found}
+use Rattle.rpc_base.proofs.ChangedLemmas.{length-without}
 use Rattle.rpc_base.proofs.FirstLemmas.{all-left, counted-cons, found-holds, some-counted}
 use Rattle.rpc_base.proofs.TakingLemmas.{find-passes}
 use Rattle.rpc_base.proofs.PlaceLemmas.{all-at}
@@ -321,6 +322,13 @@ module _ (me : ℕ) (limits : Limits) (tallies : Tallies) (paces : List Pace) (j
           clean = clean-none v.way.number s.queued v.slots none;
         }
 
+    -- one session less is left
+    pub fewer-ended : length t.servers < length s.servers
+    unfolding may
+    fewer-ended =
+        let one = length-without (is_server v.way.number) v s.servers may.found in
+        omega (arith, ap (λ (vs : List Server). length vs) left, one)
+
     pub fits-ended : t.size ≡ s.size → t.places ≡ s.places → Fits (seen t) t.size t.places
     fits-ended size places = record {
       kept = rw (ap (λ (u : Timed). u.lists) (goes jobs))
@@ -336,6 +344,7 @@ module _ (me : ℕ) (limits : Limits) (tallies : Tallies) (paces : List Pace) (j
       most = fits.most;
       packets = size ∙ fits.packets;
       jobs = fits.jobs;
+      alive = fits.alive;
       server_numbers = fits.server_numbers;
       buffers = places ∙ fits.buffers;
     }

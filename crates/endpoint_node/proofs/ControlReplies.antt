@@ -15,6 +15,7 @@ use Rattle.rpc_base.specs.declared.state.SessionState.{SessionState}
 use Rattle.rpc_base.specs.declared.state.SessionState.TheVariants.{Closed, Closing, Connecting}
 use Rattle.rpc_base.specs.declared.state.SessionState.TheVariants.{Failed}
 use Rattle.rpc_base.proofs.PlaceLemmas.{all-at}
+use Rattle.packet_header.specs.Ranges.{Within, lives}
 use Rattle.packet_rings.specs.Rings.{Ring}
 use Rattle.packet_rings.specs.Values.{DatagramValue}
 use Rattle.rpc_laws.specs.declared.tables.Client.{Client}
@@ -99,6 +100,7 @@ module _ (me : ℕ) (limits : Limits) (tallies : Tallies) (paces : List Pace) (j
       most = fits.most;
       packets = size ∙ fits.packets;
       jobs = fits.jobs;
+      alive = fits.alive;
       server_numbers = fits.server_numbers;
       buffers = places ∙ fits.buffers;
     }
@@ -107,43 +109,43 @@ module _ (me : ℕ) (limits : Limits) (tallies : Tallies) (paces : List Pace) (j
       (fits : Fits (seen s) s.size s.places) (i : ℕ) (servers : t.servers ≡ s.servers)
       (queued : t.queued ≡ s.queued) where
     -- it is connected
-    module _ (n : ℕ) (at : ChangesAt i (connects n) s.clients t.clients)
+    module _ (n life : ℕ) (at : ChangesAt i (connects n life) s.clients t.clients)
         (connecting : IsInState Connecting (slice_get s.clients i)) where
       goes-connected : (js : Jobs) → seen_with js t
           ≡ record {
-            lists = after clock (seen_with js s).lists (plain me (IsConnected i n));
+            lists = after clock (seen_with js s).lists (plain me (IsConnected i n life));
             clock = clock;
           }
       goes-connected js =
-          rw (changed fits i (connects n) at servers queued, servers, queued) refl
+          rw (changed fits i (connects n life) at servers queued, servers, queued) refl
 
-      pub fits-connected : n < SESSION_NUMBERS → t.size ≡ s.size → t.places ≡ s.places
-          → Fits (seen t) t.size t.places
-      fits-connected below size places =
-          fits-client fits i (connects n) at servers queued (plain me (IsConnected i n))
+      pub fits-connected : n < SESSION_NUMBERS → Within lives life → t.size ≡ s.size
+          → t.places ≡ s.places → Fits (seen t) t.size t.places
+      fits-connected below theirs size places =
+          fits-client fits i (connects n life) at servers queued (plain me (IsConnected i n life))
           (goes-connected jobs)
           (record {
             client = at.client;
-            found = its fits i (connects n) at servers queued;
-            stands = in-state fits i (connects n) at servers queued Connecting connecting;
+            found = its fits i (connects n life) at servers queued;
+            stands = in-state fits i (connects n life) at servers queued Connecting connecting;
           }) refl
-          (let old = settled fits i (connects n) at servers queued in
+          (let old = settled fits i (connects n life) at servers queued in
           record {
             some = old.some;
             most = old.most;
-            life = old.life;
+            life = λ has. theirs;
             joined = λ has. below;
             few = omega arith;
             none_left = λ other. cc;
           }) size places
 
-      pub node-connected : Grew (log before) (log now) (plain me (IsConnected i n) ∷ [])
-          → Makes log (NotesNext (λ l. Some (IsConnected i n))) (seen s) (seen t) before now
+      pub node-connected : Grew (log before) (log now) (plain me (IsConnected i n life) ∷ [])
+          → Makes log (NotesNext (λ l. Some (IsConnected i n life))) (seen s) (seen t) before now
       node-connected grew = record {
-        noted = plain me (IsConnected i n) ∷ [];
+        noted = plain me (IsConnected i n life) ∷ [];
         grew = grew;
         step = λ asks. record {
-          event = IsConnected i n;
+          event = IsConnected i n life;
           is_next = refl;
           facts = refl;
           goes = goes-connected (asking_jobs asks jobs);
@@ -176,7 +178,7 @@ module _ (me : ℕ) (limits : Limits) (tallies : Tallies) (paces : List Pace) (j
           (record {
             some = old.some;
             most = old.most;
-            life = old.life;
+            life = λ has. cc;
             joined = λ has. cc;
             few = omega arith;
             none_left = λ other. old.none_left (ap is_connected was-connecting);
@@ -221,7 +223,7 @@ module _ (me : ℕ) (limits : Limits) (tallies : Tallies) (paces : List Pace) (j
           (record {
             some = old.some;
             most = old.most;
-            life = old.life;
+            life = λ has. cc;
             joined = λ has. cc;
             few = omega arith;
             none_left = λ other. old.none_left (ap is_connected was-closing);

@@ -17,10 +17,12 @@ use Rattle.packet_header.specs.declared.packet.ControlKind.TheVariants.{Disconne
 use Rattle.rpc_laws.specs.declared.rows.ControlRow.{ControlRow}
 use Rattle.rpc_laws.specs.declared.rows.ControlRow.TheVariants.{Closes, Connects, Ends, Fails}
 use Rattle.rpc_laws.specs.declared.tables.Client.{Client}
+use Rattle.rpc_laws.specs.declared.tables.Jobs.{Jobs}
 use Rattle.rpc_laws.specs.declared.tables.Lists.{Lists}
 use Rattle.rpc_laws.specs.declared.tables.Timed.{Timed}
 use Rattle.rpc_laws.specs.ControlTable.{control_facts, control_reply, control_row, control_row_of}
-use Rattle.rpc_laws.specs.ControlTable.{named_end, session_end}
+use Rattle.rpc_laws.specs.ControlSteps.{EndsOutdated}
+use Rattle.rpc_laws.specs.ControlTable.{named_end, outdated, outdated_by, session_end}
 use Rattle.rpc_laws.specs.Facts.{plain}
 use Rattle.rpc_laws.specs.Groups.{has_no_room, server_refusal, servers_spent, told_state}
 use Rattle.rpc_laws.specs.Steps.{Goes, NotesNext}
@@ -38,6 +40,7 @@ use Rattle.endpoint_node.specs.Seen.{Asks, asking}
 use Rattle.endpoint_node.specs.Timers.{Notes}
 use Rattle.endpoint_node.proofs.CallSteps.{client-by}
 use Rattle.endpoint_node.proofs.CallStates.{told-closing, told-connecting}
+use Rattle.endpoint_node.proofs.ControlRemoval.{server-there}
 
 -- a row that is done is a step of the control rule, whatever the jobs that are out ask
 module _ {R : Type 0} (log : R → Log) (before now : R) (peer : ℕ) (h : ControlHeader)
@@ -182,10 +185,48 @@ pub asked-credits : (h : ControlHeader) → h.kind ≡ ConnectRequest → Contro
 asked-credits h kind range =
     let within = range.credits in rw kind at within
 
+-- a session that a packet outdates ends
+pub outdated-ended : {R : Type 0} (log : R → Log) (before now : R) (peer : ℕ) (h : ControlHeader)
+    (s t : Timed) (i : ℕ) → i < length s.lists.servers
+    → outdated peer h s.lists ≡ slice_get s.lists.servers i
+    → Makes log (Notes (ending i)) s t before now → Makes log (EndsOutdated peer h) s t before now
+outdated-ended log before now peer h s t i low is made = record {
+  noted = made.noted;
+  grew = made.grew;
+  step = λ asks.
+      let step = made.step asks in
+      let v = server-there s.lists.servers i low in
+      record {
+        server = v.server;
+        is_outdated = outdated-by (asking asks s).lists h.kind refl refl ∙ is ∙ v.place;
+        facts = step.facts ∙ ap (session_end s.lists.me s.lists.queued) v.place;
+        goes = step.goes;
+      };
+}
+  where
+    outdated-by : (l : Lists) (kind : ControlKind) → l.servers ≡ s.lists.servers
+        → l.known ≡ s.lists.known → outdated_by kind peer h l ≡ outdated_by kind peer h s.lists
+    outdated-by l ConnectRequest servers known = rw (servers, known) refl
+    outdated-by l ConnectReply servers known = refl
+    outdated-by l DisconnectRequest servers known = refl
+    outdated-by l DisconnectReply servers known = refl
+
+-- none is outdated, whatever jobs are out
+pub none-outdated : (peer : ℕ) (h : ControlHeader) (s : Lists) (jobs : Jobs)
+    → outdated peer h s ≡ None → outdated peer h (record s { jobs = jobs }) ≡ None
+none-outdated peer h s jobs none = outdated-by h.kind ∙ none
+  where
+    outdated-by : (kind : ControlKind) → outdated_by kind peer h (record s { jobs = jobs })
+        ≡ outdated_by kind peer h s
+    outdated-by ConnectRequest = refl
+    outdated-by ConnectReply = refl
+    outdated-by DisconnectRequest = refl
+    outdated-by DisconnectReply = refl
+
 -- the session that a packet names ends
 pub acts-ended : {R : Type 0} (log : R → Log) (before now : R) (peer : ℕ) (h : ControlHeader)
     (s t : Timed) (i : ℕ)
-    → named_end peer h.client h.server s.lists.servers ≡ slice_get s.lists.servers i
+    → named_end peer h.client h.from_life h.server s.lists.servers ≡ slice_get s.lists.servers i
     → Makes log (Notes (ending i)) s t before now → Makes log (Acts Ends peer h) s t before now
 acts-ended log before now peer h s t i named made = record {
   noted = made.noted;

@@ -1,7 +1,7 @@
 -- The front packet of the inbox is handled, its answer is handed to the link, and then the next.
 use Rattle.std.proofs.Common.{◌≡◌, ℕ, ◌+◌, ◌≤◌, Bool, true, false, ◌||◌, Option, Some}
 use Rattle.std.proofs.Common.{None, List, [], ◌∷◌, ◌++◌, Result, Ok, Err, refl, sym, ap, subst}
-use Rattle.std.proofs.Common.{◌∙◌, append-nil, length, arith}
+use Rattle.std.proofs.Common.{◌∙◌, append-nil, append_assoc, length, arith}
 use Rattle.std.specs.Prelude.{count_by, drop, option_map, slice_get, IfOk, IfSome, OnErr}
 use Rattle.std.specs.List.{AllByRecursion}
 use Rattle.packet_header.specs.Header.{AreBytes, ControlInRange, Spells}
@@ -17,21 +17,22 @@ use Rattle.rpc_base.specs.declared.fact.Fact.{Fact}
 use Rattle.rpc_base.specs.declared.limits.TheConstants.{SESSION_NUMBERS}
 use Rattle.rpc_base.specs.declared.owner.Owner.{Owner}
 use Rattle.rpc_base.specs.declared.owner.Owner.TheVariants.{Ask, Control, Reply}
-use Rattle.rpc_laws.specs.declared.rows.ControlRow.{ControlRow}
 use Rattle.rpc_laws.specs.declared.tables.Arrival.{Arrival}
 use Rattle.rpc_laws.specs.declared.tables.Client.{Client}
 use Rattle.rpc_laws.specs.declared.tables.Lists.{Lists}
 use Rattle.rpc_laws.specs.declared.tables.Queued.{Queued}
 use Rattle.rpc_laws.specs.declared.tables.Timed.{Timed}
-use Rattle.rpc_laws.specs.ControlSteps.{Hears, SpeaksIf, control_fact}
-use Rattle.rpc_laws.specs.ControlTable.{control_facts, control_reply, control_row}
+use Rattle.rpc_laws.specs.ControlSteps.{AnswersControl, EndsAllOutdated, EndsOutdated, Hears}
+use Rattle.rpc_laws.specs.ControlSteps.{SpeaksIf, TakesControl, control_fact}
+use Rattle.rpc_laws.specs.ControlTable.{control_facts, control_row}
 use Rattle.rpc_laws.specs.Facts.{plain}
+use Rattle.rpc_laws.specs.Lives.{life_in, raised_by}
 use Rattle.rpc_laws.specs.Front.{control_in, control_of}
 use Rattle.rpc_laws.specs.NodeLists.{after, after_all}
 use Rattle.rpc_laws.specs.Queues.{is_queued}
 use Rattle.rpc_laws.specs.Requests.{is_server}
 use Rattle.rpc_laws.specs.Sessions.{clients_told}
-use Rattle.rpc_laws.specs.Steps.{Chain, Goes, Rel, Until, more, none}
+use Rattle.rpc_laws.specs.Steps.{Chain, Goes, Rel, Then, Until, more, none}
 use Rattle.rpc_laws.proofs.RunLemmas.{after_all-append, me-after_all}
 use Rattle.node_laws.specs.Valid.{to_come}
 use Rattle.rpc_outside.specs.Faults.{HasCause, HasRisen}
@@ -42,7 +43,7 @@ use Rattle.rpc_outside.specs.declared.link.Link as Link
 use Rattle.server_core.proofs.FlushLemmas.{grew-none, grew-then}
 use Rattle.endpoint_node.specs.ControlRows.{Controls, Spoke, was_taken}
 use Rattle.endpoint_node.specs.Counts.{is_handled, is_sent}
-use Rattle.endpoint_node.specs.Fits.{HasCredit, IsSendable, is_of_call}
+use Rattle.endpoint_node.specs.Fits.{Fits, HasCredit, IsSendable, is_of_call}
 use Rattle.endpoint_node.specs.Inbox.{IsFront}
 use Rattle.endpoint_node.specs.Control.{Handles, Listens, told_of}
 use Rattle.endpoint_node.specs.Notes.{Makes, sent_of}
@@ -52,123 +53,160 @@ use Rattle.endpoint_node.specs.Links.{CountsUnsent, HeldBack, is_unsent, Trouble
 use Rattle.endpoint_node.specs.Links.{unsent_in, troubles_of}
 use Rattle.endpoint_node.specs.declared.inbox.Heard.{Heard as HeardPacket}
 use Rattle.endpoint_node.specs.declared.node.poll.control.Listening.{Listening}
-use Rattle.endpoint_node.proofs.ControlAnswers.{IsSilent, StaysBut, facts-same, row-same, row-stays}
-use Rattle.endpoint_node.proofs.ControlAnswers.{answer-in-range, named-all, row-still, row-told}
+use Rattle.endpoint_node.proofs.ControlAnswers.{IsSilent, StaysBut, answer-in-range, end-stays}
+use Rattle.endpoint_node.proofs.ControlAnswers.{end-still, named-all, row-stays, row-still, row-told}
 use Rattle.endpoint_node.proofs.NoteEnds.{no_asks}
-use Rattle.endpoint_node.proofs.NoteSteps.{sent-append, took-none, took-then}
+use Rattle.endpoint_node.proofs.NoteSteps.{makes-then, sent-append, took-none, took-then}
 use Rattle.endpoint_node.proofs.SessionFits.{numbers-below}
 use Rattle.endpoint_node.proofs.SendCounts.{counts-then, held-none, held-still, held-when-busy}
 use Rattle.endpoint_node.proofs.SendCounts.{held-when-failed}
-use Rattle.endpoint_node.proofs.NoteStill.{AllStill}
+use Rattle.endpoint_node.proofs.NoteStill.{AllStill, Stills, still-chain, still-then}
 use Rattle.endpoint_node.proofs.NoteCounts.{many, many-append, many-none, sent-after}
 
--- the front of the inbox is taken out
-abbrev pub unheard : Timed → Timed
-unheard s = record s { lists = record s.lists { inbox = drop 1 s.lists.inbox } }
+-- what handling leaves: the receive ring, the requests of the server sessions that are left, and the
+-- node's number
+record Leaves (s t : Timed) : Type 0 where
+  stays : StaysBut s.lists t.lists
+  me : t.lists.me ≡ s.lists.me
 
-module _ (peer : ℕ) (h : ControlHeader) (reply : Option ControlHeader) (s t : Timed)
-    (x : List Fact) where
-  abbrev row_of : Bool → ControlRow
-  row_of lacks = control_row lacks peer h s.lists
+-- a step that leaves that
+abbrev AllLeave : Rel → Type 0
+AllLeave P = (s : Timed) (x : List Fact) (t : Timed) → P s x t → Leaves s t
 
-  -- and handled
-  handles : Controls peer h reply (unheard s) x t
-      → Handles peer h reply s (plain s.lists.me Heard ∷ x) t
-  handles p =
-      let inbox : List Arrival = drop 1 s.lists.inbox in
-      let same : control_row p.lacks peer h (unheard s).lists ≡ row_of p.lacks =
-      row-same p.lacks peer h s.lists inbox in
-      let facts : x ≡ control_facts s.lists peer h (row_of p.lacks) =
-      p.by.facts ∙ facts-same p.lacks peer h s.lists inbox
-      (control_row p.lacks peer h (unheard s).lists)
-      ∙ ap (control_facts s.lists peer h) same in
-      record {
-        lacks = p.lacks;
-        facts = ap (λ (y : List Fact). plain s.lists.me Heard ∷ y) facts;
-        answer = p.by.answer ∙ ap (control_reply s.lists.life h) same;
-        goes = p.by.goes;
-      }
+leaves-none : (s : Timed) → Leaves s s
+leaves-none s = record { stays = record { ring = refl; served = λ mode all. all }; me = refl }
 
-  -- what that leaves
-  module _ (p : Handles peer h reply s x t) where
-    abbrev facts : List Fact
-    facts = control_facts s.lists peer h (row_of p.lacks)
+leaves-more : (s t u : Timed) → Leaves s t → Leaves t u → Leaves s u
+leaves-more s t u a b = record {
+  stays = record {
+    ring = b.stays.ring ∙ a.stays.ring;
+    served = λ mode all. b.stays.served mode (a.stays.served mode all);
+  };
+  me = b.me ∙ a.me;
+}
 
-    lists-are : t.lists ≡ after_all s.clock (unheard s).lists facts
-    lists-are = ap (λ (u : Timed). u.lists) p.goes ∙ ap (after_all s.clock s.lists) p.facts
+leaves-then : (P Q : Rel) → AllLeave P → AllLeave Q → AllLeave (Then P Q)
+leaves-then P Q p q s x t h =
+    leaves-more s h.between t (p s h.front h.between h.first) (q h.between h.back t h.second)
 
-    stays : StaysBut (unheard s).lists (after_all s.clock (unheard s).lists facts)
-    stays = subst
-        (λ (y : List Fact). StaysBut (unheard s).lists (after_all s.clock (unheard s).lists y))
-        (facts-same p.lacks peer h s.lists (drop 1 s.lists.inbox) (row_of p.lacks))
-        (row-stays s.clock (unheard s).lists peer h (row_of p.lacks))
+leaves-chain : (P : Rel) → AllLeave P → AllLeave (Chain P)
+leaves-chain P p s x t none = leaves-none s
+leaves-chain P p s x t (more {x = front} {t = between} c y u h) =
+    leaves-more s between t (leaves-chain P p s front between c) (p between y t h)
+
+-- what a step leaves by its facts
+leaves-goes : (s t : Timed) (x y : List Fact) → Goes s x t → x ≡ y
+    → StaysBut s.lists (after_all s.clock s.lists y) → Leaves s t
+leaves-goes s t x y goes facts stays =
+    let lists : t.lists ≡ after_all s.clock s.lists y =
+    ap (λ (u : Timed). u.lists) goes ∙ ap (after_all s.clock s.lists) facts in
+    record {
+      stays = subst (StaysBut s.lists) (sym lists) stays;
+      me = ap (λ (l : Lists). l.me) lists ∙ me-after_all s.clock s.lists y;
+    }
+
+-- nothing is handed to the link, and but for the packet none is handled
+unsent-silent : IsSilent is_sent
+unsent-silent = record {
+  flushed = λ o k. refl;
+  ended = λ a. refl;
+  declined = λ a b c. refl;
+  starved = λ a b c. refl;
+  accepted = λ a b c d e. refl;
+  connected = λ a b c. refl;
+  failed = λ a. refl;
+  closed = λ a. refl;
+}
+
+handled-silent : IsSilent is_handled
+handled-silent = record {
+  flushed = λ o k. refl;
+  ended = λ a. refl;
+  declined = λ a b c. refl;
+  starved = λ a b c. refl;
+  accepted = λ a b c d e. refl;
+  connected = λ a b c. refl;
+  failed = λ a. refl;
+  closed = λ a. refl;
+}
+
+unsaid-silent : IsSilent is_unsent
+unsaid-silent = record {
+  flushed = λ o k. refl;
+  ended = λ a. refl;
+  declined = λ a b c. refl;
+  starved = λ a b c. refl;
+  accepted = λ a b c d e. refl;
+  connected = λ a b c. refl;
+  failed = λ a. refl;
+  closed = λ a. refl;
+}
+
+module _ (peer : ℕ) (h : ControlHeader) (reply : Option ControlHeader) where
+  takes-leave : AllLeave TakesControl
+  takes-leave s x t k =
+      leaves-goes s t x _ k.goes k.facts (record { ring = refl; served = λ mode all. all })
+
+  ends-leave : AllLeave (EndsAllOutdated peer h)
+  ends-leave s x t k =
+      leaves-chain (EndsOutdated peer h) (λ a y b e. leaves-goes a b y _ e.goes e.facts
+      (end-stays a.clock a.lists a.lists.me (Some e.server))) s x t k.steps
+
+  controls-leave : AllLeave (Controls peer h reply)
+  controls-leave s x t k =
+      leaves-goes s t x _ k.by.goes k.by.facts
+      (row-stays s.clock s.lists peer h (control_row k.lacks peer h s.lists))
+
+  handles-leave : AllLeave (Handles peer h reply)
+  handles-leave = leaves-then TakesControl (Then (EndsAllOutdated peer h) (Controls peer h reply))
+      takes-leave (leaves-then (EndsAllOutdated peer h) (Controls peer h reply) ends-leave
+      controls-leave)
+
+  -- an event that none of its steps notes after the Heard
+  rest-still : (q : Event → Bool) → IsSilent q
+      → Stills q (Then (EndsAllOutdated peer h) (Controls peer h reply))
+  rest-still q silent = still-then q (EndsAllOutdated peer h) (Controls peer h reply)
+      (λ s x t k. still-chain q (EndsOutdated peer h)
+      (λ a y b e. rw e.facts (end-still q silent a.lists.me a.lists.queued (Some e.server)))
+      s x t k.steps)
+      (λ s x t k. rw k.by.facts (row-still q silent s.lists peer h
+      (control_row k.lacks peer h s.lists)))
+
+  module _ (s t : Timed) (x : List Fact) (p : Handles peer h reply s x t) where
+    parts : x ≡ plain s.lists.me Heard ∷ p.back
+    parts = p.joined ∙ ap (λ (y : List Fact). y ++ p.back) p.first.facts
+
+    back-still : (q : Event → Bool) → IsSilent q → AllStill q p.back
+    back-still q silent = rest-still q silent p.between p.back t p.second
 
     pub handled-ring : t.lists.ring ≡ s.lists.ring
-    handled-ring = ap (λ (l : Lists). l.ring) lists-are ∙ stays.ring
+    handled-ring = (handles-leave s x t p).stays.ring
 
     pub handled-served : (mode : ℕ → Mode) → AllServed mode s.lists.servers
         → AllServed mode t.lists.servers
-    handled-served mode all =
-        subst (λ (l : Lists). AllServed mode l.servers) (sym lists-are) (stays.served mode all)
+    handled-served = (handles-leave s x t p).stays.served
 
     pub handled-me : t.lists.me ≡ s.lists.me
-    handled-me = ap (λ (l : Lists). l.me) lists-are
-        ∙ me-after_all s.clock (unheard s).lists facts
+    handled-me = (handles-leave s x t p).me
 
     -- one packet is counted, and nothing is handed to the link
-    silent-many : (q : Event → Bool) → IsSilent q → many q facts ≡ 0
-    silent-many q silent =
-        many-none q facts (row-still q silent s.lists peer h (row_of p.lacks))
-
-    unsent-silent : IsSilent is_sent
-    unsent-silent = record {
-      flushed = λ o k. refl;
-      ended = λ a. refl;
-      declined = λ a b c. refl;
-      starved = λ a b c. refl;
-      accepted = λ a b c d. refl;
-      connected = λ a b. refl;
-      failed = λ a. refl;
-      closed = λ a. refl;
-    }
-
     sent-still : AllStill is_sent x
-    sent-still =
-        subst (AllStill is_sent) (sym p.facts)
-        (refl, row-still is_sent unsent-silent s.lists peer h (row_of p.lacks))
+    sent-still = subst (AllStill is_sent) (sym parts) (refl, back-still is_sent unsent-silent)
 
     pub handled-one : many is_handled x ≡ 1
     handled-one =
-        ap (many is_handled) p.facts
-        ∙ many-append is_handled (plain s.lists.me Heard ∷ []) facts
-        ∙ ap (λ n. 1 + n) (silent-many is_handled (record {
-          flushed = λ o k. refl;
-          ended = λ a. refl;
-          declined = λ a b c. refl;
-          starved = λ a b c. refl;
-          accepted = λ a b c d. refl;
-          connected = λ a b. refl;
-          failed = λ a. refl;
-          closed = λ a. refl;
-        }))
+        ap (many is_handled) parts
+        ∙ many-append is_handled (plain s.lists.me Heard ∷ []) p.back
+        ∙ ap (λ n. 1 + n) (many-none is_handled p.back (back-still is_handled handled-silent))
 
     pub handled-sent : many is_sent x ≡ 0
     handled-sent = many-none is_sent x sent-still
 
     pub handled-unsent : unsent_in x ≡ 0
     handled-unsent =
-        ap unsent_in p.facts
-        ∙ many-append is_unsent (plain s.lists.me Heard ∷ []) facts
-        ∙ ap (λ n. 0 + n) (silent-many is_unsent (record {
-          flushed = λ o k. refl;
-          ended = λ a. refl;
-          declined = λ a b c. refl;
-          starved = λ a b c. refl;
-          accepted = λ a b c d. refl;
-          connected = λ a b. refl;
-          failed = λ a. refl;
-          closed = λ a. refl;
-        }))
+        ap unsent_in parts
+        ∙ many-append is_unsent (plain s.lists.me Heard ∷ []) p.back
+        ∙ ap (λ n. 0 + n) (many-none is_unsent p.back (back-still is_unsent unsaid-silent))
 
     pub handled-took : (y : List Fact) → sent_of (x ++ y) ≡ sent_of y
     handled-took y = sent-after x y sent-still
@@ -188,98 +226,150 @@ none-control [] all = refl
 none-control (q ∷ qs) all =
     rw (not-control q.owner all.0.0) (ap (λ (rs : List Queued). q ∷ rs) (none-control qs all.1))
 
--- so the lists stay where an answer is handed to the link
+-- with other greatest known lives
+abbrev pub with-known : List ℕ → Timed → Timed
+with-known known s = record s { lists = record s.lists { known = known } }
+
+-- so but for a life that comes to be known the lists stay where an answer is handed to the link
 said-same : (clock me peer : ℕ) (head : List ℕ) (l : Lists) (taken : Bool)
     → AllByRecursion IsSendable l.queued
     → clients_told clock (control_of head) l.clients ≡ l.clients
-    → after clock l (control_fact taken me peer head) ≡ l
+    → after clock l (control_fact taken me peer head)
+    ≡ record l { known = raised_by peer (life_in (control_of head)) l.known }
 said-same clock me peer head l false sendable told = refl
 said-same clock me peer head l true sendable told =
+    let known = raised_by peer (life_in (control_of head)) l.known in
     ap (λ (qs : List Queued). record l {
       queued = qs;
       clients = clients_told clock (control_of head) l.clients;
+      known = known;
     }) (none-control l.queued sendable)
-    ∙ ap (λ (xs : List Client). record l { clients = xs }) told
+    ∙ ap (λ (xs : List Client). record l { clients = xs; known = known }) told
 
-module _ (peer : ℕ) (h : ControlHeader) (s t : Timed) (x : List Fact) (front : Arrival)
-    (is_front : slice_get s.lists.inbox 0 ≡ Some front) (from : peer ≡ front.peer)
-    (reads : control_of front.bytes ≡ Some h) where
-  -- there is no answer
-  hears-silent : Handles peer h None s x t → Hears s x t
-  hears-silent p =
-      let row : Bool → ControlRow = λ lacks. control_row lacks front.peer h s.lists in
-      let own : Handles front.peer h None s x t =
-      subst (λ n. Handles n h None s x t) from p in
-      record {
-        front = front;
-        is_front = is_front;
-        header = h;
-        reads = reads;
-        lacks = own.lacks;
-        said = [];
-        speaks = subst (λ (o : Option ControlHeader). SpeaksIf s.lists.me front.peer o [])
-            own.answer refl;
-        facts = own.facts ∙ ap (λ (y : List Fact). plain s.lists.me Heard ∷ y)
-            (sym (append-nil (control_facts s.lists front.peer h (row own.lacks))));
-        goes = own.goes;
-      }
+-- the last step of a packet that is heard, behind the others
+heard-by : (s t u : Timed) (x z : List Fact) (front : Arrival) (h : ControlHeader)
+    → slice_get s.lists.inbox 0 ≡ Some front → control_of front.bytes ≡ Some h
+    → (reply : Option ControlHeader) → (p : Handles front.peer h reply s x t)
+    → AnswersControl front.peer h p.second.between (p.second.back ++ z) u → Hears s (x ++ z) u
+heard-by s t u x z front h is_front reads reply p answers = record {
+  front = front;
+  is_front = is_front;
+  header = h;
+  reads = reads;
+  steps = record {
+    between = p.between;
+    front = p.front;
+    back = p.back ++ z;
+    joined = ap (λ (y : List Fact). y ++ z) p.joined ∙ append_assoc p.front p.back z;
+    first = p.first;
+    second = record {
+      between = p.second.between;
+      front = p.second.front;
+      back = p.second.back ++ z;
+      joined = ap (λ (y : List Fact). y ++ z) p.second.joined
+          ∙ append_assoc p.second.front p.second.back z;
+      first = p.second.first;
+      second = answers;
+    };
+  };
+}
 
-  -- there is one
-  module _ (r : ControlHeader) (head : List ℕ) (taken : Bool) (bytes : AreBytes head)
-      (spells : Spells (ControlPacket r) head) (sendable : AllByRecursion IsSendable t.lists.queued)
-    where
+module _ (h : ControlHeader) (s t : Timed) (x : List Fact) (front : Arrival)
+    (is_front : slice_get s.lists.inbox 0 ≡ Some front) (reads : control_of front.bytes ≡ Some h)
+  where
+    -- there is no answer
+    silent-at : Handles front.peer h None s x t → Hears s x t
+    silent-at p =
+        let last = p.second.second in
+        let u = p.second.between in
+        let back = p.second.back in
+        subst (λ (y : List Fact). Hears s y t) (append-nil x)
+        (heard-by s t t x [] front h is_front reads None p (record {
+          lacks = last.lacks;
+          said = [];
+          speaks = subst (λ (o : Option ControlHeader). SpeaksIf u.lists.me front.peer o [])
+              last.by.answer refl;
+          facts = ap (λ (y : List Fact). y ++ []) last.by.facts;
+          goes = subst (λ (y : List Fact). Goes u y t) (sym (append-nil back)) last.by.goes;
+        }))
+
+    -- there is one
+    module _ (r : ControlHeader) (head : List ℕ) (taken : Bool) (bytes : AreBytes head)
+        (spells : Spells (ControlPacket r) head)
+        (sendable : AllByRecursion IsSendable t.lists.queued) where
       abbrev fact : Fact
-      fact = control_fact taken s.lists.me peer head
+      fact = control_fact taken s.lists.me front.peer head
 
-      told : Handles peer h (Some r) s x t
-          → clients_told s.clock (control_of head) t.lists.clients ≡ t.lists.clients
-      told p =
-          let header : control_of head ≡ Some r =
-          ap control_in (spells-decoded (ControlPacket r) head spells) in
-          let same = facts-same p.lacks peer h s.lists (drop 1 s.lists.inbox)
-          (control_row p.lacks peer h s.lists) in
-          let rows = row-same p.lacks peer h s.lists (drop 1 s.lists.inbox) in
-          let own = row-told s.clock p.lacks peer s.lists.life h r (unheard s).lists
-          (p.answer ∙ ap (control_reply s.lists.life h) (sym rows)) in
-          let clients : t.lists.clients ≡ (after_all s.clock (unheard s).lists (control_facts
-          (unheard s).lists peer h (control_row p.lacks peer h (unheard s).lists))).clients =
-          ap (λ (l : Lists). l.clients) (lists-are peer h (Some r) s t x p)
-          ∙ ap (λ (y : List Fact). (after_all s.clock (unheard s).lists y).clients)
-          (sym (ap (control_facts (unheard s).lists peer h) rows ∙ same)) in
-          rw (header, clients) own
+      header : control_of head ≡ Some r
+      header = ap control_in (spells-decoded (ControlPacket r) head spells)
 
-      hears-said : Handles peer h (Some r) s x t → Hears s (x ++ fact ∷ []) t
-      hears-said p =
-          let stays : after s.clock t.lists fact ≡ t.lists =
-          said-same s.clock s.lists.me peer head t.lists taken sendable (told p) in
-          let lists-now : after_all s.clock s.lists (x ++ fact ∷ []) ≡ t.lists =
-          after_all-append s.clock s.lists x (fact ∷ [])
-          ∙ ap (λ (u : Timed). after s.clock u.lists fact) (sym p.goes) ∙ stays in
-          let goes : Goes s (x ++ fact ∷ []) t =
-          p.goes
-          ∙ ap (λ (l : Lists). record { lists = l; clock = s.clock })
-          (sym (lists-now ∙ ap (λ (u : Timed). u.lists) p.goes)) in
-          let own : Handles front.peer h (Some r) s x t =
-          subst (λ n. Handles n h (Some r) s x t) from p in
+      abbrev then_known : Timed
+      then_known = with-known (raised_by front.peer (life_in (Some r)) t.lists.known) t
+
+      answers : (u : Timed) (z : List Fact) → u.lists.me ≡ s.lists.me
+          → Controls front.peer h (Some r) u z t
+          → AnswersControl front.peer h u (z ++ fact ∷ []) then_known
+      answers u z me k =
+          let peer = front.peer in
+          let row = control_row k.lacks peer h u.lists in
+          let lists : t.lists ≡ after_all u.clock u.lists (control_facts u.lists peer h row) =
+          ap (λ (v : Timed). v.lists) k.by.goes ∙ ap (after_all u.clock u.lists) k.by.facts in
+          let told : clients_told u.clock (control_of head) t.lists.clients ≡ t.lists.clients =
+          rw (header, lists) (row-told u.clock k.lacks peer u.lists.life h r u.lists k.by.answer) in
+          let said : after u.clock t.lists fact
+          ≡ record t.lists { known = raised_by peer (life_in (Some r)) t.lists.known } =
+          said-same u.clock s.lists.me peer head t.lists taken sendable told
+          ∙ ap (λ (o : Option ControlHeader). record t.lists {
+            known = raised_by peer (life_in o) t.lists.known;
+          }) header in
+          let now : after_all u.clock u.lists (z ++ fact ∷ [])
+          ≡ record t.lists { known = raised_by peer (life_in (Some r)) t.lists.known } =
+          after_all-append u.clock u.lists z (fact ∷ [])
+          ∙ ap (λ (v : Timed). after u.clock v.lists fact) (sym k.by.goes) ∙ said in
+          let clock : t.clock ≡ u.clock = ap (λ (v : Timed). v.clock) k.by.goes in
           record {
-            front = front;
-            is_front = is_front;
-            header = h;
-            reads = reads;
-            lacks = own.lacks;
+            lacks = k.lacks;
             said = fact ∷ [];
-            speaks = subst
-                (λ (o : Option ControlHeader). SpeaksIf s.lists.me front.peer o (fact ∷ []))
-                own.answer (record {
+            speaks = subst (λ (o : Option ControlHeader). SpeaksIf u.lists.me peer o (fact ∷ []))
+                k.by.answer (record {
                   taken = taken;
                   head = head;
                   bytes = bytes;
                   spells = spells;
-                  facts = ap (λ n. control_fact taken s.lists.me n head ∷ []) from;
+                  facts = ap (λ n. control_fact taken n peer head ∷ []) (sym me);
                 });
-            facts = ap (λ (y : List Fact). y ++ fact ∷ []) own.facts;
-            goes = goes;
+            facts = ap (λ (y : List Fact). y ++ fact ∷ []) k.by.facts;
+            goes = ap (λ (n : ℕ). record { lists = then_known.lists; clock = n }) clock
+                ∙ ap (λ (l : Lists). record { lists = l; clock = u.clock }) (sym now);
           }
+
+      said-at : Handles front.peer h (Some r) s x t → Hears s (x ++ fact ∷ []) then_known
+      said-at p =
+          let u = p.second.between in
+          let before = leaves-more s p.between u
+          (takes-leave front.peer h (Some r) s p.front p.between p.first)
+          (ends-leave front.peer h (Some r) p.between p.second.front u p.second.first) in
+          heard-by s t then_known x (fact ∷ []) front h is_front reads (Some r) p
+          (answers u p.second.back before.me p.second.second)
+
+module _ (peer : ℕ) (h : ControlHeader) (s t : Timed) (x : List Fact) (front : Arrival)
+    (is_front : slice_get s.lists.inbox 0 ≡ Some front) (from : peer ≡ front.peer)
+    (reads : control_of front.bytes ≡ Some h) where
+  hears-silent : Handles peer h None s x t → Hears s x t
+  hears-silent =
+      subst (λ (n : ℕ). Handles n h None s x t → Hears s x t) (sym from)
+      (silent-at h s t x front is_front reads)
+
+  hears-said : (r : ControlHeader) (head : List ℕ) (taken : Bool) → AreBytes head
+      → Spells (ControlPacket r) head → AllByRecursion IsSendable t.lists.queued
+      → Handles peer h (Some r) s x t
+      → Hears s (x ++ control_fact taken s.lists.me peer head ∷ [])
+      (with-known (raised_by peer (life_in (Some r)) t.lists.known) t)
+  hears-said r head taken bytes spells sendable =
+      subst (λ (n : ℕ). Handles n h (Some r) s x t
+      → Hears s (x ++ control_fact taken s.lists.me n head ∷ [])
+      (with-known (raised_by n (life_in (Some r)) t.lists.known) t)) (sym from)
+      (said-at h s t x front is_front reads r head taken bytes spells sendable)
 
 -- the link was handed one packet
 said-counts : {E : Type 0} (me peer : ℕ) (head : List ℕ) (x : List Fact) (k l : Troubles)
@@ -346,17 +436,27 @@ said-sent me peer head x (Err why) nothing =
     many-append is_sent x (control_fact false me peer head ∷ []) in
     omega (arith, all, nothing)
 
--- Heard is noted, and then what the row notes
+-- the front of the inbox is taken out
+abbrev pub unheard : Timed → Timed
+unheard s = record s { lists = record s.lists { inbox = drop 1 s.lists.inbox } }
+
+-- Heard is noted, then the ends of what is outdated, and then what the row notes
 pub makes-handled : {R : Type 0} (log : R → Log) (peer : ℕ)
-    (h : ControlHeader) (reply : Option ControlHeader) (s t : Timed) (before mid now : R)
+    (h : ControlHeader) (reply : Option ControlHeader) (s u t : Timed) (before mid late now : R)
     → Grew (log before) (log mid) (plain s.lists.me Heard ∷ [])
-    → Makes log (Controls peer h reply) (unheard s) t mid now
+    → Makes log (EndsAllOutdated peer h) (unheard s) u mid late
+    → Makes log (Controls peer h reply) u t late now
     → Makes log (Handles peer h reply) s t before now
-makes-handled log peer h reply s t before mid now grew p = record {
-  noted = plain s.lists.me Heard ∷ p.noted;
-  grew = grew-then log before mid now (plain s.lists.me Heard ∷ []) p.noted grew p.grew;
-  step = λ asks. handles peer h reply (asking asks s) (asking asks t) p.noted (p.step asks);
-}
+makes-handled log peer h reply s u t before mid late now grew ends p =
+    makes-then log TakesControl (Then (EndsAllOutdated peer h) (Controls peer h reply)) s
+    (unheard s) t before mid now
+    (record {
+      noted = plain s.lists.me Heard ∷ [];
+      grew = grew;
+      step = λ asks. record { facts = refl; goes = refl };
+    })
+    (makes-then log (EndsAllOutdated peer h) (Controls peer h reply) (unheard s) u t mid late now
+    ends p)
 
 module _ {R L : Type 0} (log : R → Log)
     (net : Link.Ghosts L) where
@@ -401,7 +501,8 @@ module _ {R L : Type 0} (log : R → Log)
         → IfOk result (λ went. went ≡ false → HasRisen (troubles_of net k).busies (troubles_of net l).busies)
         → IfOk result (λ went. went ≡ true → (troubles_of net l).busies ≡ (troubles_of net k).busies)
         → OnErr result ((troubles_of net l).busies ≡ (troubles_of net k).busies)
-        → Listens log net Hears (told_of result) s t before now k l
+        → Listens log net Hears (told_of result) s
+        (with-known (raised_by hp.peer (life_in (Some r)) t.lists.known) t) before now k l
     listens-said r result me before mid now k l sendable is p spoke cause busy went fault =
         let one = p.step no_asks in
         let taken = was_taken result in
@@ -415,7 +516,8 @@ module _ {R L : Type 0} (log : R → Log)
               grew = grew-then log before mid now p.noted (said ∷ []) p.grew spoke.grew;
               step = λ asks. subst
                   (λ n. Hears (asking asks s) (p.noted ++ control_fact taken n hp.peer spoke.head ∷ [])
-                  (asking asks t)) (sym is)
+                  (asking asks (with-known (raised_by hp.peer (life_in (Some r)) t.lists.known) t)))
+                  (sym is)
                   (hears-said hp.peer hp.head (asking asks s) (asking asks t) p.noted front.front
                   front.is_front front.peer front.reads r spoke.head taken spoke.bytes spoke.spells
                   sendable (p.step asks));
@@ -491,20 +593,33 @@ module _ {R L : Type 0} (log : R → Log)
     counts = p.counts;
   }
 
--- the answer is in range
+-- what an answer is taken from is in range
+pub record CanAnswer (s : Lists) : Type 0 where
+  pub alive : Within lives s.life
+  pub alone : (t : ℕ) → count_by (is_server t) s.servers + to_come s.server_numbers t ≤ 1
+  pub few : s.server_numbers ≤ SESSION_NUMBERS
+  pub credits : AllByRecursion HasCredit s.servers
+
+pub can-answer : (s : Timed) (size places : ℕ) → Fits s size places → CanAnswer s.lists
+can-answer s size places fits = record {
+  alive = fits.alive;
+  alone = fits.kept.valid.alone;
+  few = fits.server_numbers;
+  credits = fits.credits;
+}
+
+-- so it is
 pub answer-range : {R : Type 0} (log : R → Log) (peer : ℕ)
-    (h : ControlHeader) (s : Lists) (a b : Timed) (before now : R) (reply : Option ControlHeader)
-    → ControlInRange h → Within lives a.lists.life → a.lists.servers ≡ s.servers
-    → ((t : ℕ) → count_by (is_server t) s.servers + to_come s.server_numbers t ≤ 1)
-    → s.server_numbers ≤ SESSION_NUMBERS → AllByRecursion HasCredit s.servers
-    → Makes log (Controls peer h reply) a b before now
+    (h : ControlHeader) (a b : Timed) (before now : R) (reply : Option ControlHeader)
+    → ControlInRange h → CanAnswer a.lists → Makes log (Controls peer h reply) a b before now
     → IfSome reply (λ r. ControlInRange r)
-answer-range log peer h s a b before now None range mine same alone few credits p = tt
-answer-range log peer h s a b before now (Some r) range mine same alone few credits p =
+answer-range log peer h a b before now None range can p = tt
+answer-range log peer h a b before now (Some r) range can p =
     let one = p.step no_asks in
-    let named = named-all s.server_numbers s.servers few
-    (numbers-below s.server_numbers s.servers alone) credits in
-    answer-in-range one.lacks peer h (asking no_asks a).lists (rw same named) a.lists.life r mine range
+    let s = a.lists in
+    let named = named-all s.server_numbers s.servers can.few
+    (numbers-below s.server_numbers s.servers can.alone) can.credits in
+    answer-in-range one.lacks peer h (asking no_asks a).lists named s.life r can.alive range
     one.by.answer
 
 -- what handling a packet leaves, whoever records it

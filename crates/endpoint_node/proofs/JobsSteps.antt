@@ -421,6 +421,7 @@ module _ (me : ℕ) (limits : Limits) (tallies : Tallies) (paces : List Pace) (j
           most = fits.most;
           packets = size ∙ fits.packets;
           jobs = rw left fits.jobs;
+          alive = fits.alive;
           server_numbers = fits.server_numbers;
           buffers = rw left (places ∙ fits.buffers);
         }
@@ -502,6 +503,7 @@ module _ (me : ℕ) (limits : Limits) (tallies : Tallies) (paces : List Pace) (j
             most = fits.most;
             packets = size ∙ fits.packets;
             jobs = rw left fits.jobs;
+            alive = fits.alive;
             server_numbers = fits.server_numbers;
             buffers = rw left (places ∙ fits.buffers);
           }

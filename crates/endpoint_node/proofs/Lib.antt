@@ -13,6 +13,7 @@ pub mod HandedGiven
 pub mod JobsCrew
 mod JobsPlace
 pub mod JobsSteps
+mod KnownLives
 mod LeavesSteps
 mod NodeFits
 pub mod NoteCounts
@@ -41,7 +42,7 @@ mod SessionFits
 mod SessionPairs
 mod SessionRates
 mod SessionSteps
-mod ShortLemmas
+pub mod ShortLemmas
 mod StatusSteps
 mod TimerBreaks
 mod TimerCalls

@@ -144,7 +144,7 @@ settled-connected x y settled connected state limit way sends =
     record {
       some = omega (arith, limit, settled.some);
       most = omega (arith, limit, settled.most);
-      life = rw way settled.life;
+      life = λ has. (let alive = settled.life (ap has_server (sym state) ∙ has) in rw way alive);
       joined = λ has. (let low = settled.joined (ap has_server (sym state) ∙ has) in rw way low);
       few = omega (arith, sends, settled.few);
       none_left = λ other. let clash : true ≡ false = sym up ∙ other in cc;

@@ -4,7 +4,7 @@ use Rattle.std.proofs.Common.{◌≡◌, ℕ, ◌+◌, ◌-◌, ◌≤◌, Bool,
 use Rattle.std.proofs.Common.{None, List, [], ◌∷◌, ◌++◌, length, drop, refl, sym, ap, ◌∙◌, subst}
 use Rattle.std.proofs.Common.{append-nil, arith}
 use Rattle.std.proofs.lemmas.Bool.{false≢true}
-use Rattle.std.specs.Prelude.{count_by, is_none, map, slice_get}
+use Rattle.std.specs.Prelude.{◌==◌, count_by, is_none, map, slice_get}
 use Rattle.std.specs.List.{find}
 use Rattle.std.proofs.lemmas.List.{length-drop}
 use Rattle.std.proofs.lemmas.List.Sums.{sum_by-append, sum_by-cons}
@@ -41,7 +41,7 @@ use Rattle.rpc_laws.specs.ClientTable.{call_ending, client_ending, end_facts, en
 use Rattle.rpc_laws.specs.ClientTable.{progress_ending, reply_facts}
 use Rattle.rpc_laws.specs.Facts.{plain}
 use Rattle.rpc_laws.specs.NodeLists.{after, after_all}
-use Rattle.rpc_laws.specs.PollOrder.{Handles, handling_by, Sends}
+use Rattle.rpc_laws.specs.PollOrder.{Handles, handled, handling_by, Sends}
 use Rattle.rpc_laws.specs.Queues.{numbers_of, ring_after}
 use Rattle.rpc_laws.specs.Requests.{in_slot_of, is_server}
 use Rattle.rpc_laws.specs.ServerTable.{flushes, flushes_older, is_last, makes_job}
@@ -221,6 +221,13 @@ handling-one mode lacks answer Cr s peer h body =
 handling-one mode lacks answer Response s peer h body =
     reply-one s.me (find (is_client h.session) s.clients) h body _
 
+handled-by : (mode : ℕ → Mode) (lacks : Bool) (answer : List ℕ) (s : Lists) (peer : ℕ)
+    (h : MessageHeader) (body : List ℕ) (own : Bool) → (h.to_life == s.life) ≡ own
+    → IsOne (handled mode lacks answer s peer h body)
+handled-by mode lacks answer s peer h body true e =
+    rw e (handling-one mode lacks answer h.kind s peer h body)
+handled-by mode lacks answer s peer h body false e = rw e (refl, (refl, tt))
+
 has-front : (ring : List Arrival) (a : Arrival) → slice_get ring 0 ≡ Some a → 1 ≤ length ring
 has-front [] a e = cc
 has-front (b ∷ ring) a e = omega arith
@@ -228,8 +235,8 @@ has-front (b ∷ ring) a e = omega arith
 -- a packet is handled: one is counted, and one leaves the ring
 handles-is : (mode : ℕ → Mode) (s : Timed) (x : List Fact) (t : Timed) → Handles mode s x t → IsOne x
 handles-is mode s x t h =
-    subst IsOne (sym h.facts) (handling-one mode h.lacks h.answer h.header.kind s.lists h.front.peer
-    h.header (body_of h.front.bytes))
+    subst IsOne (sym h.facts) (handled-by mode h.lacks h.answer s.lists h.front.peer h.header
+    (body_of h.front.bytes) (h.header.to_life == s.lists.life) refl)
 
 handles-one : (mode : ℕ → Mode) (s : Timed) (x : List Fact) (t : Timed) → Handles mode s x t
     → (many is_handled x ≡ 1) × (length t.lists.ring + 1 ≡ length s.lists.ring)

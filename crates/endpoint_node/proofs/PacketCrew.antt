@@ -18,6 +18,7 @@ use Rattle.packet_rings.specs.Values.{DatagramValue}
 use Rattle.rpc_base.specs.declared.limits.TheConstants.{MOST_GIVEN}
 use Rattle.rpc_base.proofs.BasicLemmas.{or-false}
 use Rattle.rpc_base.proofs.FirstLemmas.{all-both, all-push, counted-none}
+use Rattle.rpc_laws.specs.declared.tables.Arrival.{Arrival}
 use Rattle.rpc_laws.specs.declared.tables.Job.{Job}
 use Rattle.rpc_laws.specs.declared.tables.Jobs.{Jobs}
 use Rattle.rpc_laws.specs.declared.tables.Timed.{Timed}
@@ -39,8 +40,8 @@ use Rattle.endpoint_node.specs.Packets.{HandlesWith, MakesAllHandled, MakesHandl
 use Rattle.endpoint_node.specs.Packets.{WorksFor, with_all_given}
 use Rattle.endpoint_node.specs.Notes.{is_end}
 use Rattle.endpoint_node.specs.Seen.{Asks, arrival_of, asking, with_ask}
-use Rattle.endpoint_node.specs.Requests.{IsGiven, IsNoWant, job_named, with_given}
-use Rattle.endpoint_node.proofs.ShortLemmas.{short-front}
+use Rattle.endpoint_node.specs.Requests.{IsGiven, SparesShort, job_named, ring_left, with_given}
+use Rattle.endpoint_node.proofs.ShortLemmas.{left-append, left-goes, spares-append}
 use Rattle.endpoint_node.proofs.PacketSteps.{asks-as, asks-of}
 use Rattle.endpoint_node.proofs.NoteEnds.{ends-append, me-goes}
 
@@ -276,6 +277,15 @@ module _ {R K : Type 0} (log : R → Log)
       me-goes (asking asks a) (asking asks b) h.serves.makes.noted
       (h.serves.makes.step asks (asks-as o)).goes
 
+  left-handled : (stands then_stands : Served → Type 0) (o : Option Parcel) (a b : Timed)
+      (f g : R) (j k : K)
+      (h : MakesHandled log given v stands then_stands (Handles v.mode) o a b f g j k)
+      → b.lists.ring ≡ ring_left a.lists.ring h.serves.makes.noted
+  left-handled stands then_stands o a b f g j k h =
+      let asks = asks-of o in
+      left-goes (asking asks a) (asking asks b) h.serves.makes.noted
+      (h.serves.makes.step asks (asks-as o)).goes
+
   pub still-founded : (stands then_stands : Served → Type 0) (o : Option Parcel) (a b : Timed)
       (f g : R) (j k : K)
       → MakesHandled log given v stands then_stands (Handles v.mode) o a b f g j k
@@ -291,10 +301,9 @@ module _ {R K W : Type 0} (log : R → Log)
   -- a packet of which no job is made
   pub handled-none : (stands then_stands : Served → Type 0) (a b : Timed) (f g : R) (j k : K)
       (w : W) → MakesHandled log given v stands then_stands (Handles v.mode) None a b f g j k
-      → a.lists.ring ≢ [] → b.lists.ring ≡ drop 1 a.lists.ring
       → MakesAllHandled log given staff v stands then_stands answer (Handles v.mode) a b f g
       j k w w
-  handled-none stands then_stands a b f g j k w h some left = record {
+  handled-none stands then_stands a b f g j k w h = record {
     noted = h.serves.makes.noted;
     grew = h.serves.makes.grew;
     answers = h.serves.answers;
@@ -310,9 +319,8 @@ module _ {R K W : Type 0} (log : R → Log)
     dones = h.dones;
     ends = h.ends;
     told = h.gave;
-    spared = λ all.
-        let (front, rest) = short-front v a.lists.ring some all in
-        (h.serves.spared front, rw left rest);
+    left = left-handled log given v stands then_stands None a b f g j k h;
+    spared = h.serves.spared;
   }
 
   -- a packet of which a job is made, that the workers take
@@ -354,10 +362,9 @@ module _ {R K W : Type 0} (log : R → Log)
         absurd (not-full answer asks (staff w) a staffed h.serves.vacant (gave.0.0 refl))
 
     pub handled-some : (r : Result (Unit {0}) Parcel) → Gave r
-        → a.lists.ring ≢ [] → b.lists.ring ≡ drop 1 a.lists.ring
         → MakesAllHandled log given staff v stands then_stands answer (Handles v.mode) a b
         f g j k w x
-    handled-some r gave some left = record {
+    handled-some r gave = record {
       noted = h.serves.makes.noted;
       grew = h.serves.makes.grew;
       answers = h.serves.answers;
@@ -368,9 +375,8 @@ module _ {R K W : Type 0} (log : R → Log)
       dones = h.dones;
       ends = h.ends;
       told = h.gave;
-      spared = λ all.
-          let (front, rest) = short-front v a.lists.ring some all in
-          (h.serves.spared front, rw left rest);
+      left = left-handled log given v stands then_stands (Some p) a b f g j k h;
+      spared = h.serves.spared;
     }
 
   -- turns, one after another
@@ -392,7 +398,8 @@ module _ {R K W : Type 0} (log : R → Log)
     dones = [];
     ends = refl;
     told = gave-none given j;
-    spared = λ all. (tt, all);
+    left = refl;
+    spared = tt;
   }
 
   pub all-handled-more : (one two three : Served → Type 0) (P : Rel) (a b c : Timed) (f g h : R)
@@ -430,10 +437,10 @@ module _ {R K W : Type 0} (log : R → Log)
         ∙ ap (λ m. map (done_fact a.lists.me) p.dones ++ map (done_fact m) q.dones) me
         ∙ sym (map-append (done_fact a.lists.me) p.dones q.dones);
     told = gave-then given j k l p.dones q.dones p.told q.told;
-    spared = λ all.
-        let first = p.spared all in
-        let second = q.spared first.1 in
-        (all-both IsNoWant p.noted q.noted first.0 second.0, second.1);
+    left = q.left ∙ ap (λ (ring : List Arrival). ring_left ring q.noted) p.left
+        ∙ sym (left-append a.lists.ring p.noted q.noted);
+    spared = spares-append v a.lists.ring p.noted q.noted p.spared
+        (subst (λ (ring : List Arrival). SparesShort v ring q.noted) p.left q.spared);
   }
 
   -- until no more can be handled
@@ -461,5 +468,6 @@ module _ {R K W : Type 0} (log : R → Log)
     dones = p.dones;
     ends = p.ends;
     told = p.told;
+    left = p.left;
     spared = p.spared;
   }

@@ -351,6 +351,7 @@ module _ (me : ℕ) (limits : Limits) (tallies : Tallies) (paces : List Pace) (j
               most = rw same-size fits.most;
               packets = rw same-size (size ∙ fits.packets);
               jobs = fits.jobs;
+              alive = fits.alive;
               server_numbers = fits.server_numbers;
               buffers = rw same-size (places ∙ fits.buffers);
             }

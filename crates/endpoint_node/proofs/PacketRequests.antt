@@ -7,6 +7,7 @@ use Rattle.std.specs.List.{AllByRecursion, find, position}
 use Rattle.std.proofs.lemmas.Bool.{eq-eqb, eqb-true, ne_eqb}
 use Rattle.std.proofs.lemmas.List.{drop-map}
 use Rattle.packet_header.specs.Kinds.{is_asking}
+use Rattle.packet_header.specs.Ranges.{Within, lives}
 use Rattle.packet_header.specs.Parts.{packet_count}
 use Rattle.packet_header.specs.Reading.{body_of}
 use Rattle.packet_header.specs.declared.packet.MessageHeader.{MessageHeader}
@@ -70,8 +71,9 @@ use Rattle.endpoint_node.specs.Fits.{Fits, HasCredit, IsSendable}
 use Rattle.endpoint_node.specs.Notes.{Makes}
 use Rattle.endpoint_node.specs.Seen.{Asks, Tallies, arrival_of, asking_jobs, seen_node}
 use Rattle.endpoint_node.specs.Requests.{AllServed, AsksAs, IsGiven, IsNoWant, IsShort, MakesServed}
+use Rattle.endpoint_node.specs.Requests.{SparesShort}
 use Rattle.endpoint_node.specs.Requests.{ServesRequest}
-use Rattle.endpoint_node.proofs.ShortLemmas.{one-header}
+use Rattle.endpoint_node.proofs.ShortLemmas.{one-header, spares-calm}
 use Rattle.endpoint_node.specs.Requests.{SlotsServed, job_named, with_given}
 use Rattle.endpoint_node.proofs.PacketRows.{background-of, inline-of, unfilled}
 use Rattle.endpoint_node.proofs.QueueEntries.{one-reply, put-all}
@@ -137,7 +139,7 @@ module _ (me : ℕ) (limits : Limits) (tallies : Tallies) (paces : List Pace) (j
           × then_stands (served_after_all mode_of served x))
           → IfSome o (IsGiven v_of stands) → js ≡ with_given o jobs
           → IfSome o (λ p. are_full jobs ≡ false)
-          → (IsShort v_of (map arrival_of rx.items) → AllByRecursion IsNoWant x) → Result o ta js q u
+          → SparesShort v_of (map arrival_of rx.items) x → Result o ta js q u
       node-served o ta js q u lacks answer x grew is goes answers parcel given vacant spared = record {
         makes = record {
           noted = x;
@@ -186,8 +188,9 @@ module _ (me : ℕ) (limits : Limits) (tallies : Tallies) (paces : List Pace) (j
         parcel = tt;
         jobs = left;
         vacant = tt;
-        spared = λ short. subst (AllByRecursion IsNoWant) (sym (makes.step (λ a b. [])).facts)
-            ((λ e. let same : why ≡ NoMemory = cc in other same), tt);
+        spared = subst (λ (x : List Fact). SparesShort v_of (map arrival_of rx.items) x)
+            (sym (makes.step (λ a b. [])).facts)
+            ((λ short e. let same : why ≡ NoMemory = cc in other same), tt);
       }
 
       pub node-unknown : (u : Timed) → position (is_server h.session) s.servers ≡ None
@@ -233,10 +236,11 @@ module _ (me : ℕ) (limits : Limits) (tallies : Tallies) (paces : List Pace) (j
       same-size = ap (λ (z : Ring DatagramValue). z.size) rest
 
       fits-served : (ta : Tallies) (js : Jobs) (v w : Server) → Kept (seen ta js q t).lists
-          → ta.server_numbers ≡ tallies.server_numbers → slice_get s.servers i ≡ Some v
+          → ta.server_numbers ≡ tallies.server_numbers → ta.life ≡ tallies.life
+          → slice_get s.servers i ≡ Some v
           → t.servers ≡ slice_set s.servers i w → w.credits ≡ v.credits → AllByRecursion IsSendable t.queued → replies t.queued ≤ rx.size
           → js.limit ≡ jobs.limit → Fits (seen ta js q t) t.size t.places
-      fits-served ta js v w kept numbered at changed credits ready few limit = record {
+      fits-served ta js v w kept numbered lived at changed credits ready few limit = record {
         kept = kept;
         ascends = rw clients fits.ascends;
         paces = fits.paces;
@@ -252,6 +256,7 @@ module _ (me : ℕ) (limits : Limits) (tallies : Tallies) (paces : List Pace) (j
         most = rw same-size fits.most;
         packets = rw same-size (size ∙ fits.packets);
         jobs = omega (arith, limit, fits.jobs);
+        alive = subst (Within lives) (sym lived) fits.alive;
         server_numbers = omega (arith, numbered, fits.server_numbers);
         buffers = omega (arith, limit, same-size, places, fits.buffers);
       }
@@ -414,7 +419,7 @@ module _ (me : ℕ) (limits : Limits) (tallies : Tallies) (paces : List Pace) (j
                 (rw (ap (λ (u : Timed). u.lists) (goes-again jobs))
                 (kept-all clock (old jobs) (again ∷ posted ∷ []) fits.kept
                 (all-allowed false p.handled.answer jobs (again ∷ posted ∷ []) fits.kept
-                (facts-again jobs refl)))) refl p.place
+                (facts-again jobs refl)))) refl refl p.place
                 (servers-again ∙ sym (set-own s.servers i p.server p.place)) refl
                 (pushed-ready s.queued t.queued queue-again fits.sendable)
                 (pushed-few s.queued t.queued queue-again (omega arith)) refl
@@ -430,7 +435,7 @@ module _ (me : ℕ) (limits : Limits) (tallies : Tallies) (paces : List Pace) (j
                 (λ asks. facts-again (asking_jobs asks jobs) (full-asking asks jobs))
                 (λ asks asked. goes-again (asking_jobs asks jobs))
                 (λ old_served st. ((tt, (tt, tt)), still old_served st))
-                tt refl tt (λ short. ((λ e. cc), ((λ e. cc), tt)))
+                tt refl tt ((λ short e. cc), ((λ short e. cc), tt))
 
         -- a packet that is dropped
         module _ (why : DropReason) (p : At (Dropped why)) (n : ℕ)
@@ -476,7 +481,7 @@ module _ (me : ℕ) (limits : Limits) (tallies : Tallies) (paces : List Pace) (j
               (rw (ap (λ (u : Timed). u.lists) (goes-dropped jobs))
               (kept-all clock (old jobs) (dropped ∷ []) fits.kept
               (all-allowed lacks-and.0 p.handled.answer jobs (dropped ∷ []) fits.kept
-              (facts-drop jobs refl)))) refl p.place
+              (facts-drop jobs refl)))) refl refl p.place
               (servers-dropped ∙ sym (set-own s.servers i p.server p.place)) refl
               (rw queue-dropped fits.sendable) (rw queue-dropped (omega (arith, few))) refl
 
@@ -501,7 +506,7 @@ module _ (me : ℕ) (limits : Limits) (tallies : Tallies) (paces : List Pace) (j
               (λ asks. facts-drop (asking_jobs asks jobs) (full-asking asks jobs))
               (λ asks asked. goes-dropped (asking_jobs asks jobs))
               (λ old_served st. ((tt, tt), still old_served st))
-              tt refl tt (λ short. ((λ e. not-wanted short (let same : why ≡ NoMemory = cc in same)), tt))
+              tt refl tt ((λ short e. not-wanted short (let same : why ≡ NoMemory = cc in same)), tt)
 
         -- a packet that is taken
         module _ (step : Step) (p : At step) (takes : takes_it step ≡ true) where
@@ -582,7 +587,7 @@ module _ (me : ℕ) (limits : Limits) (tallies : Tallies) (paces : List Pace) (j
                 (rw (ap (λ (u : Timed). u.lists) (goes-took jobs))
                 (kept-all clock (old jobs) noted-took fits.kept
                 (all-allowed false p.handled.answer jobs noted-took fits.kept
-                (facts-taken jobs refl)))) refl p.place servers-set refl
+                (facts-taken jobs refl)))) refl refl p.place servers-set refl
                 (pushed-ready tk.queue t.queued queue-took (tk.ready fits.sendable))
                 (pushed-few tk.queue t.queued queue-took tk.fewer) refl
 
@@ -601,8 +606,9 @@ module _ (me : ℕ) (limits : Limits) (tallies : Tallies) (paces : List Pace) (j
                       (sym (tk.serves serving old_served (took ∷ posted ∷ [])))
                       (still old_served st),
                 ))
-                tt refl tt (λ short. all-both IsNoWant tk.older (took ∷ posted ∷ []) tk.calm
-                ((λ e. cc), ((λ e. cc), tt)))
+                tt refl tt (spares-calm serving (map arrival_of rx.items) noted-took
+                (all-both IsNoWant tk.older (took ∷ posted ∷ []) tk.calm
+                ((λ e. cc), ((λ e. cc), tt))))
 
         abbrev Replied : Step → Server → Type 0
         Replied step v =
@@ -704,7 +710,7 @@ module _ (me : ℕ) (limits : Limits) (tallies : Tallies) (paces : List Pace) (j
               (none-bare h.session h.request jobs none)))
               (kept-all clock (old jobs) noted-ran fits.kept
               (all-allowed false p.handled.answer jobs noted-ran fits.kept
-              (facts-run jobs refl)))) refl p.place set-ran refl
+              (facts-run jobs refl)))) refl refl p.place set-ran refl
               (pushed-ready tr.queue t.queued queue-ran (tr.ready fits.sendable))
               (pushed-few tr.queue t.queued queue-ran tr.fewer) refl
 
@@ -733,8 +739,9 @@ module _ (me : ℕ) (limits : Limits) (tallies : Tallies) (paces : List Pace) (j
                     (tt, (own.0, (tt, tt))),
                 subst then_stands (sym (then-served old_served)) own.1,
               ))
-              tt refl tt (λ short. all-both IsNoWant tr.older (took ∷ ran_fact ∷ posted ∷ [])
-              tr.calm ((λ e. cc), ((λ e. cc), ((λ e. cc), tt))))
+              tt refl tt (spares-calm serving (map arrival_of rx.items) noted-ran
+              (all-both IsNoWant tr.older (took ∷ ran_fact ∷ posted ∷ [])
+              tr.calm ((λ e. cc), ((λ e. cc), ((λ e. cc), tt)))))
 
         pub unfull-of : (parcel : Parcel) → At (Give parcel) → full ≡ false
         unfull-of parcel p =
@@ -882,7 +889,7 @@ module _ (me : ℕ) (limits : Limits) (tallies : Tallies) (paces : List Pace) (j
           pub fits-give : Fits (seen given_tallies js_now q t) t.size t.places
           fits-give = fits-served given_tallies js_now p.server
               (gives h body (takes h body p.server))
-              (kept-jobs (seen given_tallies told q t).lists js_now as-many kept-told) refl p.place
+              (kept-jobs (seen given_tallies told q t).lists js_now as-many kept-told) refl refl p.place
               set-give refl (rw queue-give (tg.ready fits.sendable))
               (rw queue-give (omega (arith, tg.fewer, few))) limit
 
@@ -911,5 +918,6 @@ module _ (me : ℕ) (limits : Limits) (tallies : Tallies) (paces : List Pace) (j
               ))
               is-given (rw (← limit, ← more, ← named) refl)
               (sym is_full ∙ unfull-of parcel p)
-              (λ short. all-both IsNoWant tg.older (took ∷ given_fact ∷ []) tg.calm
-              ((λ e. cc), ((λ e. cc), tt)))
+              (spares-calm serving (map arrival_of rx.items) noted-give
+              (all-both IsNoWant tg.older (took ∷ given_fact ∷ []) tg.calm
+              ((λ e. cc), ((λ e. cc), tt))))

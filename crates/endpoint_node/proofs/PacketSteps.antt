@@ -2,21 +2,24 @@
 -- client rule where it replies.
 use Rattle.std.proofs.Common.{◌≡◌, ◌≢◌, ◌<◌, ℕ, Bool, true, false, cond, Option, Some, None, List, []}
 use Rattle.std.proofs.Common.{◌∷◌, ◌++◌, map, drop, length, refl, sym, ap, subst, ◌∙◌, inl, inr}
-use Rattle.std.specs.Prelude.{◌⊎◌, is_none, is_some, option_to_list, slice_get}
+use Rattle.std.specs.Prelude.{◌==◌, ◌⊎◌, is_none, is_some, option_to_list, slice_get}
 use Rattle.std.specs.List.{AllByRecursion, filter, find}
 use Rattle.rpc_outside.specs.Recording.{Log}
-use Rattle.client_core.specs.Shown.{done_fact}
+use Rattle.client_core.specs.Shown.{done_fact, end_event}
 use Rattle.client_core.specs.declared.outcome.Done.{Done}
+use Rattle.client_core.specs.declared.outcome.Outcome.{Outcome}
+use Rattle.client_core.specs.declared.outcome.Outcome.TheVariants.{Ok, PeerLost, TooSmall}
 use Rattle.message_buffer.specs.Buffer.{bytes_of}
 use Rattle.packet_header.specs.Kinds.{is_asking, is_last}
 use Rattle.packet_header.specs.Reading.{body_of, message_of}
 use Rattle.packet_header.specs.declared.packet.Kind.{Kind}
 use Rattle.packet_header.specs.declared.packet.Kind.TheVariants.{Request, Rfr, Cr, Response}
 use Rattle.packet_header.specs.declared.packet.MessageHeader.{MessageHeader}
-use Rattle.rpc_base.specs.declared.event.Event.TheVariants.{Flushed}
+use Rattle.rpc_base.specs.declared.event.Event.TheVariants.{Dropped, Flushed}
 use Rattle.rpc_base.specs.declared.fact.Fact.{Fact}
 use Rattle.rpc_base.specs.declared.owner.Owner.{Owner}
 use Rattle.rpc_base.specs.declared.owner.Owner.TheVariants.{Reply}
+use Rattle.rpc_base.specs.declared.state.DropReason.TheVariants.{NoMemory, StaleLife}
 use Rattle.rpc_laws.specs.declared.rows.ClientRow.{ClientRow}
 use Rattle.rpc_laws.specs.declared.rows.ClientRow.TheVariants.{Drops as DropsReply, Takes as TakesReply}
 use Rattle.rpc_laws.specs.declared.rows.EndRow.{EndRow}
@@ -38,8 +41,8 @@ use Rattle.rpc_laws.specs.ClientTable.{call_ending, client_ending, client_row, e
 use Rattle.rpc_laws.specs.ClientTable.{progress_ending, reply_facts}
 use Rattle.rpc_laws.specs.Facts.{plain}
 use Rattle.rpc_laws.specs.Front.{front_header}
-use Rattle.rpc_laws.specs.PollOrder.{Handles, asks_facts, handling_by, replies_facts}
-use Rattle.rpc_laws.specs.Queues.{numbers_of, replies}
+use Rattle.rpc_laws.specs.PollOrder.{Handles, asks_facts, handled, handling_by, replies_facts}
+use Rattle.rpc_laws.specs.Queues.{numbers_of, replies, ring_after}
 use Rattle.rpc_laws.specs.Requests.{in_slot_of, is_server}
 use Rattle.rpc_laws.specs.Sessions.{is_client}
 use Rattle.rpc_laws.specs.ServerTable.{flushes, flushes_older, makes_job, served_facts}
@@ -52,11 +55,12 @@ use Rattle.node_laws.specs.Kept.{IsPacket}
 use Rattle.endpoint_node.specs.Given.{Gave}
 use Rattle.endpoint_node.proofs.HandedGiven.{gave-same}
 use Rattle.endpoint_node.specs.Packets.{MakesHandled}
-use Rattle.endpoint_node.specs.Replies.{HearsReply, over_facts}
+use Rattle.endpoint_node.specs.Replies.{Drops as DropsFor, HearsReply, over_facts}
 use Rattle.endpoint_node.specs.Notes.{Makes, is_end}
 use Rattle.endpoint_node.specs.Seen.{Asks, asking}
-use Rattle.endpoint_node.specs.Requests.{AsksAs, MakesServed, ServesRequest}
-use Rattle.endpoint_node.proofs.ShortLemmas.{one-header}
+use Rattle.endpoint_node.specs.Requests.{AsksAs, IsNoWant, IsShort, MakesServed, ServesRequest}
+use Rattle.endpoint_node.specs.Requests.{SparesShort}
+use Rattle.endpoint_node.proofs.ShortLemmas.{one-header, spares-calm}
 
 -- what stands in front of the ring is a packet
 pub packet-there : (ring : List Arrival) (o : Option MessageHeader) → o ≡ front_header ring
@@ -71,6 +75,23 @@ reads-front [] front h e reads = cc
 reads-front (x ∷ xs) front h e reads =
     let same : x ≡ front = cc in
     subst (λ (a : Arrival). message_of a.bytes ≡ Some h) same reads
+
+-- a packet stands in front of a ring that isn't empty
+some-arrival : (xs : List Arrival) → xs ≢ [] → (a : Arrival) × (slice_get xs 0 ≡ Some a)
+some-arrival [] some = absurd (some refl)
+some-arrival (a ∷ xs) some = (a, refl)
+
+-- a packet for this life of the node is handled by its kind, and one for another is dropped
+module _ (mode : ℕ → Mode) (lacks : Bool) (answer : List ℕ) (s : Lists) (peer : ℕ)
+    (h : MessageHeader) (body : List ℕ) where
+  for-this : (h.to_life == s.life) ≡ true
+      → handling_by mode lacks answer h.kind s peer h body
+      ≡ handled mode lacks answer s peer h body
+  for-this own = rw own refl
+
+  for-another : (h.to_life == s.life) ≡ false
+      → plain s.me (Dropped StaleLife) ∷ [] ≡ handled mode lacks answer s peer h body
+  for-another other = rw other refl
 
 by-client : (mode : ℕ → Mode) (k : Kind) (s : Lists) (peer : ℕ) (h : MessageHeader) (body : List ℕ)
     → is_asking k ≡ false → replies_facts s peer h body ≡ handling_by mode false [] k s peer h body
@@ -193,6 +214,25 @@ ends-over : (me : ℕ) (x : List Fact) (o : Option Done) → IsOver x → drop 1
 ends-over me [] o over e = absurd over
 ends-over me (f ∷ fs) o over e = rw over.0 (over.1.0 ∙ e ∙ listed me o)
 
+-- a reply is no short request, and the end of a call drops no packet
+over-calm : (me : ℕ) (o : Option Done) → AllByRecursion IsNoWant (over_facts me o)
+over-calm me None = tt
+over-calm me (Some d) = (end-calm d.outcome, tt)
+  where
+    end-calm : (outcome : Outcome) → end_event d.call outcome ≢ Dropped NoMemory
+    end-calm Ok e = cc
+    end-calm (TooSmall size) e = cc
+    end-calm PeerLost e = cc
+
+over-spared : (v : Serving) (ring : List Arrival) (me : ℕ) (x : List Fact) (o : Option Done)
+    → drop 1 x ≡ over_facts me o → (IsShort v ring → ⊥) → SparesShort v ring x
+over-spared v ring me [] o over other = tt
+over-spared v ring me (f ∷ x) o over other = (
+  (λ short. absurd (other short)),
+  spares-calm v (ring_after f.event f.first ring) x
+      (subst (λ (y : List Fact). AllByRecursion IsNoWant y) (sym over) (over-calm me o)),
+)
+
 abbrev pub no-asks : Asks
 no-asks s r = []
 
@@ -209,11 +249,50 @@ module _ {R K : Type 0} (log : R → Log)
     (given : K → List Done → Type 0) (v : Serving) (stands : Served → Type 0) (h : MessageHeader)
     (a b : Timed) (before now : R) (front : front_header a.lists.ring ≡ Some h)
     (room : replies a.lists.queued < a.lists.room) where
-  pub node-replies : (o : Option Done) (from to : K) → is_asking h.kind ≡ false
+  -- it is for another life of the node
+  pub node-stale : (from to : K) → (h.to_life == a.lists.life) ≡ false → a.lists.ring ≢ []
+      → to ≡ from → Makes log (DropsFor StaleLife) a b before now → b.lists.jobs ≡ a.lists.jobs
+      → MakesHandled log given v stands stands (Handles v.mode) None a b before now from to
+  node-stale from to other some same makes jobs =
+      let first = some-arrival a.lists.ring some in
+      let noted : makes.noted ≡ plain a.lists.me (Dropped StaleLife) ∷ [] =
+      (makes.step no-asks).facts in
+      record {
+        serves = record {
+          makes = record {
+            noted = makes.noted;
+            grew = makes.grew;
+            step = λ asks known. record {
+              room = room;
+              front = first.0;
+              is_front = first.1;
+              header = h;
+              reads = reads-front a.lists.ring first.0 h first.1 front;
+              lacks = false;
+              answer = [];
+              facts = (makes.step asks).facts
+                  ∙ for-another v.mode false [] (asking asks a).lists first.0.peer h
+                  (body_of first.0.bytes) other;
+              goes = (makes.step asks).goes;
+            };
+          };
+          answers = λ served before-it. rw noted ((tt, tt), before-it);
+          parcel = tt;
+          jobs = jobs;
+          vacant = tt;
+          spared = rw noted ((λ short e. cc), tt);
+        };
+        dones = [];
+        ends = ap (λ (x : List Fact). filter is_end x) noted;
+        gave = gave-same given from to same;
+      }
+
+  pub node-replies : (o : Option Done) (from to : K) → (h.to_life == a.lists.life) ≡ true
+      → is_asking h.kind ≡ false
       → Makes log (HearsReply h o) a b before now → b.lists.jobs ≡ a.lists.jobs
       → Gave given from to (option_to_list o)
       → MakesHandled log given v stands stands (Handles v.mode) None a b before now from to
-  node-replies o from to replying makes jobs gave =
+  node-replies o from to own-life replying makes jobs gave =
       let first = makes.step no-asks in
       let over : IsOver makes.noted = subst IsOver (sym first.facts)
       (reply-over a.lists.me (find (is_client h.session) a.lists.clients) h
@@ -237,7 +316,9 @@ module _ {R K : Type 0} (log : R → Log)
                   answer = [];
                   facts = step.facts
                       ∙ by-client v.mode h.kind (asking asks a).lists step.front.peer h
-                      (body_of step.front.bytes) replying;
+                      (body_of step.front.bytes) replying
+                      ∙ for-this v.mode false [] (asking asks a).lists step.front.peer h
+                      (body_of step.front.bytes) own-life;
                   goes = step.goes;
                 };
           };
@@ -247,10 +328,11 @@ module _ {R K : Type 0} (log : R → Log)
           parcel = tt;
           jobs = jobs;
           vacant = tt;
-          spared = λ short.
+          spared = over-spared v a.lists.ring a.lists.me makes.noted o first.over (λ short.
               let own : short.head ≡ h = one-header a.lists.ring short.head h short.front front in
-              let clash : false ≡ true = sym replying ∙ ap (λ (x : MessageHeader). is_asking x.kind) (sym own) ∙ short.asking in
-              cc;
+              let clash : false ≡ true = sym replying
+              ∙ ap (λ (x : MessageHeader). is_asking x.kind) (sym own) ∙ short.asking in
+              cc);
         };
         dones = option_to_list o;
         ends = ends-over a.lists.me makes.noted o over first.over;
@@ -258,10 +340,10 @@ module _ {R K : Type 0} (log : R → Log)
       }
 
   pub node-requests : (then_stands : Served → Type 0) (job : Option Parcel) (from to : K)
-      → is_asking h.kind ≡ true → to ≡ from
+      → (h.to_life == a.lists.life) ≡ true → is_asking h.kind ≡ true → to ≡ from
       → MakesServed log v stands then_stands (ServesRequest v.mode h) job a b before now
       → MakesHandled log given v stands then_stands (Handles v.mode) job a b before now from to
-  node-requests then_stands job from to asks-it same served =
+  node-requests then_stands job from to own-life asks-it same served =
       let one = served.makes.step (asks-of job) (asks-as job) in
       record {
         serves = record {
@@ -280,7 +362,9 @@ module _ {R K : Type 0} (log : R → Log)
                   answer = step.answer;
                   facts = step.facts
                       ∙ by-server v.mode step.lacks step.answer h.kind (asking asks a).lists
-                      step.front.peer h (body_of step.front.bytes) asks-it;
+                      step.front.peer h (body_of step.front.bytes) asks-it
+                      ∙ for-this v.mode step.lacks step.answer (asking asks a).lists
+                      step.front.peer h (body_of step.front.bytes) own-life;
                   goes = step.goes;
                 };
           };

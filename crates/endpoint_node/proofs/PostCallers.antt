@@ -195,11 +195,11 @@ were-pushed y idle xs = walk xs
     walk (x ∷ xs) zero z at has = let same : x ≡ z = cc in (x, refl, ap is_visited same ∙ has)
     walk (x ∷ xs) (suc i) z at has = walk xs i z at has
 
-pub covers-paired : (callers : List ℕ) (xs ys : List Client) (number peer server credits : ℕ)
-    → ys ≡ xs ++ client_end number peer server credits ∷ [] → Covers callers xs → Covers callers ys
-covers-paired callers xs ys number peer server credits is covers =
-    rw is (covers-were callers xs (xs ++ client_end number peer server credits ∷ [])
-    (were-pushed (client_end number peer server credits) refl xs) covers)
+pub covers-paired : (callers : List ℕ) (xs ys : List Client) (number peer server credits life : ℕ)
+    → ys ≡ xs ++ client_end number peer server credits life ∷ [] → Covers callers xs → Covers callers ys
+covers-paired callers xs ys number peer server credits life is covers =
+    rw is (covers-were callers xs (xs ++ client_end number peer server credits life ∷ [])
+    (were-pushed (client_end number peer server credits life) refl xs) covers)
 
 -- and is where it is opened
 last-or : (y : Client) (xs : List Client) (i : ℕ) (z : Client)

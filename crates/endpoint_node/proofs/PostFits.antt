@@ -135,6 +135,7 @@ module _ {R : Type 0} (log : R → Log) (i me : ℕ)
         most = fits.most;
         packets = size ∙ fits.packets;
         jobs = fits.jobs;
+        alive = fits.alive;
         server_numbers = fits.server_numbers;
         buffers = places ∙ fits.buffers;
       }
@@ -189,6 +190,7 @@ module _ {R : Type 0} (log : R → Log) (i me : ℕ)
             most = fits.most;
             packets = size ∙ fits.packets;
             jobs = fits.jobs;
+            alive = fits.alive;
             server_numbers = fits.server_numbers;
             buffers = places ∙ fits.buffers;
           }

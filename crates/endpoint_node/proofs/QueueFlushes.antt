@@ -235,6 +235,7 @@ module _ (me : ℕ) (limits : Limits) (tallies : Tallies) (paces : List Pace) (j
       most = fits.most;
       packets = size ∙ fits.packets;
       jobs = fits.jobs;
+      alive = fits.alive;
       server_numbers = fits.server_numbers;
       buffers = places ∙ fits.buffers;
     }

@@ -9,6 +9,7 @@ use Rattle.rpc_base.specs.declared.event.Event.TheVariants.{PairedClient, Paired
 use Rattle.rpc_base.specs.declared.limits.Limits.{Limits}
 use Rattle.rpc_base.specs.declared.limits.TheConstants.{MOST_CREDITS, SESSION_NUMBERS}
 use Rattle.rpc_base.proofs.FirstLemmas.{all-push, counted-cons}
+use Rattle.packet_header.specs.Ranges.{Within, lives}
 use Rattle.packet_rings.specs.Rings.{Ring}
 use Rattle.packet_rings.specs.Values.{DatagramValue}
 use Rattle.rpc_laws.specs.declared.tables.Jobs.{Jobs}
@@ -29,6 +30,7 @@ use Rattle.node_laws.proofs.NumberLemmas.{numbered-push}
 use Rattle.endpoint_node.specs.Fits.{CallsAscend, Fits, HasCredit, IsSettled, pace_no}
 use Rattle.endpoint_node.specs.Seen.{Tallies, seen_node}
 use Rattle.endpoint_node.specs.Requests.{AllServed, SlotsServed}
+use Rattle.endpoint_node.proofs.KnownLives.{kept-known}
 
 -- what nothing refuses has a number that wasn't used
 pub few-paired : (spent : Bool) (s : Lists) (credits : ℕ) → clients_spent s ≡ spent
@@ -46,46 +48,49 @@ module _ (me : ℕ) (limits : Limits) (tallies : Tallies) (paces : List Pace) (j
   abbrev old : Timed
   old = seen_node me limits tallies paces jobs clock rx s
 
-  module _ (fits : Fits old s.size s.places) (credits peer other : ℕ) (some : 1 ≤ credits)
+  module _ (fits : Fits old s.size s.places) (credits peer other life : ℕ) (some : 1 ≤ credits)
+      (known : List ℕ)
       (queued : t.queued ≡ s.queued) (size : t.size ≡ s.size) (places : t.places ≡ s.places) where
     pub fits-paired-client : (now : List Pace)
         → now ≡ paces ++ record { session = length s.clients; rate = 0; next = 0 } ∷ []
         → client_refusal credits old.lists ≡ None
-        → t.clients ≡ s.clients ++ client_end (length s.clients) peer other credits ∷ []
+        → t.clients ≡ s.clients ++ client_end (length s.clients) peer other credits life ∷ []
         → t.servers ≡ s.servers → credits ≤ MOST_CREDITS → other < SESSION_NUMBERS
-        → Fits (seen_node me limits tallies now jobs clock rx t) t.size t.places
-    fits-paired-client now paced taken clients servers most below =
-        let made : Event = PairedClient (length s.clients) peer other credits in
+        → Within lives life
+        → Fits (seen_node me limits (record tallies { known = known }) now jobs clock rx t) t.size
+        t.places
+    fits-paired-client now paced taken clients servers most below theirs =
+        let made : Event = PairedClient (length s.clients) peer other credits life in
         record {
-          kept = rw (paced, clients, servers, queued) (kept-after clock old.lists (plain me made)
-              fits.kept (record {
+          kept = rw (paced, clients, servers, queued) (kept-known _ known
+              (kept-after clock old.lists (plain me made) fits.kept (record {
                 numbered = refl;
                 room = pair-fits (clients_spent old.lists) credits old.lists taken;
-              }));
+              })));
           ascends = rw clients (all-push CallsAscend s.clients
-              (client_end (length s.clients) peer other credits) fits.ascends tt);
+              (client_end (length s.clients) peer other credits life) fits.ascends tt);
           paces = rw paced (numbered-push pace_no 0 paces
               (record { session = length s.clients; rate = 0; next = 0 }) fits.paces
               (omega (arith, fits.each)));
           each = rw (paced, clients) (omega (
             arith,
             length-append paces (record { session = length s.clients; rate = 0; next = 0 } ∷ []),
-            length-append s.clients (client_end (length s.clients) peer other credits ∷ []),
+            length-append s.clients (client_end (length s.clients) peer other credits life ∷ []),
             fits.each,
           ));
           settled = rw clients (all-push IsSettled s.clients
-              (client_end (length s.clients) peer other credits) fits.settled
+              (client_end (length s.clients) peer other credits life) fits.settled
               (record {
                 some = some;
                 most = most;
-                life = (omega arith, omega arith);
+                life = λ has. theirs;
                 joined = λ has. below;
                 few = omega arith;
                 none_left = λ closed. refl;
               }));
           numbers = rw clients (omega (
             arith,
-            length-append s.clients (client_end (length s.clients) peer other credits ∷ []),
+            length-append s.clients (client_end (length s.clients) peer other credits life ∷ []),
             few-paired (clients_spent old.lists) old.lists credits refl taken,
           ));
           credits = rw servers fits.credits;
@@ -94,35 +99,37 @@ module _ (me : ℕ) (limits : Limits) (tallies : Tallies) (paces : List Pace) (j
           most = fits.most;
           packets = size ∙ fits.packets;
           jobs = fits.jobs;
+          alive = fits.alive;
           server_numbers = fits.server_numbers;
           buffers = places ∙ fits.buffers;
         }
 
     pub fits-paired-server : (next : ℕ) → next ≡ tallies.server_numbers + 1
         → credits ≤ MOST_CREDITS → server_refusal credits old.lists ≡ None → t.clients ≡ s.clients
-        → t.servers ≡ s.servers ++ server_end tallies.server_numbers peer other credits ∷ []
-        → Fits (seen_node me limits (record tallies { server_numbers = next }) paces jobs clock rx t)
-        t.size t.places
+        → t.servers ≡ s.servers ++ server_end tallies.server_numbers peer other credits life ∷ []
+        → Fits (seen_node me limits (record tallies { server_numbers = next; known = known }) paces jobs
+        clock rx t) t.size t.places
     fits-paired-server next after-is most taken clients servers =
-        let made : Event = PairedServer tallies.server_numbers peer other credits in
+        let made : Event = PairedServer tallies.server_numbers peer other credits life in
         record {
-          kept = rw (after-is, clients, servers, queued) (kept-after clock old.lists (plain me made)
-              fits.kept (record {
+          kept = rw (after-is, clients, servers, queued) (kept-known _ known
+              (kept-after clock old.lists (plain me made) fits.kept (record {
                 numbered = refl;
                 room = pair-fits (servers_spent old.lists) credits old.lists taken;
-              }));
+              })));
           ascends = rw clients fits.ascends;
           paces = fits.paces;
           settled = rw clients fits.settled;
           numbers = rw clients fits.numbers;
           each = rw clients fits.each;
           credits = rw servers (all-push HasCredit s.servers
-              (server_end tallies.server_numbers peer other credits) fits.credits (some, most));
+              (server_end tallies.server_numbers peer other credits life) fits.credits (some, most));
           sendable = rw queued fits.sendable;
           replies = rw queued fits.replies;
           most = fits.most;
           packets = size ∙ fits.packets;
           jobs = fits.jobs;
+          alive = fits.alive;
           server_numbers = omega (
             arith,
             after-is,
@@ -157,8 +164,8 @@ numbers-below used (v ∷ vs) alone = (
 )
 
 -- a new session has no requests
-pub served-more : (mode : ℕ → Mode) (servers vs : List Server) (number peer other credits : ℕ)
-    → vs ≡ servers ++ server_end number peer other credits ∷ [] → AllServed mode servers
+pub served-more : (mode : ℕ → Mode) (servers vs : List Server) (number peer other credits life : ℕ)
+    → vs ≡ servers ++ server_end number peer other credits life ∷ [] → AllServed mode servers
     → AllServed mode vs
-served-more mode servers vs number peer other credits is served =
-    rw is (all-push (SlotsServed mode) servers (server_end number peer other credits) served tt)
+served-more mode servers vs number peer other credits life is served =
+    rw is (all-push (SlotsServed mode) servers (server_end number peer other credits life) served tt)

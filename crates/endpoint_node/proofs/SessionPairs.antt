@@ -15,30 +15,30 @@ some-event : (a b : Event) → Some a ≡ Some b → a ≡ b
 some-event a b h = cc
 
 module _ {R : Type 0} (log : R → Log) (a b : Timed) (f g : R)
-    (peer other credits : ℕ) where
+    (peer other credits life : ℕ) where
   pub client-refused : (o : Option Event) → client_refusal credits a.lists ≡ o → IsSome o
       → IfSome o (λ event. Makes log (Refuses event) a a f g)
-      → Makes log (PairsClient peer other credits) a a f g
+      → Makes log (PairsClient peer other credits life) a a f g
   client-refused None e some makes = cc
   client-refused (Some event) e some makes = record {
     noted = makes.noted;
     grew = makes.grew;
     step = λ asks. record {
       facts = (makes.step asks).facts ∙ ap (λ o. plain a.lists.me (or_refused o
-          (PairedClient (length a.lists.clients) peer other credits)) ∷ []) (sym e);
+          (PairedClient (length a.lists.clients) peer other credits life)) ∷ []) (sym e);
       goes = (makes.step asks).goes;
     };
   }
 
   pub client-made : client_refusal credits a.lists ≡ None
-      → Makes log (NotesNext (λ s. Some (PairedClient (length s.clients) peer other credits)))
-      a b f g → Makes log (PairsClient peer other credits) a b f g
+      → Makes log (NotesNext (λ s. Some (PairedClient (length s.clients) peer other credits life)))
+      a b f g → Makes log (PairsClient peer other credits life) a b f g
   client-made e makes = record {
     noted = makes.noted;
     grew = makes.grew;
     step = λ asks.
         let h = makes.step asks in
-        let made = PairedClient (length a.lists.clients) peer other credits in
+        let made = PairedClient (length a.lists.clients) peer other credits life in
         record {
           facts = h.facts
               ∙ ap (λ event. plain a.lists.me event ∷ []) (sym (some-event made h.event h.is_next))
@@ -49,27 +49,27 @@ module _ {R : Type 0} (log : R → Log) (a b : Timed) (f g : R)
 
   pub server-refused : (o : Option Event) → server_refusal credits a.lists ≡ o → IsSome o
       → IfSome o (λ event. Makes log (Refuses event) a a f g)
-      → Makes log (PairsServer peer other credits) a a f g
+      → Makes log (PairsServer peer other credits life) a a f g
   server-refused None e some makes = cc
   server-refused (Some event) e some makes = record {
     noted = makes.noted;
     grew = makes.grew;
     step = λ asks. record {
       facts = (makes.step asks).facts ∙ ap (λ o. plain a.lists.me (or_refused o
-          (PairedServer a.lists.server_numbers peer other credits)) ∷ []) (sym e);
+          (PairedServer a.lists.server_numbers peer other credits life)) ∷ []) (sym e);
       goes = (makes.step asks).goes;
     };
   }
 
   pub server-made : server_refusal credits a.lists ≡ None
-      → Makes log (NotesNext (λ s. Some (PairedServer s.server_numbers peer other credits)))
-      a b f g → Makes log (PairsServer peer other credits) a b f g
+      → Makes log (NotesNext (λ s. Some (PairedServer s.server_numbers peer other credits life)))
+      a b f g → Makes log (PairsServer peer other credits life) a b f g
   server-made e makes = record {
     noted = makes.noted;
     grew = makes.grew;
     step = λ asks.
         let h = makes.step asks in
-        let made = PairedServer a.lists.server_numbers peer other credits in
+        let made = PairedServer a.lists.server_numbers peer other credits life in
         record {
           facts = h.facts
               ∙ ap (λ event. plain a.lists.me event ∷ []) (sym (some-event made h.event h.is_next))

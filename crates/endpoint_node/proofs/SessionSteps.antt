@@ -93,7 +93,7 @@ module _ (me : ℕ) (limits : Limits) (tallies : Tallies) (paces : List Pace) (j
         settled = rw clients (all-push IsSettled s.clients end fits.settled (record {
           some = some;
           most = most;
-          life = (omega arith, omega arith);
+          life = λ has. cc;
           joined = λ has. cc;
           few = omega arith;
           none_left = λ closed. refl;
@@ -106,6 +106,7 @@ module _ (me : ℕ) (limits : Limits) (tallies : Tallies) (paces : List Pace) (j
         credits = rw servers fits.credits;
         sendable = rw queued fits.sendable;
         replies = rw queued fits.replies;
+        alive = fits.alive;
         server_numbers = fits.server_numbers;
         most = fits.most;
         packets = size ∙ fits.packets;
@@ -145,7 +146,7 @@ module _ (me : ℕ) (limits : Limits) (tallies : Tallies) (paces : List Pace) (j
         (record {
           some = old.some;
           most = old.most;
-          life = old.life;
+          life = λ has. old.life (connected-server at.client.state connected);
           joined = λ has. old.joined (connected-server at.client.state connected);
           few = omega arith;
           none_left = λ closed. idle;

@@ -340,7 +340,7 @@ module _ (me : ℕ) (limits : Limits) (tallies : Tallies) (paces : List Pace) (j
           record {
             some = was.some;
             most = was.most;
-            life = was.life;
+            life = λ has. cc;
             joined = λ has. cc;
             few = was.few;
             none_left = λ _. refl;
@@ -352,6 +352,7 @@ module _ (me : ℕ) (limits : Limits) (tallies : Tallies) (paces : List Pace) (j
       most = fits.most;
       packets = size ∙ fits.packets;
       jobs = fits.jobs;
+      alive = fits.alive;
       server_numbers = fits.server_numbers;
       buffers = places ∙ fits.buffers;
     }

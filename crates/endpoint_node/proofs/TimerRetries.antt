@@ -31,7 +31,7 @@ use Rattle.rpc_laws.specs.declared.tables.Queued.{Queued}
 use Rattle.rpc_laws.specs.declared.tables.Timed.{Timed}
 use Rattle.rpc_laws.specs.ControlSteps.{Retries, control_fact, given_up}
 use Rattle.packet_header.specs.Ranges.{Within, lives}
-use Rattle.rpc_laws.specs.Lives.{first_life}
+use Rattle.rpc_laws.specs.Lives.{life_in, raised_by}
 use Rattle.rpc_laws.specs.ControlSteps.{own_request}
 use Rattle.rpc_laws.specs.declared.tables.Way.{Way}
 use Rattle.session_store.specs.declared.side.ClientEnd.{ClientEnd}
@@ -57,7 +57,7 @@ use Rattle.endpoint_node.specs.ControlRows.{Spoke}
 use Rattle.endpoint_node.specs.Counts.{is_sent}
 use Rattle.endpoint_node.specs.Fits.{Fits, IsSendable, IsSettled, has_server, is_of_call}
 use Rattle.endpoint_node.specs.Notes.{Makes}
-use Rattle.endpoint_node.specs.Seen.{Tallies, asking_jobs, seen_node}
+use Rattle.endpoint_node.specs.Seen.{Tallies, asking, asking_jobs, seen_node}
 use Rattle.endpoint_node.specs.Links.{FailedAs, GivesUpAt, HeldBack, is_unsent, LinkTook}
 use Rattle.endpoint_node.specs.Links.{MakesSpoken, SendsRequest, troubles_of}
 use Rattle.endpoint_node.specs.declared.node.poll.timers.retries.Asking.{Asking}
@@ -71,7 +71,7 @@ use Rattle.server_core.proofs.FlushLemmas.{grew-none}
 -- the request of a session is in its ranges
 pub range-of : (own : ℕ) (state : SessionState) (way : Way) (credits : ℕ) (h : ControlHeader)
     → request_by own state way credits ≡ Some h → Within lives own → way.number < SESSION_NUMBERS
-    → 1 ≤ credits → credits ≤ MOST_CREDITS → Within lives way.life
+    → 1 ≤ credits → credits ≤ MOST_CREDITS → (has_server state ≡ true → Within lives way.life)
     → (has_server state ≡ true → way.other < SESSION_NUMBERS) → ControlInRange h
 range-of own Connecting way credits h e mine few one most theirs joined =
     let same = some-header _ h e in
@@ -94,7 +94,7 @@ range-of own Closing way credits h e mine few one most theirs joined =
       credits = (omega arith, omega arith);
       status = inl refl;
       from_life = mine;
-      to_life = theirs;
+      to_life = theirs refl;
     })
   where
     some-header : (a b : ControlHeader) → Some a ≡ Some b → a ≡ b
@@ -113,12 +113,12 @@ of-known P xs i x place h = rw place at h
 
 pub ranged : (xs : List Client) (i : ℕ) (x : Client) → slice_get xs i ≡ Some x
     → NumberedFrom client_no 0 xs → i < length xs → length xs ≤ SESSION_NUMBERS
-    → AllByRecursion IsSettled xs → (h : ControlHeader) → own_request first_life x ≡ Some h
-    → ControlInRange h
-ranged xs i x place numbered low few settled h own =
+    → AllByRecursion IsSettled xs → (h : ControlHeader) → (life : ℕ) → Within lives life
+    → own_request life x ≡ Some h → ControlInRange h
+ranged xs i x place numbered low few settled h life mine own =
     let old = all-at IsSettled xs i x settled place in
     let named = numbered-at client_no 0 i xs x numbered place in
-    range-of first_life x.state x.way x.limit h own (omega arith, omega arith)
+    range-of life x.state x.way x.limit h own mine
     (omega (arith, named, low, few)) old.some old.most old.life old.joined
 
 -- it names the session, and is known as its request
@@ -140,15 +140,24 @@ own-client own _ way credits h e = cc
 
 own-known : (own : ℕ) (state : SessionState) (way : Way) (credits : ℕ) (h : ControlHeader)
     → request_by own state way credits ≡ Some h
-    → is_request_of h.kind h.server state way.other ≡ true
+    → is_request_of h.kind h.server h.to_life state way ≡ true
 own-known own Connecting way credits h e =
     subst (λ (o : Option ControlHeader).
-    IfSome o (λ k. is_request_of k.kind k.server Connecting way.other ≡ true)) e refl
+    IfSome o (λ k. is_request_of k.kind k.server k.to_life Connecting way ≡ true)) e refl
 own-known own Closing way credits h e =
     subst (λ (o : Option ControlHeader).
-    IfSome o (λ k. is_request_of k.kind k.server Closing way.other ≡ true)) e
-    (eq-eqb way.other way.other refl)
+    IfSome o (λ k. is_request_of k.kind k.server k.to_life Closing way ≡ true)) e
+    (rw (eq-eqb way.other way.other refl, eq-eqb way.life way.life refl) refl)
 own-known own _ way credits h e = cc
+
+-- it tells no life of its peer
+pub own-untold : (own : ℕ) (state : SessionState) (way : Way) (credits : ℕ) (h : ControlHeader)
+    → request_by own state way credits ≡ Some h → life_in (Some h) ≡ None
+own-untold own Connecting way credits h e =
+    subst (λ (o : Option ControlHeader). life_in o ≡ None) e refl
+own-untold own Closing way credits h e =
+    subst (λ (o : Option ControlHeader). life_in o ≡ None) e refl
+own-untold own _ way credits h e = cc
 
 -- a session that has it has a state in which sessions have one
 pub own-asks : (own : ℕ) (state : SessionState) (way : Way) (credits : ℕ) (h : ControlHeader)
@@ -190,7 +199,15 @@ few-sends clock timeout sends sent_at e = by _ (ltb sends 9) refl e
 module _ {R L : Type 0} (log : R → Log)
     (net : Link.Ghosts L) (a : Timed) (i peer : ℕ)
     (h : ControlHeader) (x : Client) (place : slice_get a.lists.clients i ≡ Some x)
-    (is : peer ≡ x.way.peer) (before now : R) (from to : L) where
+    (is : peer ≡ x.way.peer) (untold : life_in (Some h) ≡ None) (before now : R)
+    (from to : L) where
+  untold-by : (head : List ℕ) → Spells (ControlPacket h) head
+      → raised_by peer (life_in (control_of head)) a.lists.known ≡ a.lists.known
+  untold-by head spells =
+      ap (λ (o : Option ℕ). raised_by peer o a.lists.known)
+      (ap (λ (o : Option ControlHeader). life_in o)
+      (ap control_in (spells-decoded (ControlPacket h) head spells)) ∙ untold)
+
   pub spoken-unsent : (failed : Bool)
       → Spoke log net.sent a.lists.me peer h false before now from to
       → HeldBack 1 (troubles_of net from) (troubles_of net to)
@@ -209,7 +226,10 @@ module _ {R L : Type 0} (log : R → Log)
           spells = s.spells;
           facts = ap (λ p. control_fact false a.lists.me p s.head ∷ []) is;
         });
-        goes = refl;
+        goes = ap (λ (known : List ℕ). record {
+          lists = record (asking asks a).lists { known = known };
+          clock = a.clock;
+        }) (sym (untold-by s.head s.spells));
       };
     };
     link = record {
@@ -232,7 +252,7 @@ module _ (me : ℕ) (limits : Limits) (tallies : Tallies) (paces : List Pace) (j
   module _ (fits : Fits (seen s) s.size s.places) (i peer : ℕ) (h : ControlHeader)
       (at : ChangesAt i (sent_again clock) s.clients t.clients)
       (servers : t.servers ≡ s.servers) (queued : t.queued ≡ s.queued)
-      (own : own_request first_life at.client ≡ Some h) (is : peer ≡ at.client.way.peer)
+      (own : own_request tallies.life at.client ≡ Some h) (is : peer ≡ at.client.way.peer)
       (head : List ℕ) (spells : Spells (ControlPacket h) head) where
     reads : control_of head ≡ Some h
     reads = ap control_in (spells-decoded (ControlPacket h) head spells)
@@ -247,10 +267,10 @@ module _ (me : ℕ) (limits : Limits) (tallies : Tallies) (paces : List Pace) (j
     told : t.clients ≡ clients_told clock (control_of head) s.clients
     told =
         let client : h.client ≡ 0 + i =
-        own-client first_life at.client.state at.client.way at.client.limit h own
+        own-client tallies.life at.client.state at.client.way at.client.limit h own
         ∙ numbered-at client_no 0 i s.clients at.client fits.kept.valid.numbered at.place in
         at.changed
-        ∙ ap (λ (x : Client). slice_set s.clients i x) (sym (asked-once clock first_life at.client h own))
+        ∙ ap (λ (x : Client). slice_set s.clients i x) (sym (asked-once clock tallies.life at.client h own))
         ∙ sym (first-at (requests clock h) 0 i s.clients at.client fits.kept.valid.numbered
         at.place)
         ∙ ap (λ n. at_first (is_client n) (requests clock h) s.clients) (sym client)
@@ -259,11 +279,16 @@ module _ (me : ℕ) (limits : Limits) (tallies : Tallies) (paces : List Pace) (j
     still : t.queued ≡ without_first (is_queued Control 0) s.queued
     still = queued ∙ sym (none-control s.queued fits.sendable)
 
+    untold : (to : ℕ) → raised_by to (life_in (control_of head)) tallies.known ≡ tallies.known
+    untold to = ap (λ (o : Option ℕ). raised_by to o tallies.known)
+        (ap (λ (o : Option ControlHeader). life_in o) reads
+        ∙ own-untold tallies.life at.client.state at.client.way at.client.limit h own)
+
     goes : (to : ℕ) (js : Jobs) → seen_with js t ≡ record {
       lists = after clock (seen_with js s).lists (with_two me (Sent to Control 0) head []);
       clock = clock;
     }
-    goes to js = rw (told, still, servers) refl
+    goes to js = rw (told, still, servers, untold to) refl
 
     pub fits-asked : at.client.sends < 9 → t.size ≡ s.size → t.places ≡ s.places
         → Fits (seen t) t.size t.places
@@ -330,7 +355,7 @@ module _ (me : ℕ) (limits : Limits) (tallies : Tallies) (paces : List Pace) (j
           (record {
             some = old.some;
             most = old.most;
-            life = old.life;
+            life = λ has. (let no : false ≡ true = sym left ∙ has in cc);
             joined = λ has. (let no : false ≡ true = sym left ∙ has in cc);
             few = omega arith;
             none_left = λ other. old.none_left (ap is_connected stood ∙ closed);

@@ -1,29 +1,23 @@
 -- Step 2 of a poll: the control packets of the inbox are handled, and answered.
-use Rattle.std.specs.Prelude.{◌≡◌, ℕ, Bool, true, false, Option, List, ◌∷◌, count_by, Result}
+use Rattle.std.specs.Prelude.{◌≡◌, ℕ, Bool, true, false, Option, count_by, Result}
 use Rattle.std.specs.Prelude.{Ok, Err}
 use Rattle.rpc_outside.specs.Recording.{Log}
 use Rattle.packet_header.specs.declared.packet.ControlHeader.{ControlHeader}
-use Rattle.rpc_base.specs.declared.event.Event.TheVariants.{Heard}
-use Rattle.rpc_base.specs.declared.fact.Fact.{Fact}
 use Rattle.rpc_laws.specs.declared.tables.Timed.{Timed}
-use Rattle.rpc_laws.specs.ControlTable.{control_facts, control_reply, control_row}
-use Rattle.rpc_laws.specs.Facts.{plain}
-use Rattle.rpc_laws.specs.Steps.{Rel, Goes}
+use Rattle.rpc_laws.specs.ControlSteps.{EndsAllOutdated, TakesControl}
+use Rattle.rpc_laws.specs.Steps.{Rel, Then}
 use Rattle.rpc_outside.specs.declared.link.Link as Link
+use Rattle.endpoint_node.specs.ControlRows.{Controls}
 use Rattle.endpoint_node.specs.Counts.{is_handled, is_sent}
 use Rattle.endpoint_node.specs.Notes.{MakesSent}
 use Rattle.endpoint_node.specs.Links.{CountsUnsent, troubles_of}
 use Rattle.endpoint_node.specs.declared.node.poll.control.Listening.{Listening}
 
--- the front packet of the inbox, which is of this peer and has this header, is handled by the
--- control rule; the packet that answers it is not yet handed to the link
-pub record Handles (peer : ℕ) (h : ControlHeader) (reply : Option ControlHeader) (s : Timed)
-    (x : List Fact) (t : Timed) : Type 0 where
-  pub lacks : Bool
-  pub facts : x ≡ plain s.lists.me Heard ∷ control_facts s.lists peer h
-      (control_row lacks peer h s.lists)
-  pub answer : reply ≡ control_reply s.lists.life h (control_row lacks peer h s.lists)
-  pub goes : Goes s x t
+-- the front packet of the inbox, which is of this peer and has this header, is taken out, the
+-- sessions that it outdates end, and it is handled by the control rule; the packet that answers it
+-- is not yet handed to the link
+abbrev pub Handles : (peer : ℕ) → ControlHeader → (reply : Option ControlHeader) → Rel
+Handles peer h reply = Then TakesControl (Then (EndsAllOutdated peer h) (Controls peer h reply))
 
 -- what is told of one packet whose answer was handed to the link
 abbrev pub told_of : {E : Type 0} → Result Bool E → Listening

@@ -41,13 +41,13 @@ has_server Spent = true
 has_server Closing = true
 has_server _ = false
 
--- a client session has 1 to 256 credits, the life of its server's endpoint, and the number of its
--- server session, where it has one. It sent its own request nine times at most. One that isn't
+-- a client session has 1 to 256 credits, and the number of its server session and the life of that
+-- one's endpoint, where it has one. It sent its own request nine times at most. One that isn't
 -- connected has no call
 pub record IsSettled (x : Client) : Type 0 where
   pub some : 1 ≤ x.limit
   pub most : x.limit ≤ MOST_CREDITS
-  pub life : Within lives x.way.life
+  pub life : has_server x.state ≡ true → Within lives x.way.life
   pub joined : has_server x.state ≡ true → x.way.other < SESSION_NUMBERS
   pub few : x.sends ≤ 9
   pub none_left : is_connected x.state ≡ false → x.calls ≡ []
@@ -63,7 +63,7 @@ HasCredit v = IsCredit v.credits
 -- each client session stands in the place of its number, and there are no more sessions of either
 -- kind than numbers. There is room for as many packets of calls as the receive ring is long, and
 -- for as many replies. The pool has sixteen places for each credit that the sessions may have, and
--- two for each job
+-- two for each job. Its life is in its range
 pub record Fits (s : Timed) (size places : ℕ) : Type 0 where
   pub kept : Kept s.lists
   pub ascends : AllByRecursion CallsAscend s.lists.clients
@@ -71,6 +71,7 @@ pub record Fits (s : Timed) (size places : ℕ) : Type 0 where
   pub each : length s.lists.paces ≡ length s.lists.clients
   pub numbers : length s.lists.clients ≤ SESSION_NUMBERS
   pub server_numbers : s.lists.server_numbers ≤ SESSION_NUMBERS
+  pub alive : Within lives s.lists.life
   pub settled : AllByRecursion IsSettled s.lists.clients
   pub credits : AllByRecursion HasCredit s.lists.servers
   pub sendable : AllByRecursion IsSendable s.lists.queued

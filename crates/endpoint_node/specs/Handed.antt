@@ -17,6 +17,10 @@ pub record Holding : Type 0 where
 abbrev pub holding : List (List Handed) → Timed → Holding
 holding handed s = record { lists = s.lists; clock = s.clock; handed = handed }
 
+-- with other greatest known lives
+abbrev pub knowing : List ℕ → Holding → Holding
+knowing known h = record h { lists = record h.lists { known = known } }
+
 -- as the definitions over histories have it
 abbrev pub timed_of : Holding → Timed
 timed_of h = record { lists = h.lists; clock = h.clock }

@@ -16,7 +16,7 @@ use Rattle.endpoint_node.specs.Given.{Gave}
 use Rattle.endpoint_node.specs.Jobs.{AreStaffed, Staff}
 use Rattle.endpoint_node.specs.Notes.{is_end}
 use Rattle.endpoint_node.specs.Seen.{Asks, asking}
-use Rattle.endpoint_node.specs.Requests.{AreShort, IsNoWant, MakesServed, with_given}
+use Rattle.endpoint_node.specs.Requests.{MakesServed, SparesShort, ring_left, with_given}
 
 -- a step that may run a handler, make a job, or end calls: the calls that the continuation was given
 -- are those whose ends were noted, in order
@@ -64,6 +64,6 @@ pub record MakesAllHandled {R K W : Type 0} (log : R → Log) (given : K → Lis
   pub dones : List Done
   pub ends : filter is_end noted ≡ map (done_fact old.lists.me) dones
   pub told : Gave given from to dones
-  -- where all packets are short requests, none is dropped for want of memory
-  pub spared : AreShort v old.lists.ring
-      → AllByRecursion IsNoWant noted × AreShort v new.lists.ring
+  -- no short request is dropped for want of memory
+  pub left : new.lists.ring ≡ ring_left old.lists.ring noted
+  pub spared : SparesShort v old.lists.ring noted

@@ -24,14 +24,16 @@ or_refused (Some refusal) made = refusal
 
 -- one end of a session that is connected from the start is made, with the next number, where
 -- nothing refuses it
-pub record PairsClient (peer server credits : ℕ) (s : Timed) (x : List Fact) (t : Timed) : Type 0 where
+pub record PairsClient (peer server credits life : ℕ) (s : Timed) (x : List Fact) (t : Timed)
+    : Type 0 where
   pub facts : x ≡ plain s.lists.me (or_refused (client_refusal credits s.lists)
-      (PairedClient (length s.lists.clients) peer server credits)) ∷ []
+      (PairedClient (length s.lists.clients) peer server credits life)) ∷ []
   pub goes : Goes s x t
 
-pub record PairsServer (peer client credits : ℕ) (s : Timed) (x : List Fact) (t : Timed) : Type 0 where
+pub record PairsServer (peer client credits life : ℕ) (s : Timed) (x : List Fact) (t : Timed)
+    : Type 0 where
   pub facts : x ≡ plain s.lists.me (or_refused (server_refusal credits s.lists)
-      (PairedServer s.lists.server_numbers peer client credits)) ∷ []
+      (PairedServer s.lists.server_numbers peer client credits life)) ∷ []
   pub goes : Goes s x t
 
 -- a session gets its first rate, unless that is 0

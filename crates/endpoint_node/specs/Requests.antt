@@ -20,6 +20,7 @@ use Rattle.rpc_laws.specs.declared.tables.Timed.{Timed}
 use Rattle.rpc_laws.specs.Front.{front_body, front_header}
 use Rattle.rpc_laws.specs.Jobs.{are_full, is_job}
 use Rattle.rpc_laws.specs.PollOrder.{asks_facts, finished_facts}
+use Rattle.rpc_laws.specs.Queues.{ring_after}
 use Rattle.rpc_laws.specs.Service.{Answers, Serving, served_after_all}
 use Rattle.rpc_laws.specs.Steps.{Rel, Goes}
 use Rattle.rpc_outside.specs.Served.{Served}
@@ -80,13 +81,21 @@ pub record IsShort (v : Serving) (ring : List Arrival) : Type 0 where
   pub fits : (served : Served)
       → length (v.answer served head.req_type (front_body ring)) ≤ PART_BYTES
 
--- so is each packet in the ring
-abbrev pub AreShort : Serving → List Arrival → Type 0
-AreShort v ring = AllByRecursion (λ a. IsShort v (a ∷ [])) ring
-
 -- a fact other than that a packet was dropped for want of memory
 abbrev pub IsNoWant : Fact → Type 0
 IsNoWant f = f.event ≢ Dropped NoMemory
+
+-- none of these facts drops, for want of memory, a packet in front of the ring that is a short
+-- request, where the ring before a fact is what the facts before it leave
+abbrev pub SparesShort : Serving → List Arrival → List Fact → Type 0
+SparesShort v ring [] = Unit {0}
+SparesShort v ring (f ∷ x) =
+    (IsShort v ring → IsNoWant f) × SparesShort v (ring_after f.event f.first ring) x
+
+-- what these facts leave of the ring
+abbrev pub ring_left : List Arrival → List Fact → List Arrival
+ring_left ring [] = ring
+ring_left ring (f ∷ x) = ring_left (ring_after f.event f.first ring) x
 
 -- a step that may run a handler, or make a job, which is given out, and then the jobs weren't full.
 -- Where the service stood for what was served before, each handler that ran has its answer, and the
@@ -101,7 +110,7 @@ pub record MakesServed {R : Type 0} (log : R → Log) (v : Serving)
   pub jobs : new.lists.jobs ≡ with_given given old.lists.jobs
   pub vacant : IfSome given (λ p. are_full old.lists.jobs ≡ false)
   -- a short request needs no memory
-  pub spared : IsShort v old.lists.ring → AllByRecursion IsNoWant makes.noted
+  pub spared : SparesShort v old.lists.ring makes.noted
 
 -- the job of this request is finished, with this answer
 pub record FinishesWith (session request : ℕ) (answer : List ℕ) (s : Timed) (x : List Fact)

@@ -1,6 +1,5 @@
 -- A node as the definitions over histories have it.
 use Rattle.std.specs.Prelude.{ℕ, List, [], map}
-use Rattle.rpc_laws.specs.Lives.{first_life}
 use Rattle.packet_rings.specs.Rings.{Ring}
 use Rattle.packet_rings.specs.Values.{DatagramValue}
 use Rattle.rpc_base.specs.declared.limits.Limits.{Limits}
@@ -39,8 +38,11 @@ abbrev pub asking : Asks → Timed → Timed
 asking asks s =
     record s { lists = record s.lists { jobs = asking_jobs asks s.lists.jobs } }
 
--- what a node counts beside its sessions and rings, and the control packets of its inbox
+-- what a node has beside its sessions and rings: its life, the greatest known lives of its peers,
+-- what it counts, and the control packets of its inbox
 pub record Tallies : Type 0 where
+  pub life : ℕ
+  pub known : List ℕ
   pub asked : ℕ
   pub server_numbers : ℕ
   pub inbox : List Arrival
@@ -52,11 +54,12 @@ abbrev pub seen_node : (me : ℕ) → Limits → Tallies → List Pace → Jobs 
 seen_node me limits tallies paces jobs clock rx s = record {
   lists = record {
     me = me;
-    life = first_life;
+    life = tallies.life;
     room = rx.size;
     timeout = limits.timeout;
     asked = tallies.asked;
     server_numbers = tallies.server_numbers;
+    known = tallies.known;
     counts = tallies.counts;
     ring = map arrival_of rx.items;
     inbox = tallies.inbox;

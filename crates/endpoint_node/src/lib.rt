@@ -5,6 +5,7 @@
 
 mod continuation;
 mod inbox;
+mod lives;
 mod node;
 
 pub use continuation::Continuation;

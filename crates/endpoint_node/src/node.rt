@@ -1,7 +1,6 @@
 //! What an endpoint has, beside its service and its workers.
 ghost use Rattle.std.specs.Prelude.{◌≡◌, ◌≤◌, [], IfOk};
 ghost use Rattle.endpoint_node.specs.Handed.{holding};
-ghost use Rattle.rpc_laws.specs.Lives.{first_life};
 ghost use Rattle.rpc_base.specs.Limits.{Fits as InRange};
 ghost use Rattle.rpc_laws.specs.Groups.{shares};
 ghost use Rattle.rpc_laws.specs.NodeLists.{new_node};
@@ -17,10 +16,11 @@ mod sessions;
 mod status;
 
 use crate::inbox::Inbox;
+use crate::lives::KnownLives;
 use calling_sessions::CallingSessions;
 pub use calls::{AskError, Refused};
 pub use delivery::Delivery;
-use packet_header::{FIRST_LIFE, Life};
+use packet_header::Life;
 use packet_rings::RxRing;
 pub use poll::{Asking, Listening, Sending};
 use rpc_base::{Limits, NoMemory, NodeId, RequestNo, SessionNo};
@@ -48,6 +48,8 @@ pub struct JobName {
 /// the definitions over histories have them.
 pub struct Node {
     me: NodeId,
+    life: Life,
+    known: KnownLives,
     limits: Limits,
     /// How many calls were accepted.
     asked: u64,
@@ -75,6 +77,8 @@ impl Drop for Node {
     fn drop(self) {
         let Node {
             me: _,
+            life: _,
+            known: _known,
             limits: _,
             asked: _,
             server_numbers: _,
@@ -102,6 +106,8 @@ impl Model for Node {
     ghost Value = { Holding };
 
     ghost view = { λ n. holding n.store.handed (seen_node n.me n.limits (record {
+      life = n.life;
+      known = n.known;
       asked = n.asked;
       server_numbers = n.server_numbers;
       inbox = n.inbox;
@@ -110,6 +116,8 @@ impl Model for Node {
         n.store) };
 
     ghost invariant = { λ n. Fits (seen_node n.me n.limits (record {
+      life = n.life;
+      known = n.known;
       asked = n.asked;
       server_numbers = n.server_numbers;
       inbox = n.inbox;
@@ -121,15 +129,18 @@ impl Model for Node {
 }
 
 impl Node {
-    /// Node `me` with these limits, which are in their ranges. Its lists are empty. `NoMemory`
-    /// comes where there is no memory for its rings, its inbox and its pool.
-    pub fn new(alloc: Global, me: NodeId, limits: Limits) -> Result<Node, NoMemory>
+    /// Node `me` in a life of 1 or more, with these limits, which are in their ranges. Its lists
+    /// are empty. `NoMemory` comes where there is no memory for its rings, its inbox and its pool.
+    pub fn new(alloc: Global, me: NodeId, life: Life, limits: Limits) -> Result<Node, NoMemory>
+        requires life { 1 ≤ life }
         requires limits { InRange limits }
-        ensures { IfOk result (λ n. n ≡ holding [] (new_node me first_life limits)) }
+        ensures { IfOk result (λ n. n ≡ holding [] (new_node me life limits)) }
     {
         let places = PLACES_OF_SESSION * limits.ring + PLACES_OF_JOB * limits.jobs;
         Ok(Node {
             me,
+            life,
+            known: KnownLives::new(),
             limits,
             asked: 0,
             server_numbers: 0,
@@ -148,14 +159,6 @@ impl Node {
             store: Store::new(alloc, limits.ring, places)?,
             callers: CallingSessions::new(alloc)?,
         })
-    }
-
-    // The life that the endpoint has.
-    fn life(&self) -> Life
-        ensures { result ≡ self.now.lists.life }
-    {
-        let _me = self.me;
-        Life(FIRST_LIFE)
     }
 
     // The credits of its live sessions.

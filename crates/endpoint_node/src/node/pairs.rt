@@ -4,7 +4,8 @@ ghost use Rattle.endpoint_node.specs.Changes.{◌⟶◌};
 ghost use Rattle.endpoint_node.specs.Opens.{AddsClient, AddsServer, MakesClient, MakesServer};
 ghost use Rattle.node_laws.specs.NodeRun.{IsCredits};
 ghost use Rattle.endpoint_node.specs.Handed.{timed_of};
-ghost use Rattle.std.specs.Prelude.{◌≡◌, ◌<◌, [], None, Some, length, IfErr, IfSome, IsSome, OnOk};
+ghost use Rattle.std.specs.Prelude.{◌≡◌, ◌<◌, ◌≤◌, [], None, Some, length, IfErr, IfSome, IsSome};
+ghost use Rattle.std.specs.Prelude.{OnOk};
 ghost use Rattle.endpoint_node.specs.Pairs.{PairsClient, PairsServer, Refuses};
 ghost use Rattle.endpoint_node.specs.Notes.{Makes};
 ghost use Rattle.rpc_base.specs.declared.event.Event.TheVariants.{PairedClient, PairedServer};
@@ -13,6 +14,7 @@ ghost use Rattle.rpc_laws.specs.Steps.{NotesNext};
 ghost use Rattle.session_mgmt.specs.Refusals.{refused};
 
 use crate::node::Node;
+use packet_header::Life;
 use rpc_base::{Event, MOST_CREDITS, NoMemory, Peer, SESSION_NUMBERS, SessionNo, Who};
 use rpc_laws::Pace;
 use rpc_outside::Recorder;
@@ -81,14 +83,16 @@ impl Node {
         &mut self,
         alloc: Global,
         peer: Peer,
+        life: Life,
         server: SessionNo,
         credits: u16,
         rec: &mut R,
     ) -> Result<(), NoMemory>
         requires fits { FitsClient credits self.old }
+        requires life { 1 ≤ life }
         requires server { server < SESSION_NUMBERS }
         ensures { AddsClient R.log (NotesNext (λ s. Some (PairedClient (length s.clients) peer
-            server credits))) result (self.old ⟶ self.new) (rec.old ⟶ rec.new) }
+            server credits life))) result (self.old ⟶ self.new) (rec.old ⟶ rec.new) }
     {
         let session = self.next_client();
         let pace = Pace {
@@ -97,15 +101,17 @@ impl Node {
             next: 0,
         };
         self.paces.push(pace)?;
-        if let Err(wanting) = self.store.pair_client(alloc, peer, server, credits) {
+        if let Err(wanting) = self.store.pair_client(alloc, peer, life, server, credits) {
             let _pace = self.paces.pop();
             return Err(wanting);
         }
+        self.known.raise(peer, life);
         let event = Event::PairedClient {
             session,
             peer,
             server,
             credits,
+            life: life.0,
         };
         rec.note(Who::Node(self.me), event, &[], &[]);
         Ok(())
@@ -115,44 +121,52 @@ impl Node {
     fn add_server<R: Recorder>(
         &mut self,
         peer: Peer,
+        life: Life,
         client: SessionNo,
         credits: u16,
         rec: &mut R,
     ) -> Result<(), NoMemory>
         requires fits { FitsServer credits self.old }
+        requires life { 1 ≤ life }
         requires client { client < SESSION_NUMBERS }
         ensures { AddsServer R.log (NotesNext (λ s. Some (PairedServer s.server_numbers peer client
-            credits))) result (self.old ⟶ self.new) (rec.old ⟶ rec.new) }
+            credits life))) result (self.old ⟶ self.new) (rec.old ⟶ rec.new) }
     {
         let session = SessionNo(self.server_numbers as u16);
-        self.store.pair_server(session, client, peer, credits)?;
+        self.store
+            .pair_server(session, client, peer, life, credits)?;
         self.server_numbers += 1;
+        self.known.raise(peer, life);
         let event = Event::PairedServer {
             session,
             peer,
             client,
             credits,
+            life: life.0,
         };
         rec.note(Who::Node(self.me), event, &[], &[]);
         Ok(())
     }
 
     /// Makes the client end of a session with a peer that is connected from the start, with the
-    /// next number and 1 to 256 credits. The other end has the number `server`. `NumbersSpent`
-    /// comes exactly where 65,535 numbers of client sessions were used, then `RingFull` exactly
-    /// where the credits of the live sessions and these are more than the ring is long; both are
-    /// noted. `NoMemory` is noted nowhere. A refusal makes no session.
+    /// next number and 1 to 256 credits. The other end has the number `server`, in the life `life`
+    /// of its endpoint, 1 or more, which comes to be known. `NumbersSpent` comes exactly where
+    /// 65,535 numbers of client sessions were used, then `RingFull` exactly where the credits of
+    /// the live sessions and these are more than the ring is long; both are noted. `NoMemory` is
+    /// noted nowhere. A refusal makes no session.
     pub fn pair_client<R: Recorder>(
         &mut self,
         alloc: Global,
         peer: Peer,
+        life: Life,
         server: SessionNo,
         credits: u16,
         rec: &mut R,
     ) -> Result<SessionNo, ConnectError>
+        requires life { 1 ≤ life }
         requires server { server < SESSION_NUMBERS }
         requires credits { IsCredits credits }
-        ensures { MakesClient R.log credits (PairsClient peer server credits) result
+        ensures { MakesClient R.log credits (PairsClient peer server credits life) result
             (self.old ⟶ self.new) (rec.old ⟶ rec.new) }
     {
         let spent = usize::from(SESSION_NUMBERS) <= self.store.clients();
@@ -161,27 +175,30 @@ impl Node {
             return Err(why);
         }
         let session = self.next_client();
-        match self.add_client(alloc, peer, server, credits, rec) {
+        match self.add_client(alloc, peer, life, server, credits, rec) {
             Ok(()) => Ok(session),
             Err(_) => Err(ConnectError::NoMemory),
         }
     }
 
     /// Makes the server end of a session with a peer that is connected from the start, with the
-    /// next number and 1 to 256 credits. The other end has the number `client`. `NumbersSpent`
-    /// comes exactly where 65,535 numbers of server sessions were used, then `RingFull` exactly
-    /// where the credits of the live sessions and these are more than the ring is long; both are
-    /// noted. `NoMemory` is noted nowhere. A refusal makes no session.
+    /// next number and 1 to 256 credits. The other end has the number `client`, in the life `life`
+    /// of its endpoint, 1 or more, which comes to be known. `NumbersSpent` comes exactly where
+    /// 65,535 numbers of server sessions were used, then `RingFull` exactly where the credits of
+    /// the live sessions and these are more than the ring is long; both are noted. `NoMemory` is
+    /// noted nowhere. A refusal makes no session.
     pub fn pair_server<R: Recorder>(
         &mut self,
         peer: Peer,
+        life: Life,
         client: SessionNo,
         credits: u16,
         rec: &mut R,
     ) -> Result<SessionNo, ConnectError>
+        requires life { 1 ≤ life }
         requires client { client < SESSION_NUMBERS }
         requires credits { IsCredits credits }
-        ensures { MakesServer R.log credits (PairsServer peer client credits) result
+        ensures { MakesServer R.log credits (PairsServer peer client credits life) result
             (self.old ⟶ self.new) (rec.old ⟶ rec.new) }
     {
         let spent = u64::from(SESSION_NUMBERS) <= self.server_numbers;
@@ -190,7 +207,7 @@ impl Node {
             return Err(why);
         }
         let session = SessionNo(self.server_numbers as u16);
-        match self.add_server(peer, client, credits, rec) {
+        match self.add_server(peer, life, client, credits, rec) {
             Ok(()) => Ok(session),
             Err(_) => Err(ConnectError::NoMemory),
         }

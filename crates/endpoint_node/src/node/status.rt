@@ -4,15 +4,36 @@ ghost use Rattle.std.specs.Prelude.{◌≡◌, ◌≤◌, ◌↔◌, None, IfErr
 ghost use Rattle.std.specs.List.{find};
 ghost use Rattle.endpoint_node.specs.Status.{IsDrained, IsQuiet, free_told, pending_told};
 ghost use Rattle.rpc_laws.specs.Groups.{pair_refusal};
+ghost use Rattle.rpc_laws.specs.NodeLists.{limits_of};
 ghost use Rattle.rpc_laws.specs.Sessions.{is_client};
 ghost use Rattle.session_mgmt.specs.Refusals.{refused};
 
 use crate::node::Node;
-use rpc_base::{MOST_CREDITS, NodeId, SESSION_NUMBERS, SessionNo, SessionState};
+use packet_header::Life;
+use rpc_base::{Limits, MOST_CREDITS, NodeId, SESSION_NUMBERS, SessionNo, SessionState};
 use rpc_laws::Counted;
 use session_mgmt::ConnectError;
 
 impl Node {
+    /// Its life, 1 or more.
+    pub fn life(&self) -> Life
+        ensures life { result ≡ self.now.lists.life }
+        ensures some { 1 ≤ result }
+    {
+        self.life
+    }
+
+    /// The limits that it was made with.
+    pub fn limits(&self) -> Limits
+        ensures { result ≡ limits_of self.now.lists }
+    {
+        Limits {
+            ring: self.rx.size(),
+            jobs: self.limits.jobs,
+            timeout: self.limits.timeout,
+        }
+    }
+
     /// Whether there are a number of either kind and room for a session with so many credits, 1 to
     /// 256. `NumbersSpent` comes exactly where 65,535 numbers of a kind were used, and then
     /// `RingFull` exactly where the credits of the live sessions and these are more than the ring

@@ -1,15 +1,17 @@
 //! Step 2 of a poll: the control packets of the inbox are handled, and answered.
 ghost use Rattle.endpoint_node.specs.Steps.{LeavesControl, StepsHeard};
 ghost use Rattle.endpoint_node.specs.Changes.{◌⟶◌};
-ghost use Rattle.std.specs.Prelude.{◌≡◌, ◌≢◌, ◌≤◌, [], drop, length, IfSome};
-ghost use Rattle.endpoint_node.specs.Handed.{timed_of};
+ghost use Rattle.std.specs.Prelude.{◌≡◌, ◌≢◌, ◌≤◌, [], drop, length, IfSome, Some};
+ghost use Rattle.endpoint_node.specs.Handed.{knowing, timed_of};
 ghost use Rattle.endpoint_node.specs.Inbox.{IsFront};
 ghost use Rattle.endpoint_node.specs.Control.{Handles, told_of};
 ghost use Rattle.endpoint_node.specs.Notes.{Makes};
 ghost use Rattle.packet_header.specs.Header.{ControlInRange};
 ghost use Rattle.rpc_laws.specs.ControlSteps.{Hears, HearsAll};
 ghost use Rattle.rpc_laws.specs.Deliveries.{inbox_room};
+ghost use Rattle.rpc_laws.specs.Lives.{life_in, raised_by};
 
+mod outdated;
 mod removal;
 mod replies;
 mod requests;
@@ -18,8 +20,8 @@ mod rows;
 use crate::inbox::Heard;
 use crate::node::Node;
 use crate::node::poll::link::speak;
-use packet_header::ControlHeader;
-use rpc_base::{Event, Who};
+use packet_header::{ControlHeader, ControlKind};
+use rpc_base::{Event, Peer, Who};
 use rpc_outside::{Failed, Link, Recorder};
 
 /// What came of the control packets of an inbox.
@@ -56,8 +58,9 @@ fn told_of(went: Result<bool, Failed>) -> Listening
 }
 
 impl Node {
-    // The packet in front of the inbox, which is given, is taken out and handled by the control
-    // table. The result is the packet that answers it, where there is one.
+    // The packet in front of the inbox, which is given, is taken out. The sessions that it outdates
+    // end, and then it is handled by the control table. The result is the packet that answers it,
+    // where there is one.
     fn handle_control<R: Recorder>(&mut self, packet: &Heard, rec: &mut R) -> Option<ControlHeader>
         requires front { IsFront self.old.lists.inbox packet.now }
         requires in_range { ControlInRange packet.now.head }
@@ -69,7 +72,21 @@ impl Node {
     {
         rec.note(Who::Node(self.me), Event::Heard, &[], &[]);
         self.inbox.drop_front();
+        self.end_outdated(packet.peer, &packet.head, rec);
         self.on_control(packet.peer, &packet.head, rec)
+    }
+
+    // The life that a connect reply to a peer goes to comes to be known.
+    fn keep_life(&mut self, peer: Peer, answer: &ControlHeader)
+        ensures { self.new ≡ knowing (raised_by peer (life_in (Some answer.now))
+            self.old.lists.known) self.old }
+    {
+        let ControlKind::ConnectReply = answer.kind else {
+            return;
+        };
+        if let Some(life) = answer.to_life {
+            self.known.raise(peer, life);
+        }
     }
 
     // The packet in front of the inbox is handled, and its answer is handed to the link at once.
@@ -92,7 +109,11 @@ impl Node {
                     failed: false,
                 }
             }
-            Some(answer) => told_of(speak(self.me, packet.peer, &answer, link, rec)),
+            Some(answer) => {
+                let went = speak(self.me, packet.peer, &answer, link, rec);
+                self.keep_life(packet.peer, &answer);
+                told_of(went)
+            }
         }
     }
 

@@ -4,7 +4,8 @@ ghost use Rattle.endpoint_node.specs.Changes.{◌⟶◌};
 ghost use Rattle.endpoint_node.specs.Jobs.{staff_of};
 ghost use Rattle.rpc_laws.specs.Service.{rules_of};
 ghost use Rattle.endpoint_node.specs.Handed.{GivesBackTo, timed_of};
-ghost use Rattle.std.specs.Prelude.{◌≡◌, ◌≢◌, ◌<◌, ◌≤◌, ◌+◌, [], true, false, drop, length};
+ghost use Rattle.std.specs.Prelude.{◌≡◌, ◌≢◌, ◌<◌, ◌≤◌, ◌+◌, ◌==◌, not, [], true, false, drop};
+ghost use Rattle.std.specs.Prelude.{length};
 ghost use Rattle.endpoint_node.specs.Packets.{MakesAllHandled, MakesHandled, WorksFor};
 ghost use Rattle.endpoint_node.specs.Requests.{AllServed};
 ghost use Rattle.rpc_laws.specs.PollOrder.{Handles, HandlesAll, NoMoreToHandle};
@@ -15,17 +16,25 @@ mod requests;
 
 use crate::continuation::Continuation;
 use crate::node::Node;
-use packet_header::Kind;
-use rpc_base::MOST_RING;
+use packet_header::{Kind, MessageHeader};
+use rpc_base::{DropReason, MOST_RING};
 use rpc_outside::{Recorder, Service};
 use std::alloc::Global;
 use worker_board::Parcel;
 use worker_crew::Workers;
 
 impl Node {
+    // Whether a packet is for another life of the node.
+    fn is_stale(&self, head: &MessageHeader) -> bool
+        ensures { result ≡ not (head.now.to_life == self.now.lists.life) }
+    {
+        head.to_life.0 != self.life.0
+    }
+
     /// A turn of step 3 of a poll: handles the packet in front of the receive ring, while fewer
-    /// replies are queued than the ring is long. A call that ends goes to the continuation. What is
-    /// given out is the job that a request made, for a worker.
+    /// replies are queued than the ring is long. One for another life is dropped, before anything
+    /// else is looked at. A call that ends goes to the continuation. What is given out is the job
+    /// that a request made, for a worker.
     pub fn handle_front<V: Service, K: Continuation, R: Recorder>(
         &mut self,
         alloc: Global,
@@ -44,6 +53,10 @@ impl Node {
         let Some(head) = self.front_head() else {
             unreachable!()
         };
+        if self.is_stale(&head) {
+            self.drop_front(DropReason::StaleLife, rec);
+            return None;
+        }
         match head.kind {
             Kind::Request | Kind::Rfr => self.handle_request(alloc, service, &head, rec),
             Kind::Cr | Kind::Response => match self.hear_reply(&head, rec) {

@@ -57,6 +57,8 @@ invariant_of-self-2 g c =
     let number : c.next.inside.0 + 1 ≡ c.self.inside.asked + 1 =
     ap (λ (n : ℕ). n + 1) (c.next.view_is ∙ (rw (← c.self.view_is) at c.next_call-next.ensures.number)) in (
       fits-asked c.self.inside.me c.self.inside.limits (record {
+        life = c.self.inside.life;
+        known = c.self.inside.known;
         asked = c.self.inside.asked;
         server_numbers = c.self.inside.server_numbers;
         inbox = c.self.inside.inbox;
@@ -89,6 +91,8 @@ returns-clause-makes g c =
     let few : length (bytes_of c.args.waiting.req) ≤ MOST_MESSAGE_BYTES =
     omega (arith, length-take c.args.waiting.req.len c.args.waiting.req.store, c.requires.message) in
     rw (← c.self.view_is) (node-asked c.self.inside.me c.self.inside.limits (record {
+      life = c.self.inside.life;
+      known = c.self.inside.known;
       asked = c.self.inside.asked;
       server_numbers = c.self.inside.server_numbers;
       inbox = c.self.inside.inbox;
@@ -102,6 +106,8 @@ returns-clause-makes g c =
     g.R.Recorder.log c.args.rec.now c.note.new.self _ _ _ _
     (sym c.session.view_is ∙ sym c.from-i.ensures) next c.capacity.ensures.capacity
     (newest-is c.self.inside.me c.self.inside.limits (record {
+      life = c.self.inside.life;
+      known = c.self.inside.known;
       asked = c.self.inside.asked;
       server_numbers = c.self.inside.server_numbers;
       inbox = c.self.inside.inbox;

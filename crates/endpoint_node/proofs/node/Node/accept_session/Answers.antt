@@ -14,8 +14,8 @@ returns-in-Ok g c = record {
       rw c.in-Ok.ensures.number (acts-controls g.R.Recorder.log c.args.rec.now
       c.add_accepted.new.rec c.args.peer h (Accepts n) s t false (c.requires.row false)
       (acts-noted g.R.Recorder.log c.args.rec.now c.add_accepted.new.rec c.args.peer h (Accepts n)
-      s t (λ l. Some (Accepted l.server_numbers c.args.peer h.client h.credits))
-      (Accepted n c.args.peer h.client h.credits) (λ asks. refl) (λ asks. refl)
+      s t (λ l. Some (Accepted l.server_numbers c.args.peer h.client h.credits h.from_life))
+      (Accepted n c.args.peer h.client h.credits h.from_life) (λ asks. refl) (λ asks. refl)
       c.in-Ok.ensures.makes));
   rest = c.in-Ok.ensures.rest;
 }

@@ -88,6 +88,7 @@ connect_session-requires g c =
       connecting = record { known = there.known; stands = there.stands };
       server = named-below c.args.head.now c.in-Connects.server c.requires.in_range
           cause.cause.1;
+      life = c.requires.in_range.from_life.0;
     }
 
 pub fail_session-requires : goal.fail_session-requires
@@ -106,7 +107,8 @@ pub returns-in-Connects : goal.returns-in-Connects
 returns-in-Connects g c = record {
   makes = let s = timed_of c.args.self.now in
       let t = timed_of c.connect_session.new.self in
-      let connected : Event = IsConnected c.args.head.now.client c.in-Connects.server in
+      let connected : Event = IsConnected c.args.head.now.client c.in-Connects.server
+      c.args.head.now.from_life in
       acts-controls g.R.Recorder.log c.args.rec.now c.connect_session.new.rec c.args.peer
       c.args.head.now (Connects c.in-Connects.server) s t false
       (rw c.in-Connects.is at (c.requires.row false))

@@ -1,4 +1,4 @@
-use Rattle.std.proofs.Common.{◌≡◌, ℕ, ◌++◌, [], ◌∷◌, length, ap, ◌∙◌}
+use Rattle.std.proofs.Common.{◌≡◌, ℕ, ◌++◌, [], ◌∷◌, length, ap, ◌∙◌, arith}
 use Rattle.endpoint_node.specs.Seen.{jobs_in}
 use Rattle.endpoint_node.proofs.SessionFits.{fits-paired-client}
 use Rattle.endpoint_node.proofs.PostCallers.{covers-paired}
@@ -12,6 +12,8 @@ invariant_of-self-2 g c =
     let taken = rw (← c.self.view_is) at c.requires.fits.fits in (
       fits-paired-client c.self.inside.me c.self.inside.limits
           (record {
+            life = c.self.inside.life;
+            known = c.self.inside.known;
             asked = c.self.inside.asked;
             server_numbers = c.self.inside.server_numbers;
             inbox = c.self.inside.inbox;
@@ -20,13 +22,15 @@ invariant_of-self-2 g c =
           (jobs_in c.self.inside.limits.jobs c.self.inside.given c.self.inside.jobs.items)
           c.self.inside.clock c.self.inside.rx c.self.inside.store
           c.pair_client.new.self c.self.invariant.0 c.args.credits c.args.peer c.args.server
-          c.requires.fits.credits.some made.queued made.size made.places c.push.new.self.items
+          c.args.life c.requires.fits.credits.some c.raise.new.self
+          made.queued made.size made.places c.push.new.self.items
           (c.in_ok-push.ensures.items ∙ ap (λ (n : ℕ). c.self.inside.paces.items ++ record {
             session = n;
             rate = 0;
             next = 0;
           } ∷ []) same) taken
-          made.clients made.servers c.requires.fits.credits.few c.requires.server,
+          made.clients made.servers c.requires.fits.credits.few c.requires.server
+          (c.requires.life, omega (arith, c.life.invariant, c.life.view_is)),
       c.self.invariant.1,
-      covers-paired c.self.inside.callers _ _ _ _ _ _ made.clients c.self.invariant.2,
+      covers-paired c.self.inside.callers _ _ _ _ _ _ _ made.clients c.self.invariant.2,
     )

@@ -14,6 +14,8 @@ invariant_of-self-2 g c =
     let taken = rw (← c.self.view_is) at c.requires.fits.fits in (
       fits-paired-server c.self.inside.me c.self.inside.limits
           (record {
+            life = c.self.inside.life;
+            known = c.self.inside.known;
             asked = c.self.inside.asked;
             server_numbers = c.self.inside.server_numbers;
             inbox = c.self.inside.inbox;
@@ -22,7 +24,8 @@ invariant_of-self-2 g c =
           (jobs_in c.self.inside.limits.jobs c.self.inside.given c.self.inside.jobs.items)
           c.self.inside.clock c.self.inside.rx c.self.inside.store
           c.pair_server.new.self c.self.invariant.0 c.args.credits c.args.peer c.args.client
-          c.requires.fits.credits.some made.queued made.size made.places (c.self.inside.server_numbers + 1) refl
+          c.args.life c.requires.fits.credits.some c.raise.new.self
+          made.queued made.size made.places (c.self.inside.server_numbers + 1) refl
           c.requires.fits.credits.few taken
           made.clients made.servers,
       c.self.invariant.1,
@@ -35,7 +38,7 @@ returns g c = record {
   clients = search rules;
   jobs = search rules;
   served = λ mode served.
-      served-more mode _ _ _ _ _ _ c.in_ok-pair_server.ensures.servers
+      served-more mode _ _ _ _ _ _ _ c.in_ok-pair_server.ensures.servers
       (rw (← c.self.view_is) at served);
   unchanged = search rules;
   handed = search rules;

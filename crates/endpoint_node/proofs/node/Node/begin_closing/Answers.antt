@@ -31,6 +31,8 @@ invariant_of-self g c =
     let same : h.client ≡ at.client = same-client h.client at.client (sym h.place ∙ at.place) in (
       fits-closing c.self.inside.me c.self.inside.limits
           (record {
+            life = c.self.inside.life;
+            known = c.self.inside.known;
             asked = c.self.inside.asked;
             server_numbers = c.self.inside.server_numbers;
             counts = c.self.inside.counts;
@@ -52,6 +54,8 @@ returns g c = record {
       let at = rw (c.from.ensures ∙ c.session.view_is) at to.clients in
       rw (← c.self.view_is) (node-closing c.self.inside.me c.self.inside.limits
       (record {
+        life = c.self.inside.life;
+        known = c.self.inside.known;
         asked = c.self.inside.asked;
         server_numbers = c.self.inside.server_numbers;
         counts = c.self.inside.counts;

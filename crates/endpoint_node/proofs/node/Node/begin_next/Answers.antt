@@ -15,6 +15,8 @@ invariant_of-self-2 g c =
     let h = rw c.in-Some.is at c.begin.ensures in (
       fits-begun g.R.Recorder.log c.args.i c.self.inside.me c.self.inside.limits
           (record {
+            life = c.self.inside.life;
+            known = c.self.inside.known;
             asked = c.self.inside.asked;
             server_numbers = c.self.inside.server_numbers;
             inbox = c.self.inside.inbox;
@@ -33,6 +35,8 @@ returns-clause-notes g c =
     rw (← c.self.view_is) (node-begun g.R.Recorder.log c.args.i
     c.self.inside.me c.self.inside.limits
     (record {
+      life = c.self.inside.life;
+      known = c.self.inside.known;
       asked = c.self.inside.asked;
       server_numbers = c.self.inside.server_numbers;
       inbox = c.self.inside.inbox;

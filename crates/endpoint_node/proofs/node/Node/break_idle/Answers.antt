@@ -9,6 +9,8 @@ invariant_of-self g c =
     let h = c.lose_session.ensures in (
       fits-lost c.self.inside.me c.self.inside.limits
           (record {
+            life = c.self.inside.life;
+            known = c.self.inside.known;
             asked = c.self.inside.asked;
             server_numbers = c.self.inside.server_numbers;
             inbox = c.self.inside.inbox;
@@ -29,6 +31,8 @@ returns g c = record {
   ended = let h = c.lose_session.ensures in
       rw (← c.self.view_is) (node-lost c.self.inside.me c.self.inside.limits
       (record {
+        life = c.self.inside.life;
+        known = c.self.inside.known;
         asked = c.self.inside.asked;
         server_numbers = c.self.inside.server_numbers;
         inbox = c.self.inside.inbox;

@@ -6,6 +6,8 @@ use Rattle.endpoint_node.proofs.node.Node.close.Goals as goal
 pub invariant_of-self : goal.invariant_of-self
 invariant_of-self g c = (
   fits-closed c.self.inside.me c.self.inside.limits (record {
+    life = c.self.inside.life;
+    known = c.self.inside.known;
     asked = c.self.inside.asked;
     server_numbers = c.self.inside.server_numbers;
     inbox = c.self.inside.inbox;
@@ -22,6 +24,8 @@ invariant_of-self g c = (
 pub returns : goal.returns
 returns g c = record {
   makes = rw (← c.self.view_is) (node-closed c.self.inside.me c.self.inside.limits (record {
+    life = c.self.inside.life;
+    known = c.self.inside.known;
     asked = c.self.inside.asked;
     server_numbers = c.self.inside.server_numbers;
     inbox = c.self.inside.inbox;

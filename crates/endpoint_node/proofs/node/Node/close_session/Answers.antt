@@ -14,6 +14,8 @@ invariant_of-self g c =
     let at = rw (c.from.ensures ∙ c.session.view_is) at h.clients in (
       fits-closed c.self.inside.me c.self.inside.limits
           (record {
+            life = c.self.inside.life;
+            known = c.self.inside.known;
             asked = c.self.inside.asked;
             server_numbers = c.self.inside.server_numbers;
             inbox = c.self.inside.inbox;
@@ -34,6 +36,8 @@ returns g c = record {
       let at = rw (c.from.ensures ∙ c.session.view_is) at h.clients in
       rw (← c.self.view_is) (node-closed c.self.inside.me c.self.inside.limits
       (record {
+        life = c.self.inside.life;
+        known = c.self.inside.known;
         asked = c.self.inside.asked;
         server_numbers = c.self.inside.server_numbers;
         inbox = c.self.inside.inbox;

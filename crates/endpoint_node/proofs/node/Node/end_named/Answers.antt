@@ -6,6 +6,6 @@ pub returns : goal.returns
 returns g c = record {
   makes = acts-ended g.R.Recorder.log c.args.rec.now c.end_session.new.rec c.args.peer c.args.head.now
       (timed_of c.args.self.now) (timed_of c.end_session.new.self) c.in-Some.i
-      c.in-Some.ensures.found.1 c.end_session.ensures.makes;
-  rest = c.end_session.ensures.rest;
+      c.in-Some.ensures.found.1 c.end_session.ensures.step.makes;
+  rest = c.end_session.ensures.step.rest;
 }

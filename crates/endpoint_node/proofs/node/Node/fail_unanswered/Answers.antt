@@ -13,6 +13,8 @@ invariant_of-self g c =
     let h = c.failed.ensures in (
       fits-unanswered c.self.inside.me c.self.inside.limits
           (record {
+            life = c.self.inside.life;
+            known = c.self.inside.known;
             asked = c.self.inside.asked;
             server_numbers = c.self.inside.server_numbers;
             counts = c.self.inside.counts;
@@ -31,6 +33,8 @@ returns g c = record {
   makes = let h = c.failed.ensures in
       rw (← c.self.view_is) (node-unanswered c.self.inside.me c.self.inside.limits
       (record {
+        life = c.self.inside.life;
+        known = c.self.inside.known;
         asked = c.self.inside.asked;
         server_numbers = c.self.inside.server_numbers;
         counts = c.self.inside.counts;

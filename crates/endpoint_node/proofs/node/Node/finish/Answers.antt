@@ -33,6 +33,8 @@ pub post_answer-requires-clause-ring : goal.post_answer-requires-clause-ring
 post_answer-requires-clause-ring g c =
     ring-room c.self.inside.me c.self.inside.limits
     (record {
+      life = c.self.inside.life;
+      known = c.self.inside.known;
       asked = c.self.inside.asked;
       server_numbers = c.self.inside.server_numbers;
       inbox = c.self.inside.inbox;
@@ -46,6 +48,8 @@ pub post_answer-requires-clause-room : goal.post_answer-requires-clause-room
 post_answer-requires-clause-room g c =
     pool-room c.self.inside.me c.self.inside.limits
     (record {
+      life = c.self.inside.life;
+      known = c.self.inside.known;
       asked = c.self.inside.asked;
       server_numbers = c.self.inside.server_numbers;
       inbox = c.self.inside.inbox;
@@ -58,6 +62,8 @@ pub invariant_of-self-in_default-post_answer : goal.invariant_of-self-in_default
 invariant_of-self-in_default-post_answer g c = (
   fits-unposted c.self.inside.me c.self.inside.limits
       (record {
+        life = c.self.inside.life;
+        known = c.self.inside.known;
         asked = c.self.inside.asked;
         server_numbers = c.self.inside.server_numbers;
         inbox = c.self.inside.inbox;
@@ -81,6 +87,8 @@ pub returns-in_default-post_answer-clause-done : goal.returns-in_default-post_an
 returns-in_default-post_answer-clause-done g c = λ yes.
     rw (← c.self.view_is) (node-unposted c.self.inside.me c.self.inside.limits
     (record {
+      life = c.self.inside.life;
+      known = c.self.inside.known;
       asked = c.self.inside.asked;
       server_numbers = c.self.inside.server_numbers;
       inbox = c.self.inside.inbox;
@@ -107,6 +115,8 @@ pub invariant_of-self-2 : goal.invariant_of-self-2
 invariant_of-self-2 g c = (
   fits-answered c.self.inside.me c.self.inside.limits
       (record {
+        life = c.self.inside.life;
+        known = c.self.inside.known;
         asked = c.self.inside.asked;
         server_numbers = c.self.inside.server_numbers;
         inbox = c.self.inside.inbox;
@@ -132,6 +142,8 @@ pub returns-clause-done : goal.returns-clause-done
 returns-clause-done g c = λ yes.
     rw (← c.self.view_is) (node-answered c.self.inside.me c.self.inside.limits
     (record {
+      life = c.self.inside.life;
+      known = c.self.inside.known;
       asked = c.self.inside.asked;
       server_numbers = c.self.inside.server_numbers;
       inbox = c.self.inside.inbox;

@@ -42,6 +42,8 @@ invariant_of-self-2 g c =
     c.in-Some.entry h.taken h.left.queued in (
       fits-flushed c.self.inside.me c.self.inside.limits
           (record {
+            life = c.self.inside.life;
+            known = c.self.inside.known;
             asked = c.self.inside.asked;
             server_numbers = c.self.inside.server_numbers;
             inbox = c.self.inside.inbox;
@@ -62,6 +64,8 @@ returns-clause-flush g c = record {
       c.in-Some.entry h.taken h.left.queued in
       rw (← c.self.view_is) (node-flushed c.self.inside.me c.self.inside.limits
       (record {
+        life = c.self.inside.life;
+        known = c.self.inside.known;
         asked = c.self.inside.asked;
         server_numbers = c.self.inside.server_numbers;
         inbox = c.self.inside.inbox;

@@ -1,6 +1,7 @@
 use Rattle.std.proofs.Common.{◌≡◌, ap, ◌∙◌}
 use Rattle.std.specs.Prelude.{is_some}
 use Rattle.rpc_laws.specs.ControlTable.{named_end}
+use Rattle.rpc_laws.specs.Lives.{known_life}
 use Rattle.endpoint_node.specs.Handed.{Holding}
 use Rattle.endpoint_node.proofs.ControlEnds.{found-as, named-found}
 use Rattle.endpoint_node.proofs.node.Node.found.Goals as goal
@@ -9,11 +10,13 @@ pub returns : goal.returns
 returns c =
     let s = c.args.self.now.lists in
     let h = c.args.head.now in
-    let own = named_end c.args.peer h.client h.server s.servers in
+    let own = named_end c.args.peer h.client h.from_life h.server s.servers in
     let named : is_some c.place_of_named.result ≡ is_some own =
     named-found s.servers c.place_of_named.result own c.place_of_named.ensures.found
     c.place_of_named.ensures.missing in
-    found-as c.args.peer h s _ _ _ _ _ _ c.other_end.ensures (c.is_some.ensures ∙ named)
-    c.own_end.ensures (ap (λ (n : Holding). n.lists.server_numbers) c.self.view_is)
+    found-as c.args.peer h s _ _ _ _ _ _ _ _ c.other_end.ensures (c.is_some.ensures ∙ named)
+    c.own_end.ensures (ap (λ (n : Holding). n.lists.life) c.self.view_is)
+    (c.of.ensures ∙ ap (λ (n : Holding). known_life c.args.peer n.lists.known) c.self.view_is)
+    (ap (λ (n : Holding). n.lists.server_numbers) c.self.view_is)
     c.shares.ensures.shares
     (c.size.ensures.size ∙ ap (λ (n : Holding). n.lists.room) c.self.view_is)

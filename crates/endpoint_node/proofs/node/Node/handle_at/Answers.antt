@@ -66,6 +66,8 @@ invariant_of-self g c =
     let asked = c.body-asked.ensures ∙ ap body_of c.bytes.ensures.bytes in
     let p = as-asked _ _ _ _ _ _ _ _ _ _ _ _ _ _ _ _ asked c.in-Took.ensures.handles in (
       fits-took-it c.self.inside.me c.self.inside.limits (record {
+        life = c.self.inside.life;
+        known = c.self.inside.known;
         asked = c.self.inside.asked;
         server_numbers = c.self.inside.server_numbers;
         inbox = c.self.inside.inbox;
@@ -94,6 +96,8 @@ returns-in-Took g c = record {
       let asked = c.body-asked.ensures ∙ ap body_of c.bytes.ensures.bytes in
       let p = as-asked _ _ _ _ _ _ _ _ _ _ _ _ _ _ _ _ asked c.in-Took.ensures.handles in
       rw (← c.self.view_is) (node-took-it c.self.inside.me c.self.inside.limits (record {
+        life = c.self.inside.life;
+        known = c.self.inside.known;
         asked = c.self.inside.asked;
         server_numbers = c.self.inside.server_numbers;
         inbox = c.self.inside.inbox;
@@ -128,6 +132,8 @@ invariant_of-self-in-Again g c =
     let asked = c.body-asked.ensures ∙ ap body_of c.bytes.ensures.bytes in
     let p = as-asked _ _ _ _ _ _ _ _ _ _ _ _ _ _ _ _ asked c.in-Again.ensures.handles in (
       fits-again c.self.inside.me c.self.inside.limits (record {
+        life = c.self.inside.life;
+        known = c.self.inside.known;
         asked = c.self.inside.asked;
         server_numbers = c.self.inside.server_numbers;
         inbox = c.self.inside.inbox;
@@ -156,6 +162,8 @@ returns-in-Again g c = record {
       let asked = c.body-asked.ensures ∙ ap body_of c.bytes.ensures.bytes in
       let p = as-asked _ _ _ _ _ _ _ _ _ _ _ _ _ _ _ _ asked c.in-Again.ensures.handles in
       rw (← c.self.view_is) (node-again c.self.inside.me c.self.inside.limits (record {
+        life = c.self.inside.life;
+        known = c.self.inside.known;
         asked = c.self.inside.asked;
         server_numbers = c.self.inside.server_numbers;
         inbox = c.self.inside.inbox;
@@ -190,6 +198,8 @@ invariant_of-self-in-Ran g c =
     let asked = c.body-asked.ensures ∙ ap body_of c.bytes.ensures.bytes in
     let p = as-asked _ _ _ _ _ _ _ _ _ _ _ _ _ _ _ _ asked c.in-Ran.ensures.handles in (
       fits-ran c.self.inside.me c.self.inside.limits (record {
+        life = c.self.inside.life;
+        known = c.self.inside.known;
         asked = c.self.inside.asked;
         server_numbers = c.self.inside.server_numbers;
         inbox = c.self.inside.inbox;
@@ -219,6 +229,8 @@ returns-in-Ran g c = record {
       let asked = c.body-asked.ensures ∙ ap body_of c.bytes.ensures.bytes in
       let p = as-asked _ _ _ _ _ _ _ _ _ _ _ _ _ _ _ _ asked c.in-Ran.ensures.handles in
       rw (← c.self.view_is) (node-ran c.self.inside.me c.self.inside.limits (record {
+        life = c.self.inside.life;
+        known = c.self.inside.known;
         asked = c.self.inside.asked;
         server_numbers = c.self.inside.server_numbers;
         inbox = c.self.inside.inbox;
@@ -253,6 +265,8 @@ invariant_of-self-in-Dropped g c =
     let asked = c.body-asked.ensures ∙ ap body_of c.bytes.ensures.bytes in
     let p = as-asked _ _ _ _ _ _ _ _ _ _ _ _ _ _ _ _ asked c.in-Dropped.ensures.handles in (
       fits-drop c.self.inside.me c.self.inside.limits (record {
+        life = c.self.inside.life;
+        known = c.self.inside.known;
         asked = c.self.inside.asked;
         server_numbers = c.self.inside.server_numbers;
         inbox = c.self.inside.inbox;
@@ -282,6 +296,8 @@ returns-in-Dropped g c = record {
       let asked = c.body-asked.ensures ∙ ap body_of c.bytes.ensures.bytes in
       let p = as-asked _ _ _ _ _ _ _ _ _ _ _ _ _ _ _ _ asked c.in-Dropped.ensures.handles in
       rw (← c.self.view_is) (node-drop c.self.inside.me c.self.inside.limits (record {
+        life = c.self.inside.life;
+        known = c.self.inside.known;
         asked = c.self.inside.asked;
         server_numbers = c.self.inside.server_numbers;
         inbox = c.self.inside.inbox;
@@ -317,6 +333,8 @@ invariant_of-self-in-Give g c =
     let asked = c.body-asked.ensures ∙ ap body_of c.bytes.ensures.bytes in
     let p = as-asked _ _ _ _ _ _ _ _ _ _ _ _ _ _ _ _ asked c.in-Give.ensures.handles in (
       fits-give c.self.inside.me c.self.inside.limits (record {
+        life = c.self.inside.life;
+        known = c.self.inside.known;
         asked = c.self.inside.asked;
         server_numbers = c.self.inside.server_numbers;
         inbox = c.self.inside.inbox;
@@ -352,6 +370,8 @@ returns-in-Give g c = record {
       let asked = c.body-asked.ensures ∙ ap body_of c.bytes.ensures.bytes in
       let p = as-asked _ _ _ _ _ _ _ _ _ _ _ _ _ _ _ _ asked c.in-Give.ensures.handles in
       rw (← c.self.view_is) (node-give c.self.inside.me c.self.inside.limits (record {
+        life = c.self.inside.life;
+        known = c.self.inside.known;
         asked = c.self.inside.asked;
         server_numbers = c.self.inside.server_numbers;
         inbox = c.self.inside.inbox;
@@ -392,6 +412,8 @@ overflow_add-self g c =
     let asked = c.body-asked.ensures ∙ ap body_of c.bytes.ensures.bytes in
     let p = as-asked _ _ _ _ _ _ _ _ _ _ _ _ _ _ _ _ asked c.in-Give.ensures.handles in
     let none = unfull-of c.self.inside.me c.self.inside.limits (record {
+      life = c.self.inside.life;
+      known = c.self.inside.known;
       asked = c.self.inside.asked;
       server_numbers = c.self.inside.server_numbers;
       inbox = c.self.inside.inbox;
@@ -420,6 +442,8 @@ push_back_reserved-requires g c =
     let asked = c.body-asked.ensures ∙ ap body_of c.bytes.ensures.bytes in
     let p = as-asked _ _ _ _ _ _ _ _ _ _ _ _ _ _ _ _ asked c.in-Give.ensures.handles in
     let none = unfull-of c.self.inside.me c.self.inside.limits (record {
+      life = c.self.inside.life;
+      known = c.self.inside.known;
       asked = c.self.inside.asked;
       server_numbers = c.self.inside.server_numbers;
       inbox = c.self.inside.inbox;

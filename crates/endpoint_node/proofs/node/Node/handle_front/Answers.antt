@@ -1,6 +1,7 @@
 use Rattle.std.proofs.Common.{refl, sym, ◌∙◌}
+use Rattle.std.proofs.lemmas.Bool.{not-false, not-true}
 use Rattle.rpc_laws.specs.Service.{rules_of}
-use Rattle.endpoint_node.proofs.PacketSteps.{asks-kind, node-replies, node-requests}
+use Rattle.endpoint_node.proofs.PacketSteps.{asks-kind, node-replies, node-requests, node-stale}
 use Rattle.endpoint_node.proofs.HandedGiven.{gave-no, gave-one}
 use Rattle.endpoint_node.proofs.PacketSteps.{replies-kind}
 use Rattle.endpoint_node.proofs.HandedBack.{gives-one, gives-same}
@@ -16,6 +17,7 @@ returns-in-Request-clause-handles g c =
     (rules_of g.V.Service)
     (g.V.Service.stands c.args.service.now) c.in-Some.head _ _ _ _ front c.requires.room
     (g.V.Service.stands c.handle_request.new.service) c.handle_request.result _ _
+    (not-false _ (sym c.is_stale.ensures ∙ c.if-is_stale.false))
     (asks-kind c.in-Some.head.kind c.in-Request.is) refl
     c.handle_request.ensures.serves
 
@@ -25,7 +27,8 @@ returns-in-None-clause-handles g c =
     node-replies g.R.Recorder.log g.K.Continuation.given
     (rules_of g.V.Service)
     (g.V.Service.stands c.args.service.now) c.in-Some.head _ _ _ _ front c.requires.room
-    c.hear_reply.result _ _ (replies-kind c.in-Some.head.kind c.in-Cr.is)
+    c.hear_reply.result _ _ (not-false _ (sym c.is_stale.ensures ∙ c.if-is_stale.false))
+    (replies-kind c.in-Some.head.kind c.in-Cr.is)
     c.hear_reply.ensures.hears c.hear_reply.ensures.jobs
     (gave-no g.K.Continuation.given c.hear_reply.result c.args.k.now c.in-None.is)
 
@@ -35,7 +38,8 @@ returns-in-Some-hear_reply-clause-handles g c =
     node-replies g.R.Recorder.log g.K.Continuation.given
     (rules_of g.V.Service)
     (g.V.Service.stands c.args.service.now) c.in-Some.head _ _ _ _ front c.requires.room
-    c.hear_reply.result _ _ (replies-kind c.in-Some.head.kind c.in-Cr.is)
+    c.hear_reply.result _ _ (not-false _ (sym c.is_stale.ensures ∙ c.if-is_stale.false))
+    (replies-kind c.in-Some.head.kind c.in-Cr.is)
     c.hear_reply.ensures.hears c.hear_reply.ensures.jobs
     (gave-one g.K.Continuation.given c.hear_reply.result c.in-Some-hear_reply.done c.args.k.now
     c.done.new.self c.in-Some-hear_reply.is c.done.ensures)
@@ -53,3 +57,11 @@ returns-in-Some-hear_reply-clause-handed g c =
     let h = rw c.in-Some-hear_reply.is at c.hear_reply.ensures.handed in
     gives-one g.K.Continuation.given c.in-Some.head.session c.in-Some-hear_reply.done _ _ _ _ h
     c.done.ensures
+
+pub returns-then-is_stale-clause-handles : goal.returns-then-is_stale-clause-handles
+returns-then-is_stale-clause-handles g c =
+    let front = sym c.front_head.ensures.value ∙ c.in-Some.is in
+    node-stale g.R.Recorder.log g.K.Continuation.given (rules_of g.V.Service)
+    (g.V.Service.stands c.args.service.now) c.in-Some.head _ _ _ _ front c.requires.room _ _
+    (not-true _ (sym c.is_stale.ensures ∙ c.if-is_stale.true)) c.requires.some refl
+    c.drop_front.ensures.drops c.drop_front.ensures.rest.jobs

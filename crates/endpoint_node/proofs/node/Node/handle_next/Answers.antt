@@ -10,7 +10,6 @@ returns-in_default-clause-handles g c =
     handled-none g.R.Recorder.log g.K.Continuation.given
     (staff_of g.W.Workers) (rules_of g.V.Service)
     g.W.Workers.answer _ _ _ _ _ _ _ _ _ c.in_default.ensures.handles
-    c.requires.front.some c.handle_front.ensures.ring
 
 pub returns-in_default-clause-fewer : goal.returns-in_default-clause-fewer
 returns-in_default-clause-fewer g c = ring-fewer _ _ c.requires.front.some c.handle_front.ensures.ring
@@ -46,7 +45,6 @@ returns-clause-handles g c =
     (staff_of g.W.Workers) (rules_of g.V.Service)
     g.W.Workers.answer _ _ c.in-Some.parcel _ _ _ _ _ _ _ _ c.in-Some.ensures.handles
     c.sound.ensures.kept room c.give-given.result (h.full, h.out, h.given, h.waits, h.limit)
-    c.requires.front.some c.handle_front.ensures.ring
 
 pub returns-clause-fewer : goal.returns-clause-fewer
 returns-clause-fewer g c = ring-fewer _ _ c.requires.front.some c.handle_front.ensures.ring

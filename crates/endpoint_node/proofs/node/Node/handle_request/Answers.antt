@@ -20,6 +20,8 @@ returns-in_default-place_of_server g c = record {
       let made = rw (← c.self.view_is) at c.drop_front.ensures.drops in
       let same = rw (← c.self.view_is) at c.drop_front.ensures.rest.jobs in
       rw (← c.self.view_is) (node-unknown c.self.inside.me c.self.inside.limits (record {
+        life = c.self.inside.life;
+        known = c.self.inside.known;
         asked = c.self.inside.asked;
         server_numbers = c.self.inside.server_numbers;
         inbox = c.self.inside.inbox;
@@ -47,6 +49,8 @@ returns-then-ne g c = record {
       let there = number-there c.args.head.now.session c.in-Some-place_of_server.i
       c.self.inside.store.servers place in
       rw (← c.self.view_is) (node-stranger c.self.inside.me c.self.inside.limits (record {
+        life = c.self.inside.life;
+        known = c.self.inside.known;
         asked = c.self.inside.asked;
         server_numbers = c.self.inside.server_numbers;
         inbox = c.self.inside.inbox;

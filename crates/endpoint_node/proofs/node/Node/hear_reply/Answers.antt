@@ -25,6 +25,8 @@ returns-then-i-clients-clause-hears g c =
     let made = rw (← c.self.view_is) at c.drop_front.ensures.drops in
     rw (← c.self.view_is) (node-unheard c.self.inside.me c.self.inside.limits
     (record {
+      life = c.self.inside.life;
+      known = c.self.inside.known;
       asked = c.self.inside.asked;
       server_numbers = c.self.inside.server_numbers;
       inbox = c.self.inside.inbox;
@@ -44,6 +46,8 @@ invariant_of-self g c =
     (c.body.ensures ∙ ap body_of c.bytes.ensures.bytes) c.in-Dropped.ensures.clients in (
       fits-dropped c.self.inside.me c.self.inside.limits
           (record {
+            life = c.self.inside.life;
+            known = c.self.inside.known;
             asked = c.self.inside.asked;
             server_numbers = c.self.inside.server_numbers;
             inbox = c.self.inside.inbox;
@@ -67,6 +71,8 @@ returns-in-Dropped-clause-hears g c =
     (c.body.ensures ∙ ap body_of c.bytes.ensures.bytes) c.in-Dropped.ensures.clients in
     rw (← c.self.view_is) (node-dropped c.self.inside.me c.self.inside.limits
     (record {
+      life = c.self.inside.life;
+      known = c.self.inside.known;
       asked = c.self.inside.asked;
       server_numbers = c.self.inside.server_numbers;
       inbox = c.self.inside.inbox;
@@ -88,6 +94,8 @@ invariant_of-self-in-Took g c =
     (c.body.ensures ∙ ap body_of c.bytes.ensures.bytes) c.in-Took.ensures.clients in (
       fits-took c.self.inside.me c.self.inside.limits
           (record {
+            life = c.self.inside.life;
+            known = c.self.inside.known;
             asked = c.self.inside.asked;
             server_numbers = c.self.inside.server_numbers;
             inbox = c.self.inside.inbox;
@@ -112,6 +120,8 @@ returns-in-Took-clause-hears g c =
     (c.body.ensures ∙ ap body_of c.bytes.ensures.bytes) c.in-Took.ensures.clients in
     rw (← c.self.view_is) (node-took c.self.inside.me c.self.inside.limits
     (record {
+      life = c.self.inside.life;
+      known = c.self.inside.known;
       asked = c.self.inside.asked;
       server_numbers = c.self.inside.server_numbers;
       inbox = c.self.inside.inbox;
@@ -134,6 +144,8 @@ invariant_of-self-in-Ended g c =
     (c.body.ensures ∙ ap body_of c.bytes.ensures.bytes) c.in-Ended.ensures.clients in (
       fits-ended c.self.inside.me c.self.inside.limits
           (record {
+            life = c.self.inside.life;
+            known = c.self.inside.known;
             asked = c.self.inside.asked;
             server_numbers = c.self.inside.server_numbers;
             inbox = c.self.inside.inbox;
@@ -158,6 +170,8 @@ returns-in-Ended-clause-hears g c =
     (c.body.ensures ∙ ap body_of c.bytes.ensures.bytes) c.in-Ended.ensures.clients in
     rw (← c.self.view_is) (node-ended c.self.inside.me c.self.inside.limits
     (record {
+      life = c.self.inside.life;
+      known = c.self.inside.known;
       asked = c.self.inside.asked;
       server_numbers = c.self.inside.server_numbers;
       inbox = c.self.inside.inbox;

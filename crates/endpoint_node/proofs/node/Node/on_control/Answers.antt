@@ -1,3 +1,6 @@
+use Rattle.std.proofs.Common.{ap, subst}
+use Rattle.endpoint_node.specs.Handed.{Holding}
+use Rattle.endpoint_node.proofs.ControlSteps.{CanAnswer, answer-range, can-answer}
 use Rattle.endpoint_node.proofs.node.Node.on_control.Goals as goal
 
 pub act-done-requires : goal.act-done-requires
@@ -7,8 +10,15 @@ act-done-requires g c = record {
   in_range = c.requires.in_range;
 }
 
-pub returns : goal.returns
-returns g c = record {
-  makes = rw (c.control_reply.ensures, c.life-own.ensures) c.act-done.ensures.makes;
+pub returns-clause-step : goal.returns-clause-step
+returns-clause-step g c = record {
+  makes = rw (c.control_reply.ensures, ap (λ (n : Holding). n.lists.life) c.self.view_is)
+      c.act-done.ensures.makes;
   rest = c.act-done.ensures.rest;
 }
+
+pub returns-clause-in_range : goal.returns-clause-in_range
+returns-clause-in_range g c =
+    answer-range g.R.Recorder.log _ _ _ _ _ _ c.control_reply.result c.requires.in_range
+    (subst (λ (n : Holding). CanAnswer n.lists) c.self.view_is
+    (can-answer _ _ _ c.self.invariant.0)) (returns-clause-step g c).makes

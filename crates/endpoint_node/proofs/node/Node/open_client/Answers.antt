@@ -14,6 +14,8 @@ invariant_of-self-2 g c =
     let taken = rw (← c.self.view_is) at c.requires.fits in (
       fits-opened c.self.inside.me c.self.inside.limits
           (record {
+            life = c.self.inside.life;
+            known = c.self.inside.known;
             asked = c.self.inside.asked;
             server_numbers = c.self.inside.server_numbers;
             counts = c.self.inside.counts;

@@ -6,12 +6,12 @@ use Rattle.endpoint_node.proofs.node.Node.other_end.Goals as goal
 
 pub returns-in_default : goal.returns-in_default
 returns-in_default c =
-    let none = find-missing (is_end_of c.args.peer c.args.client) c.self.inside.store.servers
+    let none = find-missing (is_end_of c.args.peer c.args.client c.args.life) c.self.inside.store.servers
     (sym (rw c.in_default.is at c.place_of_end.ensures)) in
     rw (← c.self.view_is) (rw none refl)
 
 pub returns : goal.returns
 returns c =
     rw (← c.self.view_is) (end-found c.self.inside.store.servers c.args.peer c.args.client
-    c.in-Some.i c.end_of_server-end.result (rw c.in-Some.is at c.place_of_end.ensures)
+    c.args.life c.in-Some.i c.end_of_server-end.result (rw c.in-Some.is at c.place_of_end.ensures)
     c.end_of_server-end.ensures)

@@ -1,5 +1,4 @@
 use Rattle.std.proofs.Common.{◌∙◌}
-use Rattle.rpc_laws.specs.Lives.{first_life}
 use Rattle.session_store.specs.Changes.{IsClientEnd}
 use Rattle.endpoint_node.proofs.TimerRetries.{known-at, of-known, own-told}
 use Rattle.endpoint_node.proofs.node.Node.own_request.Goals as goal
@@ -12,7 +11,6 @@ returns c =
     let end = of-known (IsClientEnd c.end_of_client-end.result) xs c.args.i x.0 x.1
     c.end_of_client-end.ensures in
     let told = rw x.1 at c.state.ensures in
-    let mine = rw (← c.self.view_is) at c.life.ensures in
-    rw (← c.self.view_is) (rw x.1 ((rw mine at c.own_request.ensures) ∙ own-told xs c.args.i x.0 x.1
-    c.self.invariant.0.kept.valid.numbered first_life c.state.result c.end_of_client-end.result end
-    told))
+    rw (← c.self.view_is) (rw x.1 (c.own_request.ensures ∙ own-told xs c.args.i x.0 x.1
+    c.self.invariant.0.kept.valid.numbered c.self.inside.life c.state.result
+    c.end_of_client-end.result end told))

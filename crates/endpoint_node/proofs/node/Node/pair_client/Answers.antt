@@ -12,7 +12,7 @@ returns-in-Err g c = record {
       let count : c.clients.result ≡ length c.args.self.now.lists.clients =
       c.clients.ensures.count ∙ ap (λ t. length t.lists.clients) c.self.view_is in
       client-refused g.R.Recorder.log (timed_of c.args.self.now) (timed_of c.args.self.now) _ _ c.args.peer c.args.server
-      c.args.credits (refused c.in-Err.why)
+      c.args.credits c.args.life (refused c.in-Err.why)
       (sym (rw (c.from.ensures, count) at c.in-Err.ensures.refused)) c.in-Err.ensures.never_memory c.refuse.ensures;
   accepted = search rules;
   refused = let count : c.clients.result ≡ length c.args.self.now.lists.clients =
@@ -31,7 +31,7 @@ returns-in-Ok g c = record {
   makes = let count : c.clients.result ≡ length c.args.self.now.lists.clients =
       c.clients.ensures.count ∙ ap (λ t. length t.lists.clients) c.self.view_is in
       client-made g.R.Recorder.log _ _ _ _ c.args.peer c.args.server
-      c.args.credits (rw (c.from.ensures, count) at c.in_default.ensures.accepted)
+      c.args.credits c.args.life (rw (c.from.ensures, count) at c.in_default.ensures.accepted)
       c.in-Ok.ensures.makes;
   accepted = let count : c.clients.result ≡ length c.args.self.now.lists.clients =
       c.clients.ensures.count ∙ ap (λ t. length t.lists.clients) c.self.view_is in

@@ -13,7 +13,7 @@ returns-in-Err g c = record {
       let count : c.self.inside.server_numbers ≡ c.args.self.now.lists.server_numbers =
       ap (λ t. t.lists.server_numbers) c.self.view_is in
       server-refused g.R.Recorder.log (timed_of c.args.self.now) (timed_of c.args.self.now) _ _ c.args.peer c.args.client
-      c.args.credits (refused c.in-Err.why)
+      c.args.credits c.args.life (refused c.in-Err.why)
       (sym (rw (c.from.ensures, count) at c.in-Err.ensures.refused)) c.in-Err.ensures.never_memory c.refuse.ensures;
   accepted = search rules;
   refused = let count : c.self.inside.server_numbers ≡ c.args.self.now.lists.server_numbers =
@@ -33,7 +33,7 @@ returns-in-Ok g c = record {
   makes = let count : c.self.inside.server_numbers ≡ c.args.self.now.lists.server_numbers =
       ap (λ t. t.lists.server_numbers) c.self.view_is in
       server-made g.R.Recorder.log _ _ _ _ c.args.peer c.args.client
-      c.args.credits (rw (c.from.ensures, count) at c.in_default.ensures.accepted)
+      c.args.credits c.args.life (rw (c.from.ensures, count) at c.in_default.ensures.accepted)
       c.in-Ok.ensures.makes;
   accepted = let count : c.self.inside.server_numbers ≡ c.args.self.now.lists.server_numbers =
       ap (λ t. t.lists.server_numbers) c.self.view_is in

@@ -61,6 +61,8 @@ invariant_of-self-2 g c =
     c.self.inside.paces.items) size in (
       fits-posted g.R.Recorder.log c.args.i c.self.inside.me c.self.inside.limits
           (record {
+            life = c.self.inside.life;
+            known = c.self.inside.known;
             asked = c.self.inside.asked;
             server_numbers = c.self.inside.server_numbers;
             inbox = c.self.inside.inbox;
@@ -87,6 +89,8 @@ returns-clause-notes g c =
     c.self.inside.paces.items) size in
     rw (← c.self.view_is) (node-posted g.R.Recorder.log c.args.i c.self.inside.me c.self.inside.limits
     (record {
+      life = c.self.inside.life;
+      known = c.self.inside.known;
       asked = c.self.inside.asked;
       server_numbers = c.self.inside.server_numbers;
       inbox = c.self.inside.inbox;

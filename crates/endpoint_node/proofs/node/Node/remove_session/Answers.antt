@@ -1,6 +1,6 @@
 use Rattle.std.proofs.Common.{refl}
 use Rattle.endpoint_node.specs.Seen.{jobs_in}
-use Rattle.endpoint_node.proofs.ControlRemoval.{fits-ended, node-ended, server-there}
+use Rattle.endpoint_node.proofs.ControlRemoval.{fewer-ended, fits-ended, node-ended, server-there}
 use Rattle.endpoint_node.proofs.node.Node.remove_session.Goals as goal
 
 pub invariant_of-self : goal.invariant_of-self
@@ -10,6 +10,8 @@ invariant_of-self g c =
     let at = server-there c.self.inside.store.servers c.args.i known in (
       fits-ended c.self.inside.me c.self.inside.limits
           (record {
+            life = c.self.inside.life;
+            known = c.self.inside.known;
             asked = c.self.inside.asked;
             server_numbers = c.self.inside.server_numbers;
             inbox = c.self.inside.inbox;
@@ -22,14 +24,34 @@ invariant_of-self g c =
       rw h.clients c.self.invariant.2,
     )
 
-pub returns : goal.returns
-returns g c = record {
+pub returns-clause-fewer : goal.returns-clause-fewer
+returns-clause-fewer g c =
+    let h = c.end_server.ensures in
+    let known = rw (← c.self.view_is) at c.requires.known in
+    let at = server-there c.self.inside.store.servers c.args.i known in
+    rw (← c.self.view_is) (fewer-ended c.self.inside.me c.self.inside.limits
+    (record {
+      life = c.self.inside.life;
+      known = c.self.inside.known;
+      asked = c.self.inside.asked;
+      server_numbers = c.self.inside.server_numbers;
+      inbox = c.self.inside.inbox;
+      counts = c.self.inside.counts;
+    }) c.self.inside.paces.items (jobs_in c.self.inside.limits.jobs c.self.inside.given
+    c.self.inside.jobs.items) c.self.inside.clock c.self.inside.rx c.self.inside.store
+    c.end_server.new.self c.self.invariant.0 c.args.i at.server at.place
+    (rw (← c.self.view_is) at c.requires.drained) h.servers h.clients h.queued)
+
+pub returns-clause-step : goal.returns-clause-step
+returns-clause-step g c = record {
   makes = let h = c.end_server.ensures in
       let known = rw (← c.self.view_is) at c.requires.known in
       let at = server-there c.self.inside.store.servers c.args.i known in
       let own = rw at.place at c.end_of_server-end.ensures in
       rw (← c.self.view_is) (node-ended c.self.inside.me c.self.inside.limits
       (record {
+        life = c.self.inside.life;
+        known = c.self.inside.known;
         asked = c.self.inside.asked;
         server_numbers = c.self.inside.server_numbers;
         inbox = c.self.inside.inbox;

@@ -8,6 +8,8 @@ pub roll-requires-clause-may : goal.roll-requires-clause-may
 roll-requires-clause-may g c =
     may-roll c.self.inside.me c.self.inside.limits
     (record {
+      life = c.self.inside.life;
+      known = c.self.inside.known;
       asked = c.self.inside.asked;
       server_numbers = c.self.inside.server_numbers;
       inbox = c.self.inside.inbox;
@@ -23,6 +25,8 @@ invariant_of-self g c =
     let h = c.roll.ensures in (
       fits-rolled c.self.inside.me c.self.inside.limits
           (record {
+            life = c.self.inside.life;
+            known = c.self.inside.known;
             asked = c.self.inside.asked;
             server_numbers = c.self.inside.server_numbers;
             inbox = c.self.inside.inbox;
@@ -42,6 +46,8 @@ returns g c = record {
   makes = let h = c.roll.ensures in
       rw (← c.self.view_is) (node-rolled c.self.inside.me c.self.inside.limits
       (record {
+        life = c.self.inside.life;
+        known = c.self.inside.known;
         asked = c.self.inside.asked;
         server_numbers = c.self.inside.server_numbers;
         inbox = c.self.inside.inbox;

@@ -21,6 +21,8 @@ invariant_of-self g c =
     let front = rw c.in-Some.is at c.front.ensures.front in (
       fits-sent c.self.inside.me c.self.inside.limits
           (record {
+            life = c.self.inside.life;
+            known = c.self.inside.known;
             asked = c.self.inside.asked;
             server_numbers = c.self.inside.server_numbers;
             inbox = c.self.inside.inbox;
@@ -41,6 +43,8 @@ returns-in-Whole-clause-sent g c = λ went.
     let whole = c.in_ok-send.ensures.whole c.in-Whole.is in (
       rw (← c.self.view_is) (node-sent c.self.inside.me c.self.inside.limits
           (record {
+            life = c.self.inside.life;
+            known = c.self.inside.known;
             asked = c.self.inside.asked;
             server_numbers = c.self.inside.server_numbers;
             inbox = c.self.inside.inbox;

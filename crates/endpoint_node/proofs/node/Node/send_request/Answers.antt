@@ -1,15 +1,14 @@
 use Rattle.endpoint_node.proofs.LeavesSteps.{leaves-none}
 use Rattle.std.proofs.Common.{◌≡◌, ◌<◌, Some, false, true, refl, arith}
 use Rattle.rpc_laws.specs.declared.tables.Client.{Client}
-use Rattle.rpc_laws.specs.Lives.{first_life}
 use Rattle.rpc_laws.specs.ControlSteps.{own_request}
 use Rattle.session_store.specs.Changes.{IsClientEnd, sent_again}
 use Rattle.endpoint_node.specs.Handed.{timed_of}
 use Rattle.endpoint_node.specs.Seen.{jobs_in}
 use Rattle.endpoint_node.specs.contracts.node.Node.{the_view}
 use Rattle.endpoint_node.proofs.PostCallers.{covers-stay}
-use Rattle.endpoint_node.proofs.TimerRetries.{fits-asked, known-at, of-known, ranged, spoken-sent}
-use Rattle.endpoint_node.proofs.TimerRetries.{spoken-unsent}
+use Rattle.endpoint_node.proofs.TimerRetries.{fits-asked, known-at, of-known, own-untold, ranged}
+use Rattle.endpoint_node.proofs.TimerRetries.{spoken-sent, spoken-unsent}
 use Rattle.endpoint_node.proofs.SendCounts.{held-when-busy, held-when-failed, link-sent}
 use Rattle.endpoint_node.proofs.node.Node.send_request.Goals as goal
 
@@ -21,8 +20,8 @@ speak-requires g c =
     let x = known-at xs c.args.i known in
     record {
       in_range = ranged xs c.args.i x.0 x.1 fits.kept.valid.numbered known fits.numbers
-          fits.settled c.args.head.now
-          (of-known (λ y. own_request first_life y ≡ Some c.args.head.now) xs c.args.i x.0 x.1
+          fits.settled c.args.head.now c.self.inside.life fits.alive
+          (of-known (λ y. own_request c.self.inside.life y ≡ Some c.args.head.now) xs c.args.i x.0 x.1
           (rw (← c.self.view_is) at c.requires.own));
     }
 
@@ -34,6 +33,8 @@ invariant_of-self g c =
     let spoke = rw c.in-Ok-true.field-0-test at c.in-Ok-true.ensures.spoke in (
       fits-asked c.self.inside.me c.self.inside.limits
           (record {
+            life = c.self.inside.life;
+            known = c.self.inside.known;
             asked = c.self.inside.asked;
             server_numbers = c.self.inside.server_numbers;
             counts = c.self.inside.counts;
@@ -42,7 +43,7 @@ invariant_of-self g c =
           c.self.inside.jobs.items) c.self.inside.clock c.self.inside.rx c.self.inside.store
           c.request_sent.new.self c.self.invariant.0 c.args.i _ c.args.head.now at h.servers
           h.queued
-          (of-known (λ y. own_request first_life y ≡ Some c.args.head.now) xs c.args.i at.client at.place
+          (of-known (λ y. own_request c.self.inside.life y ≡ Some c.args.head.now) xs c.args.i at.client at.place
           (rw (← c.self.view_is) at c.requires.own))
           (of-known (IsClientEnd c.end_of_client-end.result) xs c.args.i at.client at.place
           c.end_of_client-end.ensures).peer
@@ -62,6 +63,8 @@ returns-in-Ok-true g c = record {
       let spoke = rw c.in-Ok-true.field-0-test at c.in-Ok-true.ensures.spoke in
       rw (← c.self.view_is) (spoken-sent c.self.inside.me c.self.inside.limits
       (record {
+        life = c.self.inside.life;
+        known = c.self.inside.known;
         asked = c.self.inside.asked;
         server_numbers = c.self.inside.server_numbers;
         counts = c.self.inside.counts;
@@ -69,7 +72,7 @@ returns-in-Ok-true g c = record {
       }) c.self.inside.paces.items (jobs_in c.self.inside.limits.jobs c.self.inside.given
       c.self.inside.jobs.items) c.self.inside.clock c.self.inside.rx c.self.inside.store
       c.request_sent.new.self c.self.invariant.0 c.args.i _ c.args.head.now at h.servers h.queued
-      (of-known (λ y. own_request first_life y ≡ Some c.args.head.now) xs c.args.i at.client at.place
+      (of-known (λ y. own_request c.self.inside.life y ≡ Some c.args.head.now) xs c.args.i at.client at.place
       (rw (← c.self.view_is) at c.requires.own))
       (of-known (IsClientEnd c.end_of_client-end.result) xs c.args.i at.client at.place
       c.end_of_client-end.ensures).peer
@@ -90,7 +93,10 @@ returns-in-Ok-false g c = record {
       rw (← c.self.view_is) (spoken-unsent g.R.Recorder.log g.L.Link (timed_of (the_view c.self.inside)) c.args.i _ c.args.head.now
       x.0 x.1
       (of-known (IsClientEnd c.end_of_client-end.result) xs c.args.i x.0 x.1
-      c.end_of_client-end.ensures).peer _ _ _ _ false spoke
+      c.end_of_client-end.ensures).peer
+      (own-untold c.self.inside.life x.0.state x.0.way x.0.limit c.args.head.now
+      (of-known (λ y. own_request c.self.inside.life y ≡ Some c.args.head.now) xs c.args.i x.0 x.1
+      (rw (← c.self.view_is) at c.requires.own))) _ _ _ _ false spoke
       (held-when-busy _ _ c.in-Ok-false.ensures.cause
       (c.in-Ok-false.ensures.busy c.in-Ok-false.field-0-test)) c.in-Ok-false.ensures.cause);
   rest = rw (← c.self.view_is) (leaves-none _);
@@ -105,7 +111,10 @@ returns-in-Err g c = record {
       rw (← c.self.view_is) (spoken-unsent g.R.Recorder.log g.L.Link (timed_of (the_view c.self.inside)) c.args.i _ c.args.head.now
       x.0 x.1
       (of-known (IsClientEnd c.end_of_client-end.result) xs c.args.i x.0 x.1
-      c.end_of_client-end.ensures).peer _ _ _ _ true c.in-Err.ensures.spoke
+      c.end_of_client-end.ensures).peer
+      (own-untold c.self.inside.life x.0.state x.0.way x.0.limit c.args.head.now
+      (of-known (λ y. own_request c.self.inside.life y ≡ Some c.args.head.now) xs c.args.i x.0 x.1
+      (rw (← c.self.view_is) at c.requires.own))) _ _ _ _ true c.in-Err.ensures.spoke
       (held-when-failed _ _ c.in-Err.ensures.cause c.in-Err.ensures.fault)
       c.in-Err.ensures.cause);
   rest = rw (← c.self.view_is) (leaves-none _);

@@ -9,6 +9,8 @@ returns-then-not-lives-clause-step g c = record {
   makes = let seen = rw (← c.self.view_is) at c.state-state.ensures in
       rw (← c.self.view_is) (node-refused c.self.inside.me c.self.inside.limits
       (record {
+        life = c.self.inside.life;
+        known = c.self.inside.known;
         asked = c.self.inside.asked;
         server_numbers = c.self.inside.server_numbers;
         inbox = c.self.inside.inbox;
@@ -36,6 +38,8 @@ invariant_of-self g c =
     let set = rw (c.from.ensures ∙ c.session.view_is) at c.set_rate_at.ensures in (
       fits-rated c.self.inside.me c.self.inside.limits
           (record {
+            life = c.self.inside.life;
+            known = c.self.inside.known;
             asked = c.self.inside.asked;
             server_numbers = c.self.inside.server_numbers;
             inbox = c.self.inside.inbox;
@@ -56,6 +60,8 @@ returns-clause-step g c = record {
       let set = rw (c.from.ensures ∙ c.session.view_is) at c.set_rate_at.ensures in
       rw (← c.self.view_is) (node-rated c.self.inside.me c.self.inside.limits
       (record {
+        life = c.self.inside.life;
+        known = c.self.inside.known;
         asked = c.self.inside.asked;
         server_numbers = c.self.inside.server_numbers;
         inbox = c.self.inside.inbox;

@@ -81,7 +81,9 @@ impl Node {
         requires known { i < length self.old.lists.servers }
         requires drained { IfSome (slice_get self.old.lists.servers i)
             (IsDrained self.old.lists.queued) }
-        ensures { StepsControl R.log (Notes (leaving i)) (self.old ⟶ self.new) (rec.old ⟶ rec.new) }
+        ensures step { StepsControl R.log (Notes (leaving i)) (self.old ⟶ self.new)
+            (rec.old ⟶ rec.new) }
+        ensures fewer { length self.new.lists.servers < length self.old.lists.servers }
     {
         let end = self.store.end_of_server(i);
         self.store.end_server(i);
@@ -94,7 +96,9 @@ impl Node {
     // The server session at place `i` ends: first the queued replies to its requests are taken out.
     pub(crate) fn end_session<R: Recorder>(&mut self, i: usize, rec: &mut R)
         requires known { i < length self.old.lists.servers }
-        ensures { StepsControl R.log (Notes (ending i)) (self.old ⟶ self.new) (rec.old ⟶ rec.new) }
+        ensures step { StepsControl R.log (Notes (ending i)) (self.old ⟶ self.new)
+            (rec.old ⟶ rec.new) }
+        ensures fewer { length self.new.lists.servers < length self.old.lists.servers }
     {
         self.flush_slots(i, rec);
         self.remove_session(i, rec);

@@ -3,7 +3,7 @@
 ghost use Rattle.endpoint_node.specs.Wants.{StandsIn};
 ghost use Rattle.endpoint_node.specs.Steps.{StepsControl};
 ghost use Rattle.endpoint_node.specs.Changes.{◌⟶◌};
-ghost use Rattle.std.specs.Prelude.{◌≡◌, ◌<◌, option_map, Some};
+ghost use Rattle.std.specs.Prelude.{◌≡◌, ◌<◌, ◌≤◌, option_map, Some};
 ghost use Rattle.std.specs.List.{find};
 ghost use Rattle.rpc_base.specs.declared.event.Event.TheVariants.{ClosedHeard, FailedNoRoom};
 ghost use Rattle.rpc_base.specs.declared.event.Event.TheVariants.{Connected as IsConnected};
@@ -13,6 +13,7 @@ ghost use Rattle.rpc_laws.specs.Steps.{NotesNext};
 ghost use Rattle.session_mgmt.specs.Control.{own_end};
 
 use crate::node::Node;
+use packet_header::Life;
 use rpc_base::{Event, SESSION_NUMBERS, SessionNo, Who};
 use rpc_outside::Recorder;
 use session_mgmt::OwnEnd;
@@ -33,23 +34,30 @@ impl Node {
             state: self.store.state(i),
             credits: end.credits,
             server: end.server,
+            life: end.life,
         })
     }
 
-    // A session that is Connecting is connected with a server session.
+    // A session that is Connecting is connected with a server session of this life of its node.
     pub(crate) fn connect_session<R: Recorder>(
         &mut self,
         session: SessionNo,
         server: SessionNo,
+        life: Life,
         rec: &mut R,
     )
         requires connecting { StandsIn Connecting session self.old }
         requires server { server < SESSION_NUMBERS }
-        ensures { StepsControl R.log (NotesNext (λ s. Some (IsConnected session server)))
+        requires life { 1 ≤ life }
+        ensures { StepsControl R.log (NotesNext (λ s. Some (IsConnected session server life)))
             (self.old ⟶ self.new) (rec.old ⟶ rec.new) }
     {
-        self.store.connected(usize::from(session.0), server);
-        let event = Event::Connected { session, server };
+        self.store.connected(usize::from(session.0), server, life);
+        let event = Event::Connected {
+            session,
+            server,
+            life: life.0,
+        };
         rec.note(Who::Node(self.me), event, &[], &[]);
     }
 

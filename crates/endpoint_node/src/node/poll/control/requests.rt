@@ -20,19 +20,20 @@ ghost use Rattle.rpc_laws.specs.Steps.{NotesNext};
 ghost use Rattle.session_mgmt.specs.Control.{other_end, starved_if};
 
 use crate::node::Node;
-use packet_header::ControlHeader;
+use packet_header::{ControlHeader, Life};
 use rpc_base::{Event, MOST_CREDITS, NoMemory, Peer, SESSION_NUMBERS, SessionNo, Who};
 use rpc_laws::ControlRow;
 use rpc_outside::Recorder;
 use session_mgmt::OtherEnd;
 
 impl Node {
-    // The first server session that is the other end of a peer's client session.
-    pub(crate) fn other_end(&self, peer: Peer, client: SessionNo) -> Option<OtherEnd>
+    // The first server session that is the other end of a client session that a peer has in this
+    // life.
+    pub(crate) fn other_end(&self, peer: Peer, client: SessionNo, life: Life) -> Option<OtherEnd>
         ensures { result ≡ option_map other_end
-            (find (is_end_of peer client) self.now.lists.servers) }
+            (find (is_end_of peer client life) self.now.lists.servers) }
     {
-        let Some(i) = self.store.place_of_end(peer, client) else {
+        let Some(i) = self.store.place_of_end(peer, client, life) else {
             return None;
         };
         let end = self.store.end_of_server(i);
@@ -42,14 +43,20 @@ impl Node {
         })
     }
 
-    // Where the server session of a number stands, if that is the other end of a peer's client
-    // session.
-    fn place_of(&self, peer: Peer, client: SessionNo, server: SessionNo) -> Option<usize>
+    // Where the server session of a number stands, if that is the other end of a client session
+    // that a peer has in this life.
+    fn place_of(
+        &self,
+        peer: Peer,
+        client: SessionNo,
+        life: Life,
+        server: SessionNo,
+    ) -> Option<usize>
         ensures found { IfSome result (λ i. (i < length self.now.lists.servers)
-            × (named_end peer client (Some server) self.now.lists.servers
+            × (named_end peer client life (Some server) self.now.lists.servers
             ≡ slice_get self.now.lists.servers i)) }
         ensures missing { result ≡ None →
-            named_end peer client (Some server) self.now.lists.servers ≡ None }
+            named_end peer client life (Some server) self.now.lists.servers ≡ None }
     {
         let i = self.store.place_of_server(server)?;
         let end = self.store.end_of_server(i);
@@ -59,19 +66,22 @@ impl Node {
         if end.client.0 != client.0 {
             return None;
         }
+        if end.life.0 != life.0 {
+            return None;
+        }
         Some(i)
     }
 
     // Where the server session stands that a packet names, if that is the other end of the peer's.
     pub(crate) fn place_of_named(&self, peer: Peer, head: &ControlHeader) -> Option<usize>
         ensures found { IfSome result (λ i. (i < length self.now.lists.servers)
-            × (named_end peer head.now.client head.now.server self.now.lists.servers
-            ≡ slice_get self.now.lists.servers i)) }
-        ensures missing { result ≡ None →
-            named_end peer head.now.client head.now.server self.now.lists.servers ≡ None }
+            × (named_end peer head.now.client head.now.from_life head.now.server
+            self.now.lists.servers ≡ slice_get self.now.lists.servers i)) }
+        ensures missing { result ≡ None → named_end peer head.now.client head.now.from_life
+            head.now.server self.now.lists.servers ≡ None }
     {
         match head.server {
-            Some(server) => self.place_of(peer, head.client, server),
+            Some(server) => self.place_of(peer, head.client, head.from_life, server),
             None => None,
         }
     }
@@ -109,27 +119,31 @@ impl Node {
     fn add_accepted<R: Recorder>(
         &mut self,
         peer: Peer,
+        life: Life,
         client: SessionNo,
         credits: u16,
         rec: &mut R,
     ) -> Result<SessionNo, NoMemory>
         requires fits { FitsServer credits self.old }
+        requires life { 1 ≤ life }
         requires client { client < SESSION_NUMBERS }
         ensures number { IfOk result (λ t. t ≡ self.old.lists.server_numbers) }
         ensures makes { OnOk result (Makes R.log (NotesNext (λ s. Some (Accepted
-            s.server_numbers peer client credits))) (timed_of self.old) (timed_of self.new) rec.old
-            rec.new) }
+            s.server_numbers peer client credits life))) (timed_of self.old) (timed_of self.new)
+            rec.old rec.new) }
         ensures rest { LeavesPackets self.old self.new }
         ensures unchanged { OnErr result ((self.new ≡ self.old) × (rec.new ≡ rec.old)) }
     {
         let session = SessionNo(self.server_numbers as u16);
-        self.store.pair_server(session, client, peer, credits)?;
+        self.store
+            .pair_server(session, client, peer, life, credits)?;
         self.server_numbers += 1;
         let event = Event::Accepted {
             session,
             peer,
             client,
             credits,
+            life: life.0,
         };
         rec.note(Who::Node(self.me), event, &[], &[]);
         Ok(session)
@@ -153,7 +167,7 @@ impl Node {
             (Controls peer head.now (control_reply self.old.lists.life head.now result))
             (self.old ⟶ self.new) (rec.old ⟶ rec.new) }
     {
-        match self.add_accepted(peer, head.client, head.credits, rec) {
+        match self.add_accepted(peer, head.from_life, head.client, head.credits, rec) {
             Ok(server) => ControlRow::Accepts { server },
             Err(_) => {
                 self.starve(peer, head, rec);
@@ -164,7 +178,7 @@ impl Node {
 
     // The session that a disconnect request names ends, which is there.
     pub(crate) fn end_named<R: Recorder>(&mut self, peer: Peer, head: &ControlHeader, rec: &mut R)
-        requires named { is_some (named_end peer head.now.client head.now.server
+        requires named { is_some (named_end peer head.now.client head.now.from_life head.now.server
             self.old.lists.servers) ≡ true }
         ensures { StepsControl R.log (Acts Ends peer head.now) (self.old ⟶ self.new)
             (rec.old ⟶ rec.new) }

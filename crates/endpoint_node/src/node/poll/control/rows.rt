@@ -1,7 +1,7 @@
 //! What a control packet does at a node: its row of the control rule is found and done.
 ghost use Rattle.endpoint_node.specs.Steps.{StepsControl};
 ghost use Rattle.endpoint_node.specs.Changes.{◌⟶◌};
-ghost use Rattle.std.specs.Prelude.{◌≡◌, Bool};
+ghost use Rattle.std.specs.Prelude.{◌≡◌, Bool, IfSome};
 ghost use Rattle.endpoint_node.specs.ControlRows.{Controls};
 ghost use Rattle.packet_header.specs.Header.{ControlInRange};
 ghost use Rattle.rpc_laws.specs.ControlTable.{control_reply, control_row};
@@ -20,9 +20,11 @@ impl Node {
         ensures { result ≡ found_in peer head.now self.now.lists }
     {
         Found {
-            end: self.other_end(peer, head.client),
+            end: self.other_end(peer, head.client, head.from_life),
             is_named: self.place_of_named(peer, head).is_some(),
             own: self.own_end(head.client),
+            life: self.life,
+            known: self.known.of(peer),
             numbers: self.server_numbers,
             shares: self.shares(),
             ring: self.rx.size(),
@@ -62,7 +64,7 @@ impl Node {
             }
             ControlRow::Misses => row,
             ControlRow::Connects { server } => {
-                self.connect_session(head.client, server, rec);
+                self.connect_session(head.client, server, head.from_life, rec);
                 row
             }
             ControlRow::Disowns => row,
@@ -86,10 +88,11 @@ impl Node {
         rec: &mut R,
     ) -> Option<ControlHeader>
         requires in_range { ControlInRange head.now }
-        ensures { StepsControl R.log (Controls peer head.now result) (self.old ⟶ self.new)
+        ensures step { StepsControl R.log (Controls peer head.now result) (self.old ⟶ self.new)
             (rec.old ⟶ rec.new) }
+        ensures in_range { IfSome result (λ r. ControlInRange r) }
     {
-        let own = self.life();
+        let own = self.life;
         let found = self.found(peer, head);
         let row = control_row(peer, head, &found);
         let done = self.act(row, peer, head, rec);

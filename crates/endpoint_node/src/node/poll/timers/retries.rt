@@ -113,7 +113,7 @@ impl Node {
             other: end.server,
             life: end.life,
         };
-        own_request(self.life(), self.store.state(i), &way, end.credits)
+        own_request(self.life, self.store.state(i), &way, end.credits)
     }
 
     // What session `i` does about it, with this timeout, in microseconds.
