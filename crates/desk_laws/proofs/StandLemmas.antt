@@ -12,7 +12,7 @@ use Rattle.rpc_laws.specs.declared.tables.Job.{Job}
 use Rattle.rpc_laws.specs.declared.tables.Timed.{Timed}
 use Rattle.rpc_laws.specs.Jobs.{is_job}
 use Rattle.rpc_laws.specs.Service.{rules_of}
-use Rattle.node_laws.specs.NodeRun.{NodeRun}
+use Rattle.node_laws.specs.NodeRun.{LifeRun}
 use Rattle.node_laws.proofs.RunLaws.{run_valid}
 use Rattle.rpc_outside.specs.declared.service.Service as Service
 use Rattle.worker_crew.specs.Jobs.{job_of}
@@ -72,7 +72,8 @@ module _ {V W : Type 0} (service : Service.Ghosts V) (workers : Workers.Ghosts W
 
   pub stands-with : StandsFor service workers limits g (record e { workers = w })
   stands-with = record {
-    run = subst (λ (t : Timed). NodeRun (rules_of service) e.timed.lists.me limits g t)
+    run = subst (λ (t : Timed). LifeRun (rules_of service) e.timed.lists.me
+        e.timed.lists.life limits g t)
         (same-told workers.answer asks (staff_of workers w) e.timed staffed alone) s.run;
     serves = s.serves;
     staffed = staffed-told workers.answer asks (staff_of workers w) e.timed staffed alone;

@@ -1,7 +1,7 @@
 -- What an application does with the desk of its endpoint, and what it leaves.
-use Rattle.std.specs.Prelude.{ℕ, List, Some, None}
+use Rattle.std.specs.Prelude.{ℕ, List, Some}
 use Rattle.std.specs.List.{AllByRecursion}
-use Rattle.deferred_calls.specs.Desks.{Jobs, open_of, out_of}
+use Rattle.deferred_calls.specs.Desks.{Jobs, hands_of, open_of, out_of}
 use Rattle.deferred_calls.specs.Law.{Call, Runs, gives, hands, answers, takes}
 use Rattle.endpoint_loop.specs.Endpoints.{Running}
 use Rattle.endpoint_loop.specs.Stands.{StandsFor}
@@ -20,7 +20,7 @@ desk_members answer = record {
   worked = λ d. Some d.answered;
   waiting = λ d. Some (open_of d);
   looks = λ d. 0;
-  team = λ d. None;
+  team = λ d. Some (hands_of d);
 }
 
 -- a call of the application: a handle is made, or a job is answered by its handle. The endpoint

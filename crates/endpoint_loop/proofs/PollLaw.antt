@@ -12,14 +12,18 @@ use Rattle.client_core.specs.Shown.{done_fact}
 use Rattle.client_core.specs.declared.outcome.Done.{Done}
 use Rattle.rpc_base.specs.Tables.{without_first}
 use Rattle.rpc_base.specs.declared.event.Event.{Event}
-use Rattle.rpc_base.specs.declared.event.Event.TheVariants.{Accepted, Begun, ClosedHeard, Declined}
-use Rattle.rpc_base.specs.declared.event.Event.TheVariants.{Connected as IsConnected, Ended}
-use Rattle.rpc_base.specs.declared.event.Event.TheVariants.{FailedNoRoom, Flushed, Heard, Polled}
-use Rattle.rpc_base.specs.declared.event.Event.TheVariants.{Posted, Ran, Sent, Starved, Unsent}
+use Rattle.rpc_base.specs.declared.event.Event.TheVariants.{Accepted, Again, Arrived, Begun, Broken}
+use Rattle.rpc_base.specs.declared.event.Event.TheVariants.{ClosedHeard, Took}
+use Rattle.rpc_base.specs.declared.event.Event.TheVariants.{ClosedUnheard, Declined, DonePeerLost}
+use Rattle.rpc_base.specs.declared.event.Event.TheVariants.{Connected as IsConnected, Dropped, Ended}
+use Rattle.rpc_base.specs.declared.event.Event.TheVariants.{FailedNoAnswer, FailedNoRoom, Flushed}
+use Rattle.rpc_base.specs.declared.event.Event.TheVariants.{Heard, Polled, Posted, Ran, Restarted}
+use Rattle.rpc_base.specs.declared.event.Event.TheVariants.{Rolled, Sent, Starved, Unsent}
 use Rattle.rpc_base.specs.declared.fact.Fact.{Fact}
 use Rattle.rpc_base.specs.declared.owner.Owner.{Owner}
 use Rattle.rpc_base.specs.declared.owner.Owner.TheVariants.{Reply}
 use Rattle.rpc_base.proofs.FirstLemmas.{all-both, all-left, found-holds}
+use Rattle.rpc_laws.specs.declared.tables.Arrival.{Arrival}
 use Rattle.rpc_laws.specs.declared.tables.Job.{Job}
 use Rattle.rpc_laws.specs.declared.tables.Jobs.{Jobs}
 use Rattle.rpc_laws.specs.declared.tables.Lists.{Lists}
@@ -32,7 +36,7 @@ use Rattle.rpc_laws.specs.NodeLists.{after_all}
 use Rattle.rpc_laws.specs.PollOrder.{answer_posted, awaited, Closes, finished_facts, HandlesAll, PollBy}
 use Rattle.rpc_laws.specs.Pacing.{line}
 use Rattle.rpc_laws.specs.PollOrder.{PostsAll, raised, SendsSome}
-use Rattle.rpc_laws.specs.Queues.{is_due, made_ready, replies}
+use Rattle.rpc_laws.specs.Queues.{is_due, made_ready, replies, ring_after}
 use Rattle.rpc_laws.specs.Service.{Answers, is_mode_inline, Serving, served_after, served_after_all}
 use Rattle.rpc_laws.specs.Service.{rules_of}
 use Rattle.rpc_laws.proofs.AnswerLemmas.{answers-append, served-append}
@@ -64,7 +68,7 @@ use Rattle.endpoint_loop.specs.Polls.{turn_told, wire_of}
 use Rattle.endpoint_node.specs.declared.node.poll.sends.Sending.{Sending}
 use Rattle.endpoint_loop.specs.Endpoints.{asks_of, IsServing, IsStaffed, told, crew_of}
 use Rattle.endpoint_node.specs.Seen.{Asks, asking, with_ask}
-use Rattle.endpoint_node.specs.Requests.{AllServed, job_named}
+use Rattle.endpoint_node.specs.Requests.{AllServed, IsNoWant, SparesShort, job_named, ring_left}
 use Rattle.endpoint_node.specs.Links.{FailedAs, HeldBack, is_unsent, LinkTook}
 use Rattle.endpoint_node.specs.Links.{troubles_of}
 use Rattle.endpoint_node.specs.Timers.{MakesTimes}
@@ -72,6 +76,7 @@ use Rattle.endpoint_node.specs.Control.{Listens}
 use Rattle.endpoint_node.specs.declared.node.poll.control.Listening.{Listening}
 use Rattle.endpoint_node.specs.declared.node.poll.timers.retries.Asking.{Asking}
 use Rattle.endpoint_node.proofs.PacketCrew.{ones, staffed-still}
+use Rattle.endpoint_node.proofs.ShortLemmas.{spares-append, spares-calm}
 use Rattle.endpoint_loop.proofs.PollControl.{hears-still}
 use Rattle.endpoint_node.proofs.NoteSteps.{sent-append, took-then}
 use Rattle.endpoint_node.proofs.SendCounts.{both, held-more, link-both, link-still, nothing}
@@ -82,10 +87,49 @@ use Rattle.endpoint_node.proofs.NoteCounts.{handled-count, handled-elsewhere, ha
 use Rattle.endpoint_node.proofs.NoteCounts.{handled-unsent, is_elsewhere, many, many-append}
 use Rattle.endpoint_node.proofs.NoteCounts.{many-none, sent-after, sent-before, sent-count}
 
--- whether a handler ran
+-- whether a handler ran, or a life began, in which none did
 abbrev pub is_ran : Event → Bool
 is_ran (Ran t r y) = true
+is_ran (Restarted life) = true
 is_ran _ = false
+
+-- whether a packet came to the receive ring, or left it
+abbrev moves_ring : Event → Bool
+moves_ring (Arrived peer) = true
+moves_ring (Took owner k) = true
+moves_ring (Again owner k) = true
+moves_ring (Dropped why) = true
+moves_ring _ = false
+
+-- where none did, none was dropped for want of memory
+undropped : (x : List Fact) → AllStill moves_ring x → AllByRecursion IsNoWant x
+undropped [] a = tt
+undropped (f ∷ x) a = (
+  (λ e. let no : true ≡ false = sym (ap moves_ring e) ∙ a.0 in cc),
+  undropped x a.1,
+)
+
+-- and the ring is the same
+same-ring : (e : Event) (bytes : List ℕ) (ring : List Arrival) → moves_ring e ≡ false
+    → ring_after e bytes ring ≡ ring
+same-ring (Arrived peer) bytes ring still = cc
+same-ring (Took owner k) bytes ring still = cc
+same-ring (Again owner k) bytes ring still = cc
+same-ring (Dropped why) bytes ring still = cc
+same-ring _ bytes ring still = refl
+
+still-left : (ring : List Arrival) (x : List Fact) → AllStill moves_ring x → ring_left ring x ≡ ring
+still-left ring [] still = refl
+still-left ring (f ∷ x) still =
+    ap (λ (r : List Arrival). ring_left r x) (same-ring f.event f.first ring still.0)
+    ∙ still-left ring x still.1
+
+-- so such facts before others spare what these do
+spares-before : (v : Serving) (ring : List Arrival) (x y : List Fact) → AllStill moves_ring x
+    → SparesShort v ring y → SparesShort v ring (x ++ y)
+spares-before v ring x y still spared =
+    spares-append v ring x y (spares-calm v ring x (undropped x still))
+    (subst (λ (r : List Arrival). SparesShort v r y) (sym (still-left ring x still)) spared)
 
 -- the posting of an answer
 answer-still : (q : Event → Bool) → ((o : Owner) (k : ℕ) → q (Posted o k) ≡ false) → (me : ℕ)
@@ -103,6 +147,7 @@ still-answers v served (f ∷ x) a = one f.event refl (still-answers v served x 
         → Answers v served x × (served_after_all v.mode served x ≡ served)
         → Answers v served (f ∷ x) × (served_after_all v.mode served (f ∷ x) ≡ served)
     one (Ran t r y) e rest = let no : true ≡ false = sym (ap is_ran e) ∙ a.0 in cc
+    one (Restarted life) e rest = let no : true ≡ false = sym (ap is_ran e) ∙ a.0 in cc
     one d e rest = rw e ((tt, rest.0), rest.1)
 
 -- the jobs of parcels that are given stand behind the others
@@ -201,6 +246,23 @@ these-me answer [] s x t h = ap (λ (u : Timed). u.lists.me) h.1
 these-me answer (p ∷ ps) s x t h =
     these-me answer ps h.between h.back t h.second
     ∙ ap (λ (u : Timed). u.lists.me) h.first.goes ∙ me-after_all s.clock s.lists h.front
+
+-- and its receive ring
+finish-ring : (clock : ℕ) (s : Lists) (job : Job) (bytes : List ℕ) (k : Option ℕ)
+    → (after_all clock s (with_two s.me (Ran job.session job.request job.req_type) job.ask bytes
+    ∷ answer_posted s.me job k)).ring ≡ s.ring
+finish-ring clock s job bytes None = refl
+finish-ring clock s job bytes (Some k) = refl
+
+these-ring : (answer : ℕ → List ℕ → List ℕ) (ps : List Parcel) (s : Timed) (x : List Fact)
+    (t : Timed) → FinishesThese answer ps s x t → t.lists.ring ≡ s.lists.ring
+these-ring answer [] s x t h = ap (λ (u : Timed). u.lists.ring) h.1
+these-ring answer (p ∷ ps) s x t h =
+    let job = h.first.job in
+    these-ring answer ps h.between h.back t h.second
+    ∙ ap (λ (u : Timed). u.lists.ring) h.first.goes
+    ∙ ap (λ (fs : List Fact). (after_all s.clock s.lists fs).ring) h.first.facts
+    ∙ finish-ring s.clock s.lists job (answer job.req_type job.ask) (awaited job s.lists.servers)
 
 -- sending to the end, or until the link stops it
 sends-until : (stopped : Bool) (s : Timed) (x : List Fact) (t : Timed) → SendsSome s x t
@@ -354,6 +416,7 @@ module _ {R K L V W : Type 0} (log : R → Log)
     (heard_told : Listening) (asked_told : Asking)
     (hear : Listens log net HearsAll heard_told n1 n2 rf r1 l0 l1)
     (heard_jobs : n2.lists.jobs ≡ n1.lists.jobs) (heard_me : n2.lists.me ≡ n1.lists.me)
+    (heard_ring : n2.lists.ring ≡ n1.lists.ring)
     (inbox : n2.lists.inbox ≡ [])
     (handle : MakesAllHandled log given (staff_of workers) (rules_of service) (service.stands s0) (service.stands s1)
     workers.answer (HandlesAll service.mode_of) n2 n3 r1 r2 k0 k1 w1 w2)
@@ -389,27 +452,45 @@ module _ {R K L V W : Type 0} (log : R → Log)
   abbrev staff : W → Staff
   staff w = staff_of workers w
 
+  -- none after the handling is
+  last-none : (q : Event → Bool) → ((o : Owner) (k : ℕ) → q (Flushed o k) ≡ false)
+      → ((c a b : ℕ) → q (Rolled c a b) ≡ false) → ((i : ℕ) → q (Broken i) ≡ false)
+      → ((c : ℕ) → q (DonePeerLost c) ≡ false)
+      → ((p : ℕ) (o : Owner) (k : ℕ) → q (Sent p o k) ≡ false)
+      → ((p : ℕ) → q (Unsent p) ≡ false) → ((i : ℕ) → q (FailedNoAnswer i) ≡ false)
+      → ((i : ℕ) → q (ClosedUnheard i) ≡ false) → ((c r : ℕ) → q (Begun c r) ≡ false)
+      → ((o : Owner) (k : ℕ) → q (Posted o k) ≡ false) → ((n : ℕ) → q (Polled n) ≡ false)
+      → AllStill q last
+  last-none q flushed rolled broken lost sent unsent failed closed begun posted polled =
+      still-append q watched _
+      (times-still q flushed rolled broken lost sent unsent failed closed
+      (asking (λ t r. []) n3) watched (asking (λ t r. []) n4)
+      (watch.ends.makes.step (λ t r. [])))
+      (still-append q post.noted _
+      (posts-still q begun posted (asking (λ t r. []) n4) post.noted
+      (asking (λ t r. []) n5) (post.step (λ t r. [])))
+      (still-append q send.makes.noted close.noted
+      (sends-still q sent (asking (λ t r. []) n5) send.makes.noted
+      (asking (λ t r. []) n6) (send.makes.step (λ t r. [])))
+      (closes-still q polled (asking (λ t r. []) n6) close.noted
+      (asking (λ t r. []) n7) (close.step (λ t r. [])))))
+
   last-still : AllStill is_ran last
   last-still =
-      still-append is_ran watched _
-      (times-still is_ran (λ o k. refl) (λ c a b. refl) (λ i. refl) (λ c. refl) (λ p o k. refl)
-      (λ p. refl) (λ i. refl) (λ i. refl) (asking (λ t r. []) n3) watched
-      (asking (λ t r. []) n4) (watch.ends.makes.step (λ t r. [])))
-      (still-append is_ran post.noted _
-      (posts-still is_ran (λ c r. refl) (λ o k. refl) (asking (λ t r. []) n4) post.noted
-      (asking (λ t r. []) n5) (post.step (λ t r. [])))
-      (still-append is_ran send.makes.noted close.noted
-      (sends-still is_ran (λ p o k. refl) (asking (λ t r. []) n5) send.makes.noted
-      (asking (λ t r. []) n6) (send.makes.step (λ t r. [])))
-      (closes-still is_ran (λ n. refl) (asking (λ t r. []) n6) close.noted
-      (asking (λ t r. []) n7) (close.step (λ t r. [])))))
+      last-none is_ran (λ o k. refl) (λ c a b. refl) (λ i. refl) (λ c. refl) (λ p o k. refl)
+      (λ p. refl) (λ i. refl) (λ i. refl) (λ c r. refl) (λ o k. refl) (λ n. refl)
+
+  last-unmoved : AllStill moves_ring last
+  last-unmoved =
+      last-none moves_ring (λ o k. refl) (λ c a b. refl) (λ i. refl) (λ c. refl) (λ p o k. refl)
+      (λ p. refl) (λ i. refl) (λ i. refl) (λ c r. refl) (λ o k. refl) (λ n. refl)
 
   -- none of control is of a call or a job
   heard-none : (q : Event → Bool) → ((o : Owner) (k : ℕ) → q (Flushed o k) ≡ false)
       → ((t : ℕ) → q (Ended t) ≡ false) → ((p i c : ℕ) → q (Declined p i c) ≡ false)
       → ((p i c : ℕ) → q (Starved p i c) ≡ false)
-      → ((t p i c : ℕ) → q (Accepted t p i c) ≡ false)
-      → ((i t : ℕ) → q (IsConnected i t) ≡ false) → ((i : ℕ) → q (FailedNoRoom i) ≡ false)
+      → ((t p i c l : ℕ) → q (Accepted t p i c l) ≡ false)
+      → ((i t l : ℕ) → q (IsConnected i t l) ≡ false) → ((i : ℕ) → q (FailedNoRoom i) ≡ false)
       → ((i : ℕ) → q (ClosedHeard i) ≡ false)
       → ((p : ℕ) (o : Owner) (k : ℕ) → q (Sent p o k) ≡ false)
       → ((p : ℕ) → q (Unsent p) ≡ false) → q Heard ≡ false → AllStill q heard
@@ -419,13 +500,18 @@ module _ {R K L V W : Type 0} (log : R → Log)
 
   heard-unran : AllStill is_ran heard
   heard-unran =
-      heard-none is_ran (λ o k. refl) (λ i. refl) (λ p i c. refl) (λ p i c. refl) (λ i p j c. refl)
-      (λ i j. refl) (λ i. refl) (λ i. refl) (λ p o k. refl) (λ p. refl) refl
+      heard-none is_ran (λ o k. refl) (λ i. refl) (λ p i c. refl) (λ p i c. refl) (λ i p j c l. refl)
+      (λ i j l. refl) (λ i. refl) (λ i. refl) (λ p o k. refl) (λ p. refl) refl
+
+  heard-unmoved : AllStill moves_ring heard
+  heard-unmoved =
+      heard-none moves_ring (λ o k. refl) (λ i. refl) (λ p i c. refl) (λ p i c. refl)
+      (λ i p j c l. refl) (λ i j l. refl) (λ i. refl) (λ i. refl) (λ p o k. refl) (λ p. refl) refl
 
   heard-endless : AllStill is_end_event heard
   heard-endless =
       heard-none is_end_event (λ o k. refl) (λ i. refl) (λ p i c. refl) (λ p i c. refl)
-      (λ i p j c. refl) (λ i j. refl) (λ i. refl) (λ i. refl) (λ p o k. refl) (λ p. refl) refl
+      (λ i p j c l. refl) (λ i j l. refl) (λ i. refl) (λ i. refl) (λ p o k. refl) (λ p. refl) refl
 
   tail-still : AllStill is_end_event tail
   tail-still =
@@ -755,9 +841,29 @@ module _ {R K L V W : Type 0} (log : R → Log)
         (held-more (many is_unsent front) (left_one (line n6.clock n6.lists.queued)) (troubles_of net l0)
         (troubles_of net l2) (troubles_of net l3) front-carried.counts.held held)
 
+    -- short requests are dropped for want of memory by none of the steps
+    same-front : n2.lists.ring ≡ n0.lists.ring
+    same-front =
+        heard_ring ∙ these-ring workers.answer f.parcels (asking asks (raised now n0)) finish.noted
+        (asking asks n1) f.finishes
+
+    spared-on : SparesShort (rules_of service) n2.lists.ring (handle.noted ++ last)
+    spared-on =
+        spares-append (rules_of service) n2.lists.ring handle.noted last handle.spared
+        (spares-calm (rules_of service) (ring_left n2.lists.ring handle.noted) last
+        (undropped last last-unmoved))
+
+    spared : SparesShort (rules_of service) n0.lists.ring noted
+    spared =
+        spares-before (rules_of service) n0.lists.ring finish.noted _
+        (finish-still moves_ring (λ t r y. refl) (λ o k. refl))
+        (spares-before (rules_of service) n0.lists.ring heard _ heard-unmoved
+        (subst (λ (r : List Arrival). SparesShort (rules_of service) r (handle.noted ++ last))
+        same-front spared-on))
+
     tells : TellsOfPoll given (rules_of service) (service.stands s0) (service.stands s1) turn
         (wire_of net l0)
-        (wire_of net l3) me0 noted n7 k0 k2
+        (wire_of net l3) n0.lists.ring me0 noted n7 k0 k2
     tells = record {
       answers = answers;
       dones = handle.dones ++ watch.ends.dones;
@@ -766,6 +872,7 @@ module _ {R K L V W : Type 0} (log : R → Log)
       counts = counts;
       took = took;
       held = held-all;
+      spared = spared;
     }
 
   pub makes-poll : (h0 h7 : List (List Handed))

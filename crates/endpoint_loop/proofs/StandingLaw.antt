@@ -6,13 +6,13 @@ use Rattle.std.specs.Prelude.{Result, Ok, Err, OnErr}
 use Rattle.std.specs.List.{find}
 use Rattle.rpc_outside.specs.Recording.{Log}
 use Rattle.client_core.specs.declared.outcome.Done.{Done}
-use Rattle.node_laws.specs.NodeRun.{Group, IsCredits, NodeRun}
+use Rattle.node_laws.specs.NodeRun.{Group, IsCredits, LifeRun}
 use Rattle.node_laws.specs.NodeRun.{pairs_client, pairs_server, polls, refuses}
 use Rattle.node_laws.proofs.RunLaws.{group-lawful, run_valid}
 use Rattle.rpc_base.specs.declared.event.Event.{Event}
 use Rattle.rpc_base.specs.declared.event.Event.TheVariants.{Arrived, Bad, Begun, Overflowed}
 use Rattle.rpc_base.specs.declared.event.Event.TheVariants.{NconnectNumbers, NconnectRing}
-use Rattle.rpc_base.specs.declared.event.Event.TheVariants.{Nrate, Polled, Posted, Ran, Rated}
+use Rattle.rpc_base.specs.declared.event.Event.TheVariants.{Nrate, Polled, Posted, Ran, Rated, Restarted}
 use Rattle.rpc_base.specs.declared.event.Event.TheVariants.{Worked}
 use Rattle.rpc_base.specs.declared.fact.Fact.{Fact}
 use Rattle.rpc_base.specs.declared.limits.Limits.{Limits}
@@ -29,6 +29,7 @@ use Rattle.rpc_laws.specs.Front.{is_control, is_message}
 use Rattle.rpc_laws.specs.Groups.{Asks, SetsRate, ask_by_state, client_refusal, clients_spent}
 use Rattle.rpc_laws.specs.Groups.{has_no_room, server_refusal, servers_spent}
 use Rattle.rpc_laws.specs.Groups.{shares, state_of}
+use Rattle.rpc_laws.specs.NodeLists.{after, after_all}
 use Rattle.rpc_laws.specs.PollOrder.{Closes as EndsPoll, FinishesOne, FinishesSome, HandlesAll}
 use Rattle.rpc_laws.specs.PollOrder.{Poll, PollBy, PostsAll, raised, SendsSome}
 use Rattle.rpc_laws.specs.Sessions.{is_client, is_live}
@@ -70,14 +71,16 @@ use Rattle.endpoint_node.proofs.NoteCounts.{elsewhere-unasked, elsewhere-unworke
 use Rattle.endpoint_node.proofs.NoteCounts.{handled-elsewhere, is_elsewhere, is_work}
 use Rattle.endpoint_node.proofs.NoteCounts.{many-append, many-none}
 
--- a handler ran, or a job was worked
+-- a handler ran, or a job was worked, or a life began
 abbrev pub is_labour : Event → Bool
 is_labour (Ran session request req_type) = true
+is_labour (Restarted life) = true
 is_labour (Worked session request) = true
 is_labour _ = false
 
 labour-ran : (e : Event) → is_labour e ≡ false → is_ran e ≡ false
 labour-ran (Ran session request req_type) h = cc
+labour-ran (Restarted life) h = cc
 labour-ran _ h = refl
 
 labour-work : (e : Event) → is_labour e ≡ false → is_work e ≡ false
@@ -99,6 +102,11 @@ pub unworked : (t r : ℕ) (x : List Fact) → AllStill is_work x → AllStill (
 unworked t r [] all = tt
 unworked t r (f ∷ x) all = (unworked-event t r f.event all.0, unworked t r x all.1)
 
+-- nothing that a node notes changes its life
+pub life-after_all : (clock : ℕ) (s : Lists) (x : List Fact) → (after_all clock s x).life ≡ s.life
+life-after_all clock s [] = refl
+life-after_all clock s (f ∷ x) = life-after_all clock (after clock s f) x
+
 module _ {V W : Type 0} (service : Service.Ghosts V) (workers : Workers.Ghosts W) (limits : Limits) (g : List Fact)
     (a b : Running V W) (noted : List Fact) (s : StandsFor service workers limits g a) where
   abbrev before : Timed
@@ -113,6 +121,13 @@ module _ {V W : Type 0} (service : Service.Ghosts V) (workers : Workers.Ghosts W
       let l = group-lawful service.mode_of before noted later (run_valid s.run) group in
       ap (λ (z : Lists). z.me) l.leads.lists ∙ me-after_all l.clock before.lists noted
 
+  -- and its life
+  pub life-more : Group service.mode_of before noted later
+      → b.timed.lists.life ≡ a.timed.lists.life
+  life-more group =
+      let l = group-lawful service.mode_of before noted later (run_valid s.run) group in
+      ap (λ (z : Lists). z.life) l.leads.lists ∙ life-after_all l.clock before.lists noted
+
   -- a group that works no job, and answers as the service does
   pub stands-more : Group service.mode_of before noted later → AllStill is_work noted
       → Answers (rules_of service) (served_after_all service.mode_of [] g) noted
@@ -120,16 +135,19 @@ module _ {V W : Type 0} (service : Service.Ghosts V) (workers : Workers.Ghosts W
       → IsStaffed workers.answer (staff_of workers b.workers) b.timed
       → StandsFor service workers limits (g ++ noted) b
   stands-more group still answers serves staffed = record {
-    run = subst (λ m. NodeRun (rules_of service) m limits (g ++ noted) later) (sym (me-more group)) (record {
-      steps = more s.run.steps noted later group;
-      worked_once = λ t r. omega (
-        arith,
-        many-append (works_request t r) g noted,
-        many-none (works_request t r) noted (unworked t r noted still),
-        s.run.worked_once t r,
-      );
-      answers = answers-append (rules_of service) [] g noted s.run.answers answers;
-    });
+    run = subst (λ m. LifeRun (rules_of service) m b.timed.lists.life limits (g ++ noted) later)
+        (sym (me-more group))
+        (subst (λ l. LifeRun (rules_of service) a.timed.lists.me l limits (g ++ noted) later)
+        (sym (life-more group)) (record {
+          steps = more s.run.steps noted later group;
+          worked_once = λ t r. omega (
+            arith,
+            many-append (works_request t r) g noted,
+            many-none (works_request t r) noted (unworked t r noted still),
+            s.run.worked_once t r,
+          );
+          answers = answers-append (rules_of service) [] g noted s.run.answers answers;
+        }));
     serves = subst (service.stands b.service) (sym (served-append service.mode_of [] g noted)) serves;
     staffed = staffed;
   }
@@ -191,7 +209,7 @@ pub poll-unworked : (F S : Rel) (mode : ℕ → Mode) (now : ℕ) → Stills is_
 poll-unworked =
     poll-still is_work elsewhere-unworked (λ c r. refl) (λ o k. refl) (λ n. refl)
     (hears-still is_work (λ o k. refl) (λ i. refl) (λ p i c. refl) (λ p i c. refl)
-    (λ i p j c. refl) (λ i j. refl) (λ i. refl) (λ i. refl) (λ p o k. refl) (λ p. refl) refl)
+    (λ i p j c l. refl) (λ i j l. refl) (λ i. refl) (λ i. refl) (λ p o k. refl) (λ p. refl) refl)
     (times-still is_work (λ o k. refl) (λ c a b. refl) (λ i. refl) (λ c. refl) (λ p o k. refl)
     (λ p. refl) (λ i. refl) (λ i. refl))
 
@@ -200,7 +218,7 @@ pub poll-unasked : (F S : Rel) (mode : ℕ → Mode) (now : ℕ) → Stills is_a
 poll-unasked =
     poll-still is_asked elsewhere-unasked (λ c r. refl) (λ o k. refl) (λ n. refl)
     (hears-still is_asked (λ o k. refl) (λ i. refl) (λ p i c. refl) (λ p i c. refl)
-    (λ i p j c. refl) (λ i j. refl) (λ i. refl) (λ i. refl) (λ p o k. refl) (λ p. refl) refl)
+    (λ i p j c l. refl) (λ i j l. refl) (λ i. refl) (λ i. refl) (λ p o k. refl) (λ p. refl) refl)
     (times-still is_asked (λ o k. refl) (λ c a b. refl) (λ i. refl) (λ c. refl) (λ p o k. refl)
     (λ p. refl) (λ i. refl) (λ i. refl))
 
@@ -313,27 +331,29 @@ or-still : (o : Option Event) (made : Event) → ((e : Event) → o ≡ Some e �
 or-still None made refused own = own
 or-still (Some e) made refused own = refused e refl
 
-pub client-still : (peer server credits : ℕ) → Stills is_labour (PairsClient peer server credits)
-client-still peer server credits s x t h = rw h.facts (
+pub client-still : (peer server credits life : ℕ)
+    → Stills is_labour (PairsClient peer server credits life)
+client-still peer server credits life s x t h = rw h.facts (
   or-still (client_refusal credits s.lists) _ (refused-still (clients_spent s.lists)
       (has_no_room credits s.lists) (shares s.lists) credits s.lists.room) refl,
   tt,
 )
 
-pub server-still : (peer client credits : ℕ) → Stills is_labour (PairsServer peer client credits)
-server-still peer client credits s x t h = rw h.facts (
+pub server-still : (peer client credits life : ℕ)
+    → Stills is_labour (PairsServer peer client credits life)
+server-still peer client credits life s x t h = rw h.facts (
   or-still (server_refusal credits s.lists) _ (refused-still (servers_spent s.lists)
       (has_no_room credits s.lists) (shares s.lists) credits s.lists.room) refl,
   tt,
 )
 
-module _ (mode : ℕ → Mode) (peer other credits : ℕ) (own : IsCredits credits)
+module _ (mode : ℕ → Mode) (peer other credits life : ℕ) (own : IsCredits credits)
     (known : other < SESSION_NUMBERS) (s : Timed) (x : List Fact) (t : Timed) where
-  pub client-group : PairsClient peer other credits s x t → Group mode s x t
+  pub client-group : PairsClient peer other credits life s x t → Group mode s x t
   client-group h = by (client_refusal credits s.lists) refl
     where
       by : (o : Option Event) → client_refusal credits s.lists ≡ o → Group mode s x t
-      by None e = pairs_client peer other credits
+      by None e = pairs_client peer other credits life
           (record { credits_fit = own; other_is = known; fits = e })
           (record {
             facts = rw e at h.facts;
@@ -344,11 +364,11 @@ module _ (mode : ℕ → Mode) (peer other credits : ℕ) (own : IsCredits credi
         goes = h.goes;
       })
 
-  pub server-group : PairsServer peer other credits s x t → Group mode s x t
+  pub server-group : PairsServer peer other credits life s x t → Group mode s x t
   server-group h = by (server_refusal credits s.lists) refl
     where
       by : (o : Option Event) → server_refusal credits s.lists ≡ o → Group mode s x t
-      by None e = pairs_server peer other credits
+      by None e = pairs_server peer other credits life
           (record { credits_fit = own; other_is = known; fits = e })
           (record {
             facts = rw e at h.facts;

@@ -8,6 +8,7 @@ use Rattle.std.specs.List.{filter}
 use Rattle.client_core.specs.Shown.{done_fact}
 use Rattle.client_core.specs.declared.outcome.Done.{Done}
 use Rattle.rpc_base.specs.declared.fact.Fact.{Fact}
+use Rattle.rpc_laws.specs.declared.tables.Arrival.{Arrival}
 use Rattle.rpc_laws.specs.declared.tables.Timed.{Timed}
 use Rattle.rpc_laws.specs.Pacing.{line}
 use Rattle.rpc_laws.specs.PollOrder.{PollBy, SendsAll, SendsSome}
@@ -26,7 +27,7 @@ use Rattle.endpoint_node.specs.declared.node.poll.sends.Sending.{Sending}
 use Rattle.endpoint_node.specs.Jobs.{FinishesThese, NoneBack, jobs_left, staff_of}
 use Rattle.endpoint_node.specs.Notes.{is_end, sent_of}
 use Rattle.endpoint_loop.specs.Endpoints.{Crew, IsStaffed, Running, told, crew_of}
-use Rattle.endpoint_node.specs.Requests.{job_named}
+use Rattle.endpoint_node.specs.Requests.{SparesShort, job_named}
 use Rattle.rpc_outside.specs.declared.link.Link as Link
 use Rattle.rpc_outside.specs.declared.service.Service as Service
 use Rattle.worker_crew.specs.declared.workers.Workers as Workers
@@ -101,10 +102,11 @@ wire_of l link = record { sent = l.sent link; troubles = troubles_of l link }
 -- what a poll tells besides: each handler that ran has its answer, the calls that the continuation
 -- was given are those whose ends were noted, in order, and the turn counts its facts. The link,
 -- where it tells what it sent, sent exactly the datagrams of the Sent facts, and failed or was busy
--- for each packet that it didn't take
+-- for each packet that it didn't take. No short request in front of this receive ring was dropped
+-- for want of memory, whatever the allocator did
 pub record TellsOfPoll {K : Type 0} (given : K → List Done → Type 0) (v : Serving)
     (stands then_stands : Served → Type 0) (told : Option Turn) (link then_link : LinkTells)
-    (me : ℕ) (x : List Fact) (t : Timed) (from to : K) : Type 0 where
+    (ring : List Arrival) (me : ℕ) (x : List Fact) (t : Timed) (from to : K) : Type 0 where
   pub answers : (served : Served) → stands served
       → Answers v served x × then_stands (served_after_all v.mode served x)
   pub dones : List Done
@@ -113,6 +115,7 @@ pub record TellsOfPoll {K : Type 0} (given : K → List Done → Type 0) (v : Se
   pub counts : IfSome told (CountsTurn x)
   pub took : then_link.sent ≡ option_map (λ ds. ds ++ sent_of x) link.sent
   pub held : HeldBack (held_in x t) link.troubles then_link.troubles
+  pub spared : SparesShort v ring x
 
 -- the recorder grew by the facts of a poll
 pub record MakesPoll {R K V W : Type 0} (log : R → Log) (given : K → List Done → Type 0)
@@ -125,4 +128,5 @@ pub record MakesPoll {R K V W : Type 0} (log : R → Log) (given : K → List Do
       → PollsWith (rules_of service) workers.answer (is_stopped told) now
       (crew_of workers old.workers) (crew_of workers new.workers) old.timed noted new.timed
       × TellsOfPoll given (rules_of service) (service.stands old.service)
-      (service.stands new.service) told link then_link old.timed.lists.me noted new.timed from to
+      (service.stands new.service) told link then_link old.timed.lists.ring old.timed.lists.me
+      noted new.timed from to

@@ -1,5 +1,5 @@
 //! The endpoint: a node with a service and workers.
-ghost use Rattle.std.specs.Prelude.{◌≡◌, [], length, IfOk, IfErr};
+ghost use Rattle.std.specs.Prelude.{◌≡◌, ◌≤◌, [], length, IfOk, IfErr};
 ghost use Rattle.std.specs.Borrow.{sem};
 ghost use Rattle.std.specs.List.{find};
 ghost use Rattle.rpc_laws.specs.Service.{rules_of};
@@ -7,7 +7,6 @@ ghost use Rattle.node_laws.specs.Kept.{Kept};
 ghost use Rattle.rpc_base.specs.Limits.{Fits as InRange};
 ghost use Rattle.rpc_laws.specs.Groups.{state_of};
 ghost use Rattle.rpc_laws.specs.NodeLists.{new_node};
-ghost use Rattle.rpc_laws.specs.Lives.{first_life};
 ghost use Rattle.rpc_laws.specs.Sessions.{is_client};
 ghost use Rattle.endpoint_node.specs.Packets.{WorksFor};
 ghost use Rattle.endpoint_loop.specs.Stands.{StandsFor};
@@ -22,16 +21,14 @@ mod strangers;
 mod turn;
 
 use endpoint_node::Node;
+use packet_header::Life;
 pub use poll::{LinkFault, Turn};
-use rpc_base::{Limits, NodeId, SessionNo, SessionState};
+use rpc_base::{Limits, NodeId, PEERS, SessionNo, SessionState};
 use rpc_outside::Service;
 use std::alloc::Global;
 use std::marker::Model;
 pub use turn::MOST_ARRIVALS;
 use worker_crew::Workers;
-
-/// So many numbers name peers.
-const PEERS: usize = 256;
 
 /// An endpoint of an application: its sessions, the service that answers requests, and the workers
 /// that answer those in the background. Contracts see its lists and its clock as the definitions
@@ -78,26 +75,28 @@ impl<V: Service, W: Workers> Model for Endpoint<V, W> {
 }
 
 impl<V: Service, W: Workers> Endpoint<V, W> {
-    /// Endpoint `me` with these limits, which are in their ranges, over workers to which no job was
-    /// given, which take as many jobs, and which answer background requests as the service does.
-    /// Its lists are empty. Where there is no memory for its rings and its pool the workers come
-    /// back.
+    /// Endpoint `me` in a life of 1 or more, with these limits, which are in their ranges, over
+    /// workers to which no job was given, which take as many jobs, and which answer background
+    /// requests as the service does. Its lists are empty, and it knows no life of a peer. Where
+    /// there is no memory for its rings and its pool the workers come back.
     pub fn new(
         alloc: Global,
         me: NodeId,
+        life: Life,
         limits: Limits,
         service: V,
         workers: W,
     ) -> Result<Endpoint<V, W>, W>
     where
         V: Drop,
+        requires life { 1 ≤ life }
         requires limits { InRange limits }
         requires workers { (W.limit workers ≡ limits.jobs) × (W.given workers ≡ 0)
             × (W.out workers ≡ []) }
         requires works { WorksFor W.answer (rules_of V.Service) }
         requires service { V.stands service [] }
         ensures made { IfOk result (λ e. e ≡ record {
-          timed = new_node me first_life limits;
+          timed = new_node me life limits;
           handed = [];
           service = service;
           workers = workers;
@@ -106,7 +105,7 @@ impl<V: Service, W: Workers> Endpoint<V, W> {
         ensures stands { IfOk result (λ e. StandsFor V.Service W.Workers limits [] e) }
         ensures wanting { IfErr result (λ back. back ≡ workers) }
     {
-        let Ok(node) = Node::new(alloc, me, limits) else {
+        let Ok(node) = Node::new(alloc, me, life, limits) else {
             return Err(workers);
         };
         Ok(Endpoint {

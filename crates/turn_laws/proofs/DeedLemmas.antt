@@ -6,8 +6,10 @@ use Rattle.rpc_base.specs.declared.fact.Fact.{Fact}
 use Rattle.rpc_outside.specs.declared.service.Mode.{Mode}
 use Rattle.rpc_outside.specs.Linking.{Carried}
 use Rattle.rpc_laws.specs.declared.tables.Timed.{Timed}
+use Rattle.rpc_laws.specs.Endpoints.{begins_life}
 use Rattle.rpc_laws.specs.Service.{Answers, Serving}
 use Rattle.node_laws.specs.NodeRun.{delivers}
+use Rattle.end_laws.proofs.ListLemmas.{all-append}
 use Rattle.end_laws.specs.JointRun.{Party, at_node}
 use Rattle.endpoint_loop.specs.Turns.{DeliversAll}
 use Rattle.turn_laws.specs.Deeds.{Deed, Does, DoesAll, MayAct, acts, rests, noted_in}
@@ -24,19 +26,20 @@ module _ (mode : ℕ → Mode) where
       → Keeps s x t → Keeps t y u → Keeps s (x ++ y) u
   keeps-then s x t y u h k = record {
     at = at-append s.lists.me x y h.at (subst (λ (n : ℕ). AllAt n y) h.me k.at);
+    begun = all-append (λ f. begins_life f.event ≡ false) x y h.begun k.begun;
     me = k.me ∙ h.me;
   }
 
   pub delivered-keeps : (came : List Carried) (s : Timed) (x : List Fact) (t : Timed)
       → DeliversAll came s x t → Keeps s x t
-  delivered-keeps [] s x t h = rw (h.0, h.1) (record { at = tt; me = refl })
+  delivered-keeps [] s x t h = rw (h.0, h.1) (record { at = tt; begun = tt; me = refl })
   delivered-keeps (c ∷ cs) s x t h = rw h.joined (keeps-then s h.front h.between h.back t
       (group-keeps mode s h.front h.between (delivers c.0 c.1 h.first))
       (delivered-keeps cs h.between h.back t h.second))
 
   pub acted-keeps : (s : Timed) (x : List Fact) (t : Timed) → MayAct mode s x t → Keeps s x t
   acted-keeps s x t (acts a) = group-keeps mode s x t a.group
-  acted-keeps s x t (rests none same) = rw (none, same) (record { at = tt; me = refl })
+  acted-keeps s x t (rests none same) = rw (none, same) (record { at = tt; begun = tt; me = refl })
 
   pub deed-keeps : (d : Deed) (s t : Timed) → Does mode d s t → Keeps s d.noted t
   deed-keeps d s t h = rw h.joined (keeps-then s h.front h.between h.back t

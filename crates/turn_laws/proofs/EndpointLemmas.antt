@@ -12,7 +12,6 @@ use Rattle.rpc_outside.specs.Served.{Served}
 use Rattle.rpc_outside.specs.declared.service.Service as Service
 use Rattle.rpc_laws.specs.declared.tables.Timed.{Timed}
 use Rattle.rpc_laws.specs.AtMostOnce.{works_request}
-use Rattle.rpc_laws.specs.Lives.{first_life}
 use Rattle.rpc_laws.specs.NodeLists.{new_node}
 use Rattle.rpc_laws.specs.PollOrder.{Poll}
 use Rattle.rpc_laws.specs.Service.{Answers, rules_of, served_after_all}
@@ -175,21 +174,21 @@ module _ {V W : Type 0} (service : Service.Ghosts V) (workers : Workers.Ghosts W
   poll-alone now s x t h = record { group = polls now h; alone = tt }
 
   -- the endpoint did one deed more
-  pub did-more : (limits : Limits) (ds : List Deed) (came : List Carried) (x : List Fact)
-      (a b : Running V W) → Step came x a b → EndpointDid service workers limits ds a
-      → EndpointDid service workers limits (ds ++ record {
+  pub did-more : (life : ℕ) (limits : Limits) (ds : List Deed) (came : List Carried) (x : List Fact)
+      (a b : Running V W) → Step came x a b → EndpointDid service workers life limits ds a
+      → EndpointDid service workers life limits (ds ++ record {
         node = a.timed.lists.me;
         came = came;
         noted = x;
       } ∷ []) b
-  did-more limits ds came x a b step h =
+  did-more life limits ds came x a b step h =
       let d : Deed = record { node = a.timed.lists.me; came = came; noted = x } in
       let k = deed-keeps service.mode_of d (seen workers a) (seen workers b) step.does in
       let more = step.answers (served_after_all service.mode_of [] (noted_in ds)) h.serves in
       let facts = noted-more ds d in
-      let did : NodeDid (rules_of service) a.timed.lists.me limits (ds ++ d ∷ [])
+      let did : NodeDid (rules_of service) a.timed.lists.me life limits (ds ++ d ∷ [])
       (seen workers b) = record {
-        steps = does-more service.mode_of ds d (new_node a.timed.lists.me first_life limits)
+        steps = does-more service.mode_of ds d (new_node a.timed.lists.me life limits)
             (seen workers a)
             (seen workers b) h.did.steps step.does;
         worked_once = λ t r. subst
@@ -204,7 +203,7 @@ module _ {V W : Type 0} (service : Service.Ghosts V) (workers : Workers.Ghosts W
             (answers-append (rules_of service) [] (noted_in ds) x h.did.answers more.0);
       } in
       record {
-        did = subst (λ (m : ℕ). NodeDid (rules_of service) m limits (ds ++ d ∷ []) (seen workers b))
+        did = subst (λ (m : ℕ). NodeDid (rules_of service) m life limits (ds ++ d ∷ []) (seen workers b))
             (sym k.me) did;
         serves = subst (service.stands b.service)
             (sym (ap (served_after_all service.mode_of []) facts

@@ -121,6 +121,6 @@ module _ {V W : Type 0} (service : Service.Ghosts V) (workers : Workers.Ghosts W
   does-more-by log f g grew = record {
     noted = x;
     grew = grew;
-    did = λ limits ds h. did-more service workers limits ds came x a b step h;
+    did = λ life limits ds h. did-more service workers life limits ds came x a b step h;
     goes = goes-from;
   }

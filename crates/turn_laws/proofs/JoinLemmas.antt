@@ -48,10 +48,10 @@ module _ {V W : Type 0} (service : Service.Ghosts V) (workers : Workers.Ghosts W
   }
 
   -- what contracts see of a new endpoint is a new node
-  pub new-seen : (n : ℕ) (limits : Limits) (e : Running V W) → e.timed
-      ≡ new_node n first_life limits
-      → workers.out e.workers ≡ [] → seen workers e ≡ new_node n first_life limits
-  new-seen n limits e new out =
+  pub new-seen : (n life : ℕ) (limits : Limits) (e : Running V W) → e.timed
+      ≡ new_node n life limits
+      → workers.out e.workers ≡ [] → seen workers e ≡ new_node n life limits
+  new-seen n life limits e new out =
       ap (λ (o : List CrewJob). told o e.timed) out ∙ ap (λ (s : Timed). told [] s) new
 
   pub new-joins : NewEndpointsJoin service workers
@@ -65,7 +65,7 @@ module _ {V W : Type 0} (service : Service.Ghosts V) (workers : Workers.Ghosts W
         ring = ring;
         facts = refl;
         left = ap (λ (t : Timed). record { nodes = s.nodes ++ t ∷ []; flight = s.flight })
-            (new-seen n (limits_of (parties n) ring) e new out);
+            (new-seen n first_life (limits_of (parties n) ring) e new out);
       }) in
       let here : OwnPart (parties n).serving (at_node n g ++ made) = rw none (record {
         answers = (tt, tt);

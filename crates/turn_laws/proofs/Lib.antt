@@ -3,6 +3,7 @@ pub mod DeedLemmas
 pub mod EndpointLemmas
 pub mod GoesLemmas
 pub mod JoinLemmas
+pub mod OnceLemmas
 pub mod PairLemmas
 pub mod SystemLemmas
 pub mod TurnLaws

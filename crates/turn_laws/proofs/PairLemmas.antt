@@ -98,16 +98,18 @@ module _ {R V W P X Y : Type 0} (log : R → Log) (service : Service.Ghosts V)
       let y = v.makes.noted in
       let session = length client.timed.lists.clients in
       let number = server.timed.lists.server_numbers in
-      let client_event : Event = PairedClient session b number credits in
-      let server_event : Event = PairedServer number a session credits in
+      let client_life = client.timed.lists.life in
+      let server_life = server.timed.lists.life in
+      let client_event : Event = PairedClient session b number credits server_life in
+      let server_event : Event = PairedServer number a session credits client_life in
       let p = quiet-part service workers log
-      (PairsClient b number credits) client new_client before now
-      c.makes (client-still b number credits) c.leaves at_a.staffed in
+      (PairsClient b number credits server_life) client new_client before now
+      c.makes (client-still b number credits server_life) c.leaves at_a.staffed in
       let q = quiet-part other_service other_workers other_log
-      (PairsServer a session credits) server
-      new_server from to v.makes (server-still a session credits) v.leaves at_b.staffed in
+      (PairsServer a session credits client_life) server
+      new_server from to v.makes (server-still a session credits client_life) v.leaves at_b.staffed in
       let first = makes-end service workers a client_event g x s client new_client
-      (PairsClient b number credits) at_a p
+      (PairsClient b number credits server_life) at_a p
       (p.step.facts ∙ ap (λ (o : Option Event). plain client.timed.lists.me
       (or_refused o client_event) ∷ []) c.accepted) p.step.goes in
       let mid : Joint = record {
@@ -118,7 +120,7 @@ module _ {R V W P X Y : Type 0} (log : R → Log) (service : Service.Ghosts V)
       (stays-other a b g x s (seen workers new_client) s.flight (λ e. two (sym e)) first.at) at_b in
       let second = makes-end other_service other_workers b server_event
       (g ++ x) y mid server new_server
-      (PairsServer a session credits) at_mid q
+      (PairsServer a session credits client_life) at_mid q
       (q.step.facts ∙ ap (λ (o : Option Event). plain server.timed.lists.me
       (or_refused o server_event) ∷ []) v.accepted) q.step.goes in
       let end : Joint = record {

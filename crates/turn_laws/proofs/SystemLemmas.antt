@@ -34,7 +34,8 @@ use Rattle.turn_laws.specs.Wires.{AreOnWire, IsOnWire, on_wire}
 use Rattle.turn_laws.proofs.DeedLemmas.{OwnPart, deed-keeps}
 use Rattle.turn_laws.proofs.WireLemmas.{deed-steps}
 use Rattle.world_laws.proofs.FactLemmas.{AllAt, eqb-same, facts-append, facts-other, facts-own}
-use Rattle.world_laws.proofs.JointCalls.{wire-calls-once, wire-in-order, wire-once}
+use Rattle.turn_laws.proofs.OnceLemmas.{wire-all-once}
+use Rattle.world_laws.proofs.JointCalls.{wire-calls-once, wire-in-order}
 use Rattle.world_laws.proofs.WorkLemmas.{times_worked, worked-append, worked-cons}
 
 module _ {A : Type 0} where
@@ -318,7 +319,7 @@ systems-run system ds left h = runs-over-wires system ds left h
 
 pub wires-keep : WireRunsKeepCalls
 wires-keep parties g t run = record {
-  once = wire-once parties g t run;
+  once = wire-all-once parties g t run;
   one = wire-calls-once parties g t run;
   order = wire-in-order parties g t run;
   own = wire-own parties g t run;

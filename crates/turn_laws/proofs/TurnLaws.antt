@@ -7,7 +7,6 @@ use Rattle.rpc_outside.specs.declared.link.Link as Link
 use Rattle.rpc_outside.specs.declared.service.Service as Service
 use Rattle.rpc_laws.specs.declared.tables.Timed.{Timed}
 use Rattle.rpc_laws.specs.Deliveries.{Delivers}
-use Rattle.rpc_laws.specs.Lives.{first_life}
 use Rattle.rpc_laws.specs.NodeLists.{new_node}
 use Rattle.rpc_laws.specs.PollOrder.{Poll}
 use Rattle.endpoint_loop.specs.Endpoints.{Running}
@@ -26,13 +25,13 @@ use Rattle.worker_crew.specs.declared.workers.Workers as Workers
 
 module _ {V W : Type 0} (service : Service.Ghosts V) (workers : Workers.Ghosts W) where
   pub new-did-nothing : NewDidNothing service workers
-  new-did-nothing me limits e new out stands staffed =
+  new-did-nothing me life limits e new out stands staffed =
       let is_me : e.timed.lists.me ≡ me = ap (λ (s : Timed). s.lists.me) new in
-      let node : seen workers e ≡ new_node me first_life limits =
-      new-seen service workers me limits e new out in
+      let node : seen workers e ≡ new_node me life limits =
+      new-seen service workers me life limits e new out in
       record {
         did = record {
-          steps = node ∙ ap (λ (m : ℕ). new_node m first_life limits) (sym is_me);
+          steps = node ∙ ap (λ (m : ℕ). new_node m life limits) (sym is_me);
           worked_once = λ t r. omega arith;
           answers = tt;
         };

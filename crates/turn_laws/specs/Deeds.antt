@@ -6,7 +6,6 @@ use Rattle.rpc_outside.specs.declared.service.Mode.{Mode}
 use Rattle.rpc_outside.specs.Linking.{Carried}
 use Rattle.rpc_laws.specs.declared.tables.Timed.{Timed}
 use Rattle.rpc_laws.specs.AtMostOnce.{works_request}
-use Rattle.rpc_laws.specs.Lives.{first_life}
 use Rattle.rpc_laws.specs.NodeLists.{new_node}
 use Rattle.rpc_laws.specs.Service.{Serving, Answers}
 use Rattle.rpc_laws.specs.Steps.{Then}
@@ -40,12 +39,12 @@ abbrev pub noted_in : List Deed → List Fact
 noted_in [] = []
 noted_in (d ∷ ds) = d.noted ++ noted_in ds
 
--- ds is what a node did since it was made, with this number, these limits and this service, and t
--- what it is then: one deed after another, no job is worked twice, and each Ran has the service's
--- answer after what ran in the event loop before it
-pub record NodeDid (v : Serving) (me : ℕ) (limits : Limits) (ds : List Deed) (t : Timed)
+-- ds is what a node did since it was made, with this number, this life, these limits and this
+-- service, and t what it is then: one deed after another, no job is worked twice, and each Ran has
+-- the service's answer after what ran in the event loop before it
+pub record NodeDid (v : Serving) (me life : ℕ) (limits : Limits) (ds : List Deed) (t : Timed)
     : Type 0 where
-  pub steps : DoesAll v.mode ds (new_node me first_life limits) t
+  pub steps : DoesAll v.mode ds (new_node me life limits) t
   pub worked_once : (session request : ℕ)
       → count_by (λ f. works_request session request f.event) (noted_in ds) ≤ 1
   pub answers : Answers v [] (noted_in ds)

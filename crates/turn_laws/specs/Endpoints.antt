@@ -12,7 +12,6 @@ use Rattle.rpc_outside.specs.declared.service.Service as Service
 use Rattle.rpc_laws.specs.declared.tables.Timed.{Timed}
 use Rattle.rpc_laws.specs.Deliveries.{Delivers}
 use Rattle.rpc_laws.specs.Groups.{Asks, Connects, Disconnects, SetsRate}
-use Rattle.rpc_laws.specs.Lives.{first_life}
 use Rattle.rpc_laws.specs.NodeLists.{new_node}
 use Rattle.rpc_laws.specs.Service.{rules_of, served_after_all}
 use Rattle.rpc_laws.specs.Steps.{Rel}
@@ -34,11 +33,11 @@ use Rattle.worker_crew.specs.declared.workers.Workers as Workers
 abbrev pub seen : {V W : Type 0} → Workers.Ghosts W → Running V W → Timed
 seen workers e = told (workers.out e.workers) e.timed
 
--- ds is what this endpoint did since it was made with these limits: its node did so; its service
--- stands for what ran in the event loop; and its workers have exactly its jobs
+-- ds is what this endpoint did since it was made with this life and these limits: its node did so;
+-- its service stands for what ran in the event loop; and its workers have exactly its jobs
 pub record EndpointDid {V W : Type 0} (service : Service.Ghosts V) (workers : Workers.Ghosts W)
-    (limits : Limits) (ds : List Deed) (e : Running V W) : Type 0 where
-  pub did : NodeDid (rules_of service) e.timed.lists.me limits ds (seen workers e)
+    (life : ℕ) (limits : Limits) (ds : List Deed) (e : Running V W) : Type 0 where
+  pub did : NodeDid (rules_of service) e.timed.lists.me life limits ds (seen workers e)
   pub serves : service.stands e.service (served_after_all service.mode_of [] (noted_in ds))
   pub staffed : IsStaffed workers.answer (staff_of workers e.workers) e.timed
 
@@ -85,21 +84,22 @@ pub record DoesMore {R V W : Type 0} (log : R → Log) (service : Service.Ghosts
     : Type 0 where
   pub noted : List Fact
   pub grew : Grew (log before) (log now) noted
-  pub did : (limits : Limits) (ds : List Deed) → EndpointDid service workers limits ds old
-      → EndpointDid service workers limits (ds ++ record {
+  pub did : (life : ℕ) (limits : Limits) (ds : List Deed)
+      → EndpointDid service workers life limits ds old
+      → EndpointDid service workers life limits (ds ++ record {
         node = old.timed.lists.me;
         came = came;
         noted = noted;
       } ∷ []) new
   pub goes : GoesOnFrom service workers came noted old new
 
--- an endpoint that was just made did nothing yet
+-- an endpoint that was just made did nothing yet, whatever its life is
 abbrev pub NewDidNothing : {V W : Type 0} → Service.Ghosts V → Workers.Ghosts W → Type 0
 NewDidNothing {V} {W} service workers =
-    (me : ℕ) (limits : Limits) (e : Running V W) → e.timed ≡ new_node me first_life limits
+    (me life : ℕ) (limits : Limits) (e : Running V W) → e.timed ≡ new_node me life limits
     → workers.out e.workers ≡ [] → service.stands e.service []
     → IsStaffed workers.answer (staff_of workers e.workers) e.timed
-    → EndpointDid service workers limits [] e
+    → EndpointDid service workers life limits [] e
 
 -- a turn is a deed with the datagrams that came in it
 abbrev pub TurnsAreDeeds : {R K L V W : Type 0} → (R → Log) → Link.Ghosts L

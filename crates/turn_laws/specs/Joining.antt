@@ -26,7 +26,8 @@ pub record JoinsWire {V W : Type 0} (service : Service.Ghosts V) (workers : Work
   pub others : (m : ℕ) → m < length s.nodes
       → Stays m g (g ++ plain (length s.nodes) (Made ring) ∷ []) s end
 
--- so an endpoint joins that was just made, with the next number and its party's limits
+-- so an endpoint joins that was just made, with the next number, the first life and its party's
+-- limits
 abbrev pub NewEndpointsJoin : {V W : Type 0} → Service.Ghosts V → Workers.Ghosts W → Type 0
 NewEndpointsJoin {V} {W} service workers =
     (parties : ℕ → Party) (g : List Fact) (s : Joint) (ring : ℕ) (e : Running V W)

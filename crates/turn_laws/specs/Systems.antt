@@ -10,6 +10,7 @@ use Rattle.rpc_outside.specs.Linking.{Carried}
 use Rattle.rpc_laws.specs.declared.tables.Timed.{Timed}
 use Rattle.rpc_laws.specs.AtMostOnce.{Once}
 use Rattle.rpc_laws.specs.Facts.{plain}
+use Rattle.rpc_laws.specs.Lives.{first_life}
 use Rattle.rpc_laws.specs.OwnAnswer.{OwnBy}
 use Rattle.rpc_laws.specs.Service.{Serving}
 use Rattle.end_laws.specs.JointRun.{Party, Joint, services}
@@ -48,12 +49,13 @@ EachWasSent earlier [] = Unit {0}
 EachWasSent earlier (d ∷ ds) =
     AllByRecursion (WasSent earlier d.node) d.came × EachWasSent (earlier ++ d ∷ []) ds
 
--- ds is what the endpoints of a system did, one deed after another, and `left` what each is then.
--- Each datagram that came was sent before, by the peer that it is said to be from, to this node
+-- ds is what the endpoints of a system did in their first lives, one deed after another, and `left`
+-- what each is then. Each datagram that came was sent before, by the peer that it is said to be
+-- from, to this node
 pub record SystemDid (system : System) (ds : List Deed) (left : ℕ → Timed) : Type 0 where
   pub numbered : AllByRecursion (λ d. d.node < system.size) ds
   pub own : (n : ℕ) → n < system.size
-      → NodeDid (system.services n) n (system.limits n) (deeds_of n ds) (left n)
+      → NodeDid (system.services n) n first_life (system.limits n) (deeds_of n ds) (left n)
   pub sent : EachWasSent [] ds
 
 -- its history: each is made, and then there is what was noted in the deeds

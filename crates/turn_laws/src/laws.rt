@@ -35,14 +35,14 @@ pub fn endpoints_join_and_stay<V: Service, W: Workers>()
     ensures stays { EndpointsStay V.Service W.Workers }
 {}
 
-/// Two endpoints that each make an end of a session with the other's next number, at one moment of
-/// a wire run, go on with it by both calls.
+/// Two endpoints that each make an end of a session with the other's next number and life, at one
+/// moment of a wire run, go on with it by both calls.
 pub fn pairs_go_on_wires<V: Service, W: Workers, R: Recorder, X: Service, Y: Workers, P: Recorder>()
     ensures { PairsGoOnWires R.log V.Service W.Workers P.log X.Service Y.Workers }
 {}
 
-/// What the endpoints of a system do is a wire run, where each datagram that comes was sent before,
-/// by the peer that it is said to be from, to this node.
+/// What the endpoints of a system do in their first lives is a wire run, where each datagram that
+/// comes was sent before, by the peer that it is said to be from, to this node.
 pub fn systems_run_over_wires()
     ensures { SystemsRunOverWires }
 {}

@@ -81,9 +81,10 @@ impl<V: Service, W: Workers> Endpoint<V, W> {
     /// finished, handles the control packets of the inbox and the packets of the receive ring,
     /// looks at the timers, begins and posts what its sessions may, sends what is queued, and ends
     /// with a Polled. Its clock doesn't fall. Calls that end go to `k`. A busy link stops the
-    /// sending of what is queued. So does a fault of the link; the packet that met it stays in front
-    /// of the queue. A control packet that the link doesn't take is gone. `LinkFault` comes at the
-    /// end of the poll, exactly where a fault of the link came in it.
+    /// sending of what is queued. So does a fault of the link; the packet that met it stays in
+    /// front of the queue. A control packet that the link doesn't take is gone. `LinkFault` comes
+    /// at the end of the poll, exactly where a fault of the link came in it. No request of one
+    /// packet is dropped for want of memory, where it is handled inline and its answer fits in one.
     pub fn poll<L: Link, K: Continuation, R: Recorder>(
         &mut self,
         now: u64,

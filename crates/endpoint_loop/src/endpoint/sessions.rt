@@ -12,6 +12,7 @@ ghost use Rattle.session_mgmt.specs.Refusals.{refused, closing};
 ghost use Rattle.rpc_base.specs.declared.event.Event.TheVariants.{Closing};
 
 use crate::endpoint::Endpoint;
+use packet_header::Life;
 use rpc_base::{MOST_CREDITS, Peer, SESSION_NUMBERS, SessionNo, SessionState};
 use rpc_outside::{Recorder, Service};
 use session_mgmt::{CloseError, ConnectError};
@@ -19,46 +20,54 @@ use worker_crew::Workers;
 
 impl<V: Service, W: Workers> Endpoint<V, W> {
     /// Makes the client end of a session with a peer that is connected from the start, with the
-    /// next number and 1 to 256 credits. The other end has the number `server`. `NumbersSpent`
-    /// comes exactly where 65,535 numbers of client sessions were used, then `RingFull` exactly
-    /// where the credits of the live sessions and these are more than the ring is long; both are
-    /// noted. `NoMemory` is noted nowhere. A refusal makes no session.
+    /// next number and 1 to 256 credits. The other end has the number `server`, in the life `life`
+    /// of its endpoint, 1 or more, which comes to be known. `NumbersSpent` comes exactly where
+    /// 65,535 numbers of client sessions were used, then `RingFull` exactly where the credits of
+    /// the live sessions and these are more than the ring is long; both are noted. `NoMemory` is
+    /// noted nowhere. A refusal makes no session.
     pub fn pair_client<R: Recorder>(
         &mut self,
         peer: Peer,
+        life: Life,
         server: SessionNo,
         credits: u16,
         rec: &mut R,
     ) -> Result<SessionNo, ConnectError>
+        requires life { 1 ≤ life }
         requires server { server < SESSION_NUMBERS }
         requires some { 1 ≤ credits }
         requires most { credits ≤ MOST_CREDITS }
-        ensures { OpensClient R.log V.Service W.Workers credits (PairsClient peer server credits)
-            result (self.old ⟶ self.new) (rec.old ⟶ rec.new) }
+        ensures { OpensClient R.log V.Service W.Workers credits
+            (PairsClient peer server credits life) result (self.old ⟶ self.new)
+            (rec.old ⟶ rec.new) }
     {
         self.node
-            .pair_client(self.alloc, peer, server, credits, rec)
+            .pair_client(self.alloc, peer, life, server, credits, rec)
     }
 
     /// Makes the server end of a session with a peer that is connected from the start, with the
-    /// next number and 1 to 256 credits. The other end has the number `client`. `NumbersSpent`
-    /// comes exactly where 65,535 numbers of server sessions were used, then `RingFull` exactly
-    /// where the credits of the live sessions and these are more than the ring is long; both are
-    /// noted. `NoMemory` is noted nowhere. A refusal makes no session.
+    /// next number and 1 to 256 credits. The other end has the number `client`, in the life `life`
+    /// of its endpoint, 1 or more, which comes to be known. `NumbersSpent` comes exactly where
+    /// 65,535 numbers of server sessions were used, then `RingFull` exactly where the credits of
+    /// the live sessions and these are more than the ring is long; both are noted. `NoMemory` is
+    /// noted nowhere. A refusal makes no session.
     pub fn pair_server<R: Recorder>(
         &mut self,
         peer: Peer,
+        life: Life,
         client: SessionNo,
         credits: u16,
         rec: &mut R,
     ) -> Result<SessionNo, ConnectError>
+        requires life { 1 ≤ life }
         requires client { client < SESSION_NUMBERS }
         requires some { 1 ≤ credits }
         requires most { credits ≤ MOST_CREDITS }
-        ensures { OpensServer R.log V.Service W.Workers credits (PairsServer peer client credits)
-            result (self.old ⟶ self.new) (rec.old ⟶ rec.new) }
+        ensures { OpensServer R.log V.Service W.Workers credits
+            (PairsServer peer client credits life) result (self.old ⟶ self.new)
+            (rec.old ⟶ rec.new) }
     {
-        self.node.pair_server(peer, client, credits, rec)
+        self.node.pair_server(peer, life, client, credits, rec)
     }
 
     /// Opens a session to a peer with the next number, 1 to 256 credits and a rate in bytes per

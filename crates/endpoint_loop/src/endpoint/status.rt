@@ -4,17 +4,34 @@ ghost use Rattle.std.specs.List.{find};
 ghost use Rattle.endpoint_node.specs.Due.{IsFirstDue};
 ghost use Rattle.endpoint_node.specs.Status.{IsQuiet, free_told, pending_told};
 ghost use Rattle.rpc_laws.specs.Groups.{pair_refusal};
+ghost use Rattle.rpc_laws.specs.NodeLists.{limits_of};
 ghost use Rattle.rpc_laws.specs.Sessions.{is_client};
 ghost use Rattle.session_mgmt.specs.Refusals.{refused};
 
 use crate::endpoint::Endpoint;
-use rpc_base::{MOST_CREDITS, SessionNo};
+use packet_header::Life;
+use rpc_base::{Limits, MOST_CREDITS, SessionNo};
 use rpc_laws::Counted;
 use rpc_outside::Service;
 use session_mgmt::ConnectError;
 use worker_crew::Workers;
 
 impl<V: Service, W: Workers> Endpoint<V, W> {
+    /// Its life, 1 or more.
+    pub fn life(&self) -> Life
+        ensures life { result ≡ self.now.timed.lists.life }
+        ensures some { 1 ≤ result }
+    {
+        self.node.life()
+    }
+
+    /// The limits that it was made with.
+    pub fn limits(&self) -> Limits
+        ensures { result ≡ limits_of self.now.timed.lists }
+    {
+        self.node.limits()
+    }
+
     /// Whether there are a number of either kind and room for a session with so many credits, 1 to
     /// 256. `NumbersSpent` comes exactly where 65,535 numbers of a kind were used, and then
     /// `RingFull` exactly where the credits of the live sessions and these are more than the ring

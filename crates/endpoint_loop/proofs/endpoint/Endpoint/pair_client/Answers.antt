@@ -14,10 +14,10 @@ returns g c = record {
   leaves = rw (← c.self.view_is) (record { service = refl; workers = refl; jobs = c.pair_client.ensures.jobs });
   goes_on = rw (← c.self.view_is) (paired-or _ _ _ _
       (λ makes. goes-on g.R.Recorder.log
-      g.V.Service g.W.Workers (PairsClient c.args.peer c.args.server c.args.credits) _ _ _ _ makes
-      (client-group g.V.Service.mode_of c.args.peer c.args.server c.args.credits
+      g.V.Service g.W.Workers (PairsClient c.args.peer c.args.server c.args.credits c.args.life) _ _ _ _ makes
+      (client-group g.V.Service.mode_of c.args.peer c.args.server c.args.credits c.args.life
       (record { some = c.requires.some; few = c.requires.most }) c.requires.server)
-      (client-still c.args.peer c.args.server c.args.credits)
+      (client-still c.args.peer c.args.server c.args.credits c.args.life)
       (record { service = refl; workers = refl; jobs = c.pair_client.ensures.jobs }))
       (λ still same. goes-nowhere g.R.Recorder.log
       g.V.Service g.W.Workers _ _ _ _ (ap (λ n. record {

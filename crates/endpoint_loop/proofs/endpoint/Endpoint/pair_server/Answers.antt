@@ -22,10 +22,10 @@ returns g c = record {
   leaves = rw (← c.self.view_is) (record { service = refl; workers = refl; jobs = c.pair_server.ensures.jobs });
   goes_on = rw (← c.self.view_is) (paired-or _ _ _ _
       (λ makes. goes-on g.R.Recorder.log
-      g.V.Service g.W.Workers (PairsServer c.args.peer c.args.client c.args.credits) _ _ _ _ makes
-      (server-group g.V.Service.mode_of c.args.peer c.args.client c.args.credits
+      g.V.Service g.W.Workers (PairsServer c.args.peer c.args.client c.args.credits c.args.life) _ _ _ _ makes
+      (server-group g.V.Service.mode_of c.args.peer c.args.client c.args.credits c.args.life
       (record { some = c.requires.some; few = c.requires.most }) c.requires.client)
-      (server-still c.args.peer c.args.client c.args.credits)
+      (server-still c.args.peer c.args.client c.args.credits c.args.life)
       (record { service = refl; workers = refl; jobs = c.pair_server.ensures.jobs }))
       (λ still same. goes-nowhere g.R.Recorder.log
       g.V.Service g.W.Workers _ _ _ _ (ap (λ n. record {

@@ -49,7 +49,7 @@ returns-clause-polls g c =
     c.finish_all.ensures.step.limit c.finish_all.ensures.step.given c.finish_all.ensures.step.waiting
     c.hear_all-heard.result c.watch-asked.result
     c.hear_all-heard.ensures.step.listens c.hear_all-heard.ensures.step.rest.jobs c.hear_all-heard.ensures.step.rest.me
-    c.hear_all-heard.ensures.inbox c.handle_all-handled.ensures.handles
+    c.hear_all-heard.ensures.step.rest.ring c.hear_all-heard.ensures.inbox c.handle_all-handled.ensures.handles
     c.handle_all-handled.ensures.rest.worked c.handle_all-handled.ensures.rest.looks
     c.handle_all-handled.ensures.rest.me c.watch-asked.ensures.step.timed
     c.post_sessions.ensures.makes c.send_all-sent.ensures.sent c.send_all-sent.ensures.held
