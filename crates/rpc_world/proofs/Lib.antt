@@ -2,12 +2,14 @@ pub mod CallLemmas
 pub mod CrewLemmas
 pub mod EndLemmas
 pub mod FollowLemmas
+pub mod LeftLemmas
 pub mod LineLemmas
 pub mod NetLemmas
 pub mod PairLemmas
 pub mod PlainLemmas
 pub mod PollingLemmas
 pub mod QuietLemmas
+pub mod RestartLemmas
 pub mod ServedLaws
 pub mod StageLemmas
 pub mod StandLemmas

@@ -109,7 +109,7 @@ module _ (ring : ℕ) (z : Play) (e : End)
       limit_is = refl;
       given_is = refl;
     };
-    knows = new-knows (length z.ends) (with_ring ring) z.worked
+    knows = new-knows (length z.ends) first_life (with_ring ring) z.worked
         (record { limit = 64; given = 0; waiting = []; worked = [] })
         (none-of (length z.ends) z.worked a.theirs) refl refl;
   })

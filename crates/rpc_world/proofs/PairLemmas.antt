@@ -26,7 +26,7 @@ use Rattle.sim_script.specs.FollowsScript.{Pairs, PairsEnds, is_wanting, noted}
 use Rattle.rpc_world.specs.Answered.{End, Plainly, Play, stage_of, told_end, totals_of}
 use Rattle.rpc_world.specs.Before.{AllPlay, IsPlaying}
 use Rattle.rpc_world.specs.Performed.{Performed, AsksServer, NotesRefusal, TakesEnd, TakesEnds}
-use Rattle.rpc_world.proofs.PlainLemmas.{is_ran, plainly-append, plainly-quiet, unran-quiet}
+use Rattle.rpc_world.proofs.PlainLemmas.{changes_served, plainly-append, plainly-quiet, kept-quiet}
 use Rattle.rpc_world.proofs.QuietLemmas.{IsStill, leaving-step}
 use Rattle.rpc_world.proofs.StepLemmas.{NodeStep, stepped_play, steps-play}
 use Rattle.work_laws.proofs.StayLaws.{goes-stays}
@@ -70,13 +70,13 @@ fits-own a credits z s client view fits at =
     (fits client (ap (λ (y : Play). slice_get y.ends a) (sym view) ∙ at))
 
 -- an end that nothing refuses is made
-pub client-made : (peer other credits : ℕ) (e new : End) (x : List Fact)
+pub client-made : (peer other credits life : ℕ) (e new : End) (x : List Fact)
     → client_refusal credits e.timed.lists ≡ None
-    → ((asks : Asks) → PairsClient peer other credits (asking asks e.timed) x (asking asks new.timed))
-    → (asks : Asks) → NotesNext (λ l. Some (PairedClient (length l.clients) peer other credits))
+    → ((asks : Asks) → PairsClient peer other credits life (asking asks e.timed) x (asking asks new.timed))
+    → (asks : Asks) → NotesNext (λ l. Some (PairedClient (length l.clients) peer other credits life))
     (asking asks e.timed) x (asking asks new.timed)
-client-made peer other credits e new x none step asks =
-    let made = PairedClient (length e.timed.lists.clients) peer other credits in
+client-made peer other credits life e new x none step asks =
+    let made = PairedClient (length e.timed.lists.clients) peer other credits life in
     let h = step asks in
     record {
       event = made;
@@ -85,13 +85,13 @@ client-made peer other credits e new x none step asks =
       goes = h.goes;
     }
 
-pub server-made : (peer other credits : ℕ) (e new : End) (x : List Fact)
+pub server-made : (peer other credits life : ℕ) (e new : End) (x : List Fact)
     → server_refusal credits e.timed.lists ≡ None
-    → ((asks : Asks) → PairsServer peer other credits (asking asks e.timed) x (asking asks new.timed))
-    → (asks : Asks) → NotesNext (λ l. Some (PairedServer l.server_numbers peer other credits))
+    → ((asks : Asks) → PairsServer peer other credits life (asking asks e.timed) x (asking asks new.timed))
+    → (asks : Asks) → NotesNext (λ l. Some (PairedServer l.server_numbers peer other credits life))
     (asking asks e.timed) x (asking asks new.timed)
-server-made peer other credits e new x none step asks =
-    let made = PairedServer e.timed.lists.server_numbers peer other credits in
+server-made peer other credits life e new x none step asks =
+    let made = PairedServer e.timed.lists.server_numbers peer other credits life in
     let h = step asks in
     record {
       event = made;
@@ -110,20 +110,20 @@ fits-other a b credits z s client2 server view other fits at =
 -- a refusal runs nothing, and is no want
 refused-plain : (a b : Bool) (x y z : ℕ) (e : Event)
     → cond a (Some NconnectNumbers) (cond b (Some (NconnectRing x y z)) None) ≡ Some e
-    → (is_ran e ≡ false) × (is_wanting e ≡ false)
+    → (changes_served e ≡ false) × (is_wanting e ≡ false)
 refused-plain true b x y z e is =
     let same : NconnectNumbers ≡ e = cc in
-    subst (λ (g : Event). (is_ran g ≡ false) × (is_wanting g ≡ false)) same (refl, refl)
+    subst (λ (g : Event). (changes_served g ≡ false) × (is_wanting g ≡ false)) same (refl, refl)
 refused-plain false true x y z e is =
     let same : NconnectRing x y z ≡ e = cc in
-    subst (λ (g : Event). (is_ran g ≡ false) × (is_wanting g ≡ false)) same (refl, refl)
+    subst (λ (g : Event). (changes_served g ≡ false) × (is_wanting g ≡ false)) same (refl, refl)
 refused-plain false false x y z e is = cc
 
 plainly-refused : (l : Lists) (credits : ℕ) (e : Event) (a : List ℕ)
     → pair_refusal credits l ≡ Some e → Plainly (plain l.me e ∷ []) a a
 plainly-refused l credits e a is =
     let p = refused-plain (clients_spent l || servers_spent l) (has_no_room credits l) (shares l) credits l.room e is in
-    plainly-quiet l.me (plain l.me e ∷ []) a (refl, tt) (unran-quiet (plain l.me e ∷ []) (p.0, tt))
+    plainly-quiet l.me (plain l.me e ∷ []) a (refl, tt) (kept-quiet (plain l.me e ∷ []) (p.0, tt))
     (rw p.1 refl)
 
 -- one fact is noted of an end that is made
@@ -169,16 +169,17 @@ notes-end n next worked e new x still whole leaves step =
     }
 
 -- both ends are made
-module _ (a b credits p q : ℕ) (z : Play) (client client2 server server2 : End) (x y : List Fact) (other : b ≢ a)
+module _ (a b credits p q u v : ℕ) (z : Play) (client client2 server server2 : End) (x y : List Fact) (other : b ≢ a)
     (is_a : slice_get z.ends a ≡ Some client) (is_b : slice_get (slice_set z.ends a client2) b ≡ Some server)
     (is_p : p ≡ length client.timed.lists.clients) (is_q : q ≡ server.timed.lists.server_numbers)
-    (m : NotesEnd a (λ l. PairedClient (length l.clients) b q credits) z.worked client client2 x)
-    (n : NotesEnd b (λ l. PairedServer l.server_numbers a p credits) z.worked server server2 y) where
+    (is_u : u ≡ client.timed.lists.life) (is_v : v ≡ server.timed.lists.life)
+    (m : NotesEnd a (λ l. PairedClient (length l.clients) b q credits v) z.worked client client2 x)
+    (n : NotesEnd b (λ l. PairedServer l.server_numbers a p credits u) z.worked server server2 y) where
   abbrev at_client : Fact
-  at_client = plain client.timed.lists.me (PairedClient (length client.timed.lists.clients) b q credits)
+  at_client = plain client.timed.lists.me (PairedClient (length client.timed.lists.clients) b q credits v)
 
   abbrev at_server : Fact
-  at_server = plain server.timed.lists.me (PairedServer server.timed.lists.server_numbers a p credits)
+  at_server = plain server.timed.lists.me (PairedServer server.timed.lists.server_numbers a p credits u)
 
   abbrev one : Play
   one = record z { ends = slice_set z.ends a client2 }
@@ -194,8 +195,8 @@ module _ (a b credits p q : ℕ) (z : Play) (client client2 server server2 : End
   pairs-ends = record {
     at_client = at_client;
     at_server = at_server;
-    for_client = rw is_q refl;
-    for_server = rw is_p refl;
+    for_client = rw (is_q, is_v) refl;
+    for_server = rw (is_p, is_u) refl;
     facts = refl;
     left = ap (λ (ns : List Timed). record (stage_of z) { nodes = ns })
         (map-set told_end (slice_set z.ends a client2) b server2

@@ -6,7 +6,7 @@ use Rattle.std.proofs.lemmas.Bool.{cases_eq, eq-eqb, ne_eqb}
 use Rattle.std.proofs.lemmas.List.Elements.{filter-append}
 use Rattle.end_laws.proofs.OwnFacts.{IsOwn}
 use Rattle.rpc_base.specs.declared.event.Event.{Event}
-use Rattle.rpc_base.specs.declared.event.Event.TheVariants.{Ran}
+use Rattle.rpc_base.specs.declared.event.Event.TheVariants.{Ran, Restarted}
 use Rattle.rpc_base.specs.declared.fact.Fact.{Fact}
 use Rattle.rpc_base.specs.declared.fact.Who.TheVariants.{Node}
 use Rattle.rpc_laws.specs.AtMostOnce.{is_at}
@@ -46,37 +46,40 @@ serves-append a b c x y p q served stands =
       subst (λ (z : Served). PlainStands c z) (sym (served-append plain_mode served x y)) two.1,
     )
 
--- facts of which none is a Ran
-abbrev pub is_ran : Event → Bool
-is_ran (Ran session request req_type) = true
-is_ran _ = false
+-- facts of which none is a Ran, nor a Restarted
+abbrev pub changes_served : Event → Bool
+changes_served (Ran session request req_type) = true
+changes_served (Restarted life) = true
+changes_served _ = false
 
-unran-answers : (e : Event) (served : Served) (first second : List ℕ) → is_ran e ≡ false
+kept-answers : (e : Event) (served : Served) (first second : List ℕ) → changes_served e ≡ false
     → AnswersAt plain_serving served e first second
-unran-answers (Ran t r y) served first second h = cc
-unran-answers _ served first second h = tt
+kept-answers (Ran t r y) served first second h = cc
+kept-answers _ served first second h = tt
 
-unran-served : (e : Event) (served : Served) (first : List ℕ) → is_ran e ≡ false
+kept-served : (e : Event) (served : Served) (first : List ℕ) → changes_served e ≡ false
     → served_after plain_mode e first served ≡ served
-unran-served (Ran t r y) served first h = cc
-unran-served _ served first h = refl
+kept-served (Ran t r y) served first h = cc
+kept-served (Restarted life) served first h = cc
+kept-served _ served first h = refl
 
-pub unran-quiet : (x : List Fact) → AllByRecursion (λ f. is_ran f.event ≡ false) x → Quiet x
-unran-quiet [] h served = (tt, refl)
-unran-quiet (f ∷ x) h served =
-    let same = unran-served f.event served f.first h.0 in
-    let rest = unran-quiet x h.1 (served_after plain_mode f.event f.first served) in
-    ((unran-answers f.event served f.first f.second h.0, rest.0), rest.1 ∙ same)
+pub kept-quiet : (x : List Fact) → AllByRecursion (λ f. changes_served f.event ≡ false) x → Quiet x
+kept-quiet [] h served = (tt, refl)
+kept-quiet (f ∷ x) h served =
+    let same = kept-served f.event served f.first h.0 in
+    let rest = kept-quiet x h.1 (served_after plain_mode f.event f.first served) in
+    ((kept-answers f.event served f.first f.second h.0, rest.0), rest.1 ∙ same)
 
-idle-event : (e : Event) → changes_work e ≡ false → is_ran e ≡ false
+idle-event : (e : Event) → changes_work e ≡ false → changes_served e ≡ false
 idle-event (Ran t r y) h = cc
+idle-event (Restarted life) h = cc
 idle-event _ h = refl
 
 pub idle-quiet : (x : List Fact) → AllByRecursion (λ f. changes_work f.event ≡ false) x → Quiet x
-idle-quiet x h = unran-quiet x (each x h)
+idle-quiet x h = kept-quiet x (each x h)
   where
     each : (y : List Fact) → AllByRecursion (λ f. changes_work f.event ≡ false) y
-        → AllByRecursion (λ f. is_ran f.event ≡ false) y
+        → AllByRecursion (λ f. changes_served f.event ≡ false) y
     each [] h = tt
     each (f ∷ y) h = (idle-event f.event h.0, each y h.1)
 

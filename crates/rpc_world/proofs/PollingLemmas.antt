@@ -47,7 +47,6 @@ use Rattle.work_laws.proofs.PollLaws.{polls-known}
 use Rattle.work_laws.specs.Known.{FinishesFirst, job_name, left_names, worked_as}
 use Rattle.work_laws.specs.Laws.{PollsKnown, PollsWith}
 use Rattle.worker_board.specs.declared.Parcel.{Parcel}
-use Rattle.worker_crew.specs.Local.{Local}
 
 -- a link that is never busy doesn't stop the sending, where it doesn't fail
 pub never-busy : (b : Bool) → (b ≡ true → HasRisen 0 0) → b ≡ false

@@ -18,7 +18,7 @@ use Rattle.rpc_laws.specs.Facts.{with_bytes}
 use Rattle.rpc_laws.specs.Front.{is_control, is_message}
 use Rattle.rpc_laws.specs.Groups.{Asks, Connects, Disconnects, SetsRate, pair_refusal}
 use Rattle.rpc_laws.specs.InFlight.{flight_after_all}
-use Rattle.rpc_laws.specs.NodeLists.{new_node}
+use Rattle.rpc_laws.specs.NodeLists.{new_node, restarted}
 use Rattle.rpc_laws.specs.Lives.{first_life}
 use Rattle.rpc_laws.specs.PollOrder.{PollBy, SendsAll}
 use Rattle.rpc_laws.specs.Steps.{Rel}
@@ -31,9 +31,9 @@ use Rattle.rpc_world.specs.Before.{IsNumbered, Names}
 use Rattle.script_grammar.specs.declared.line.Command.{Command}
 use Rattle.script_grammar.specs.declared.line.Command.TheVariants.{Node, Pair, Connect, Disconnect}
 use Rattle.script_grammar.specs.declared.line.Command.TheVariants.{Rate, Call, Poll, Arrive, Lose}
-use Rattle.script_grammar.specs.declared.line.Command.TheVariants.{Repeat, Tick, Work, Settle}
+use Rattle.script_grammar.specs.declared.line.Command.TheVariants.{Repeat, Restart, Tick, Work, Settle}
 use Rattle.sim_script.specs.FollowsScript.{AtNode, Carries, Does, Joins, Makes, OfNet, Pairs}
-use Rattle.sim_script.specs.FollowsScript.{PairsBy, PairsEnds, PollsFirst, PollsNode, Round}
+use Rattle.sim_script.specs.FollowsScript.{PairsBy, PairsEnds, PollsFirst, PollsNode, Restarts, Round}
 use Rattle.sim_script.specs.FollowsScript.{Settles, Ticks, Times, Unless, WorksFirst, WorksNode}
 use Rattle.sim_script.specs.FollowsScript.{ask_bytes, is_polled, noted, or_missed}
 
@@ -72,6 +72,9 @@ stays-worked n s x t h = stays-at (WorksAll s.worked) n s x t h
 
 stays-net : (e : Event) → StaysBy (OfNet e)
 stays-net e s x t h = stays-by s t _ h.left refl refl
+
+stays-restarted : (n : ℕ) → StaysBy (Restarts n)
+stays-restarted n s x t h = stays-by s t _ h.left (length-slice_set s.nodes n (restarted h.before)) refl
 
 -- a pairing
 stays-ends : (a b credits : ℕ) (client server : Timed) (s : Stage) (x : List Fact) (t : Stage)
@@ -201,6 +204,8 @@ does-leaves (Work n i) s x t h =
     leaves-of (Work n i) s t refl refl (stays-at (Works s.worked i) n s x t h)
 does-leaves (Settle rounds) s x t h =
     leaves-of (Settle rounds) s t refl refl (stays-settles rounds s x t h)
+does-leaves (Restart n) s x t h =
+    leaves-of (Restart n) s t refl refl (stays-restarted n s x t h)
 
 -- a delivery sends nothing
 delivery-flight : (me peer : ℕ) (bytes : List ℕ) (copies : List InFlight) (a b c d : Bool)

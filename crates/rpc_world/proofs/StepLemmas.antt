@@ -1,8 +1,9 @@
 -- A step of one node, as what a script did.
-use Rattle.std.proofs.Common.{◌≡◌, ℕ, zero, suc, ◌<◌, Bool, true, Option, Some, List, [], ◌∷◌, ◌++◌}
+use Rattle.std.proofs.Common.{◌≡◌, ℕ, zero, suc, ◌<◌, Bool, true, false, cond, not, ◌==◌, Option}
+use Rattle.std.proofs.Common.{Some, List, [], ◌∷◌, ◌++◌}
 use Rattle.std.proofs.Common.{◌≤◌, append_assoc, length, length-append, drop, subst, sym, ap, ◌∙◌, arith, inl, inr}
 use Rattle.std.specs.Prelude.{option_map}
-use Rattle.std.specs.List.{AllByRecursion, slice_get, slice_set}
+use Rattle.std.specs.List.{AllByRecursion, filter, slice_get, slice_set}
 use Rattle.std.proofs.Math.Seq.{drop-append_seam}
 use Rattle.std.proofs.lemmas.Bool.{cases_eq}
 use Rattle.std.proofs.lemmas.Option.{slice_get-map}
@@ -11,7 +12,7 @@ use Rattle.end_laws.proofs.ListLemmas.{all-without, length-slice_set}
 use Rattle.ring_laws.proofs.Frames.{map-set}
 use Rattle.network_model.specs.declared.stage.Stage.{Stage}
 use Rattle.rpc_base.specs.declared.event.Event.{Event}
-use Rattle.rpc_base.specs.declared.event.Event.TheVariants.{Ran, Worked}
+use Rattle.rpc_base.specs.declared.event.Event.TheVariants.{Ran, Restarted, Worked}
 use Rattle.rpc_base.specs.declared.fact.Fact.{Fact}
 use Rattle.rpc_base.proofs.PlaceLemmas.{set-here, set-other}
 use Rattle.rpc_laws.specs.declared.tables.Timed.{Timed}
@@ -68,12 +69,25 @@ theirs-more : (n : ℕ) (worked : List WorkedJob) (w : WorkedJob) → w.node < n
 theirs-more n [] w h all = (h, tt)
 theirs-more n (v ∷ worked) w h all = (all.0, theirs-more n worked w h all.1)
 
+kept-by : (n : ℕ) (w : WorkedJob) (rest : List WorkedJob) (b : Bool) → w.node < n → AreTheirs n rest
+    → AreTheirs n (cond b (w ∷ rest) rest)
+kept-by n w rest true less all = (less, all)
+kept-by n w rest false less all = all
+
+theirs-left : (n : ℕ) (p : WorkedJob → Bool) (worked : List WorkedJob) → AreTheirs n worked
+    → AreTheirs n (filter p worked)
+theirs-left n p [] all = tt
+theirs-left n p (w ∷ worked) all =
+    kept-by n w (filter p worked) (p w) all.0 (theirs-left n p worked all.1)
+
 theirs-event : (n m : ℕ) (e : Event) (worked : List WorkedJob) → m < n → AreTheirs n worked
     → AreTheirs n (worked_after_node m e worked)
 theirs-event n m (Worked t r) worked less all =
     theirs-more n worked (record { node = m; session = t; request = r }) less all
 theirs-event n m (Ran t r y) worked less all =
     all-without (λ (w : WorkedJob). w.node < n) (is_worked m t r) worked all
+theirs-event n m (Restarted life) worked less all =
+    theirs-left n (λ (w : WorkedJob). not (w.node == m)) worked all
 theirs-event n m _ worked less all = all
 
 pub theirs-all : (n m : ℕ) (x : List Fact) (worked : List WorkedJob) → m < n → AllOf m x

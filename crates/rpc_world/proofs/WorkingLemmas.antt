@@ -22,7 +22,7 @@ use Rattle.rpc_world.specs.Performed.{Performed, work_event}
 use Rattle.rpc_world.specs.Worked.{WorksAllAt}
 use Rattle.rpc_world.proofs.CrewLemmas.{job-plays, job-works, told-same}
 use Rattle.rpc_world.proofs.EndLemmas.{valid-told}
-use Rattle.rpc_world.proofs.PlainLemmas.{AllOf, is_ran, unran-quiet}
+use Rattle.rpc_world.proofs.PlainLemmas.{AllOf, changes_served, kept-quiet}
 use Rattle.rpc_world.proofs.StepLemmas.{NodeStep, grew-both, performed-as, quiet-plain}
 use Rattle.sim_script.specs.FollowsScript.{AtNode, WorksNode}
 use Rattle.work_laws.proofs.HistoryLemmas.{worked-append}
@@ -132,9 +132,9 @@ works-own : (me : ℕ) (jobs : List Job) → AllOf me (works_at me jobs)
 works-own me [] = tt
 works-own me (job ∷ jobs) = (refl, works-own me jobs)
 
-works-unran : (me : ℕ) (jobs : List Job) → AllByRecursion (λ f. is_ran f.event ≡ false) (works_at me jobs)
-works-unran me [] = tt
-works-unran me (job ∷ jobs) = (refl, works-unran me jobs)
+works-kept : (me : ℕ) (jobs : List Job) → AllByRecursion (λ f. changes_served f.event ≡ false) (works_at me jobs)
+works-kept me [] = tt
+works-kept me (job ∷ jobs) = (refl, works-kept me jobs)
 
 works-whole : (me : ℕ) (jobs : List Job) → Whole (works_at me jobs)
 works-whole me [] = refl
@@ -156,7 +156,7 @@ all-worked n worked e new r q w p =
       own = mine;
       plain = quiet-plain n e new w.noted w.service mine
           (subst (λ (x : List Fact). Quiet x) (sym works.facts)
-          (unran-quiet (works_at e.timed.lists.me jobs) (works-unran e.timed.lists.me jobs)))
+          (kept-quiet (works_at e.timed.lists.me jobs) (works-kept e.timed.lists.me jobs)))
           (subst (λ (x : List Fact). Whole x) (sym works.facts) (works-whole e.timed.lists.me jobs));
       plays = subst (λ (m : ℕ). IsPlaying (worked_after_all worked w.noted) m new) p.me (w.plays worked own);
     }

@@ -1,5 +1,5 @@
 -- What the working of an endpoint's jobs does.
-use Rattle.std.specs.Prelude.{◌≡◌, List, Some}
+use Rattle.std.specs.Prelude.{◌≡◌, List}
 use Rattle.rpc_world.specs.Logged.{log_of}
 use Rattle.rpc_base.specs.declared.fact.Fact.{Fact}
 use Rattle.rpc_laws.specs.declared.tables.WorkedJob.{WorkedJob}

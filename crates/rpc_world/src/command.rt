@@ -12,6 +12,7 @@ use crate::making::make_node;
 use crate::network::{note_of_net, perform_net};
 use crate::pairing::pair;
 use crate::rating::rate_on;
+use crate::restarting::restart_node;
 use crate::running::Running;
 use crate::settling::settle;
 use crate::stepping::{arrive, poll_node};
@@ -94,5 +95,6 @@ pub fn execute(
         Command::Tick { by } => tick(stage, rec, *by),
         Command::Work { node, job } => work_job(stage, rec, *node, *job),
         Command::Settle { rounds } => settle(alloc, stage, rec, *rounds),
+        Command::Restart { node } => restart_node(alloc, stage, rec, *node),
     }
 }

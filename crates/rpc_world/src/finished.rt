@@ -1,9 +1,9 @@
 //! The jobs that were worked and aren't finished.
-ghost use Rattle.std.specs.Prelude.{◌≡◌, OnOk};
+ghost use Rattle.std.specs.Prelude.{◌≡◌, ◌==◌, not, OnOk};
 ghost use Rattle.rpc_base.specs.Tables.{without_first};
 ghost use Rattle.rpc_laws.specs.Working.{is_worked, worked_after, worked_after_all};
 ghost use Rattle.rpc_laws.specs.Working.{worked_after_node};
-ghost use Rattle.std.specs.List.{position};
+ghost use Rattle.std.specs.List.{filter, position};
 
 use rpc_base::{Event, Fact, Listed, NoMemory, NodeId, RequestNo, SessionNo, Who};
 use rpc_laws::WorkedJob;
@@ -28,6 +28,24 @@ fn take_out(worked: &mut Listed<WorkedJob>, node: NodeId, session: SessionNo, re
     }
 }
 
+fn place_at(worked: &Listed<WorkedJob>, node: NodeId) -> Option<usize>
+    ensures { result ≡ position (λ w. w.node == node) worked.now }
+{
+    worked
+        .as_slice()
+        .iter()
+        .position(|job| job.node.0 == node.0)
+}
+
+// Those of a node that is made anew are gone.
+fn leave_out(worked: &mut Listed<WorkedJob>, node: NodeId)
+    ensures { worked.new ≡ filter (λ w. not (w.node == node)) worked.old }
+{
+    'jobs: while let Some(place) = place_at(worked, node) {
+        let _job = worked.remove_at(place);
+    }
+}
+
 fn keep_of(worked: &mut Listed<WorkedJob>, node: NodeId, event: &Event) -> Result<(), NoMemory>
     ensures { OnOk result (worked.new ≡ worked_after_node node event.now worked.old) }
 {
@@ -45,6 +63,10 @@ fn keep_of(worked: &mut Listed<WorkedJob>, node: NodeId, event: &Event) -> Resul
             ..
         } => {
             take_out(worked, node, *session, *request);
+            Ok(())
+        }
+        Event::Restarted { .. } => {
+            leave_out(worked, node);
             Ok(())
         }
         _ => Ok(()),

@@ -11,6 +11,7 @@ mod making;
 mod network;
 mod pairing;
 mod rating;
+mod restarting;
 mod running;
 mod settling;
 mod stepping;

@@ -1,11 +1,14 @@
 //! A node is made.
-ghost use Rattle.std.specs.Prelude.{◌<◌, ◌≤◌, length, OnOk};
+ghost use Rattle.std.specs.Prelude.{◌≡◌, ◌<◌, ◌≤◌, [], length, IfOk, OnOk};
+ghost use Rattle.rpc_base.specs.Limits.{Fits};
+ghost use Rattle.rpc_laws.specs.NodeLists.{new_node};
 ghost use Rattle.sim_script.specs.FollowsScript.{Makes};
 ghost use Rattle.rpc_world.specs.Performed.{Performed};
 
 use crate::landing::check_whole;
 use crate::running::Running;
 use endpoint_loop::Endpoint;
+use packet_header::{FIRST_LIFE, Life};
 use rpc_base::{
     Event, LEAST_RING, Limits, MOST_RING, NoMemory, NodeId, USUAL_JOBS, USUAL_TIMEOUT, Who,
 };
@@ -13,6 +16,30 @@ use rpc_outside::{MemRecorder, PlainDuty, PlainService, Recorder};
 use script_grammar::MOST_NODES;
 use std::alloc::Global;
 use worker_crew::LocalWorkers;
+
+/// The endpoint of a node in this life, with new workers and a new service. `NoMemory` comes only
+/// where there is none for them.
+pub fn new_end(
+    alloc: Global,
+    me: NodeId,
+    life: Life,
+    limits: Limits,
+) -> Result<Endpoint<PlainService, LocalWorkers<PlainDuty>>, NoMemory>
+    requires some { 1 ≤ life }
+    requires limits { Fits limits }
+    ensures { IfOk result (λ e. e ≡ record {
+      timed = new_node me life limits;
+      handed = [];
+      service = 0;
+      workers = record { limit = limits.jobs; given = 0; waiting = []; worked = [] };
+    }) }
+{
+    let workers = LocalWorkers::new(alloc, PlainDuty, limits.jobs)?;
+    match Endpoint::new(alloc, me, life, limits, PlainService::new(), workers) {
+        Ok(made) => Ok(made),
+        Err(_workers) => Err(NoMemory),
+    }
+}
 
 /// `node R`: makes the next node, with a ring of that many places.
 pub fn make_node(
@@ -35,10 +62,7 @@ pub fn make_node(
         jobs: USUAL_JOBS,
         timeout: USUAL_TIMEOUT,
     };
-    let workers = LocalWorkers::new(alloc, PlainDuty, USUAL_JOBS)?;
-    let Ok(made) = Endpoint::new(alloc, me, limits, PlainService::new(), workers) else {
-        return Err(NoMemory);
-    };
+    let made = new_end(alloc, me, Life(FIRST_LIFE), limits)?;
     stage.nodes.push(made)?;
     Ok(())
 }

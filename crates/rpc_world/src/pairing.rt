@@ -104,10 +104,12 @@ fn make_ends(
     let (client, server) = (usize::from(a.0), usize::from(b.0));
     let of_client = next_number(u64::from(stage.nodes.at(client).next_client()));
     let of_server = next_number(stage.nodes.at(server).next_server());
+    let client_life = stage.nodes.at(client).life();
+    let server_life = stage.nodes.at(server).life();
     let asking = stage.nodes.at_mut(client);
-    made(asking.pair_client(Peer(b.0), of_server, credits, rec))?;
+    made(asking.pair_client(Peer(b.0), server_life, of_server, credits, rec))?;
     let serving = stage.nodes.at_mut(server);
-    made(serving.pair_server(Peer(a.0), of_client, credits, rec))?;
+    made(serving.pair_server(Peer(a.0), client_life, of_client, credits, rec))?;
     check_whole(rec)?;
     Ok(())
 }

@@ -5,7 +5,7 @@ use Rattle.rpc_world.proofs.making.make_node.Goals as goal
 
 pub returns : goal.returns
 returns c =
-    rw c.in_ok-push.ensures.pushed (makes-node c.args.ring _ c.in-Ok.made
-    (c.in-Ok.ensures.made ∙ rw (c.len.ensures, c.new-2.ensures, c.in_ok-workers.ensures.made) refl)
+    rw c.in_ok-push.ensures.pushed (makes-node c.args.ring _ c.in_ok-made.made
+    (c.in_ok-made.ensures ∙ rw c.len.ensures refl)
     _ _ _ c.stage.view_is
     (grew-facts _ _ _ _ _ (rw c.len.ensures at c.note.ensures) c.in_ok-check_whole.ensures))

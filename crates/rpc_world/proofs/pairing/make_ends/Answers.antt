@@ -16,8 +16,15 @@ returns c =
     let serving = c.at_mut-serving.result.now in
     let at_a = rw is_a at c.at_mut-asking.ensures.value in
     let at_b = rw (is_a, is_b) at c.at_mut-serving.ensures.value in
+    let is_u = c.life-client_life.ensures.life
+    ∙ ap (λ (e : End). e.timed.lists.life) (same-end _ c.args.a _ asking (rw is_a at c.at-3.ensures) at_a) in
+    let is_v = c.life-server_life.ensures.life
+    ∙ ap (λ (e : End). e.timed.lists.life)
+    (still-end _ c.args.a c.args.b _ _ serving c.requires.two (rw is_b at c.at-4.ensures) at_b) in
     let of_client = c.next_number-of_client.result in
     let of_server = c.next_number-of_server.result in
+    let client_life = c.life-client_life.result in
+    let server_life = c.life-server_life.result in
     let is_p = c.next_number-of_client.ensures.number ∙ (c.from.ensures ∙ (c.next_client.ensures
     ∙ ap (λ (e : End). length e.timed.lists.clients) (same-end _ c.args.a _ asking (rw is_a at c.at.ensures) at_a))) in
     let is_q = c.next_number-of_server.ensures.number ∙ (c.next_server.ensures
@@ -29,18 +36,18 @@ returns c =
     c.requires.two c.requires.server_fits at_b in
     let first = rw (c.b.view_is, c.in_ok-made.ensures) at c.pair_client.ensures.makes in
     let second = rw (c.a.view_is, c.in_ok-made-2.ensures) at c.pair_server.ensures.makes in
-    let m = notes-end c.args.a (λ l. PairedClient (length l.clients) c.args.b of_server c.args.credits) z.worked
-    asking c.pair_client.new.self first.noted (λ l. refl) (λ l. refl) c.pair_client.ensures.leaves
-    (client-made c.args.b of_server c.args.credits asking c.pair_client.new.self first.noted client_fits
-    first.step) in
-    let n = notes-end c.args.b (λ l. PairedServer l.server_numbers c.args.a of_client c.args.credits) z.worked
-    serving c.pair_server.new.self second.noted (λ l. refl) (λ l. refl) c.pair_server.ensures.leaves
-    (server-made c.args.a of_client c.args.credits serving c.pair_server.new.self second.noted
+    let m = notes-end c.args.a (λ l. PairedClient (length l.clients) c.args.b of_server c.args.credits server_life)
+    z.worked asking c.pair_client.new.self first.noted (λ l. refl) (λ l. refl) c.pair_client.ensures.leaves
+    (client-made c.args.b of_server c.args.credits server_life asking c.pair_client.new.self first.noted
+    client_fits first.step) in
+    let n = notes-end c.args.b (λ l. PairedServer l.server_numbers c.args.a of_client c.args.credits client_life)
+    z.worked serving c.pair_server.new.self second.noted (λ l. refl) (λ l. refl) c.pair_server.ensures.leaves
+    (server-made c.args.a of_client c.args.credits client_life serving c.pair_server.new.self second.noted
     server_fits second.step) in
     let whole = c.in_ok-check_whole.ensures in
-    rw (is_a, is_b) (ends-by c.args.a c.args.b c.args.credits of_client of_server _ asking _ serving _ _ _
-    c.requires.two at_a at_b is_p is_q m n _ _ _ _ c.stage.view_is
-    (grew-facts _ _ _ _ _ first.grew (second.grew.since whole)) (grew-facts _ _ _ _ _ second.grew whole))
+    rw (is_a, is_b) (ends-by c.args.a c.args.b c.args.credits of_client of_server client_life
+    server_life _ asking _ serving _ _ _ c.requires.two at_a at_b is_p is_q is_u is_v m n _ _ _ _
+    c.stage.view_is (grew-facts _ _ _ _ _ first.grew (second.grew.since whole)) (grew-facts _ _ _ _ _ second.grew whole))
 
 pub made-requires : goal.made-requires
 made-requires c =
