@@ -23,6 +23,7 @@ load_is_taken : task_of (words (codes "130") [])
       turns = 3;
       bind = codes "127.0.0.1:0";
       frame = None;
+      life = 1;
       timeout = 5000;
       idle = Sleep;
     }))
@@ -39,6 +40,7 @@ bind_is_taken : task_of (words (codes "1") (codes "--bind" ∷ codes "b:0" ∷ [
       turns = 3;
       bind = codes "b:0";
       frame = None;
+      life = 1;
       timeout = 5000;
       idle = Sleep;
     }))
@@ -64,6 +66,7 @@ waiting_is_taken : task_of (words (codes "1") (codes "--frame" ∷ codes "1452" 
       turns = 3;
       bind = codes "127.0.0.1:0";
       frame = Some 1452;
+      life = 1;
       timeout = 100;
       idle = Spin;
     }))
@@ -73,3 +76,24 @@ waiting_is_taken = refl
 short_frame : task_of (words (codes "1") (codes "--frame" ∷ codes "1087" ∷ [])) ≡ None
 unfolding clap_on_literals task_of load_in taken number_in type_at is_numeral value_of
 short_frame = refl
+
+life_is_taken : task_of (words (codes "1") (codes "--life" ∷ codes "4294967295" ∷ []))
+    ≡ Some (Load (record {
+      addr = codes "a:7";
+      calls = 2;
+      req_type = 1;
+      size = 64;
+      seed = 0;
+      turns = 3;
+      bind = codes "127.0.0.1:0";
+      frame = None;
+      life = 4294967295;
+      timeout = 5000;
+      idle = Sleep;
+    }))
+unfolding clap_on_literals task_of load_in taken number_in type_at is_numeral value_of
+life_is_taken = refl
+
+nobodys_life : task_of (words (codes "1") (codes "--life" ∷ codes "0" ∷ [])) ≡ None
+unfolding clap_on_literals task_of load_in taken number_in type_at is_numeral value_of
+nobodys_life = refl

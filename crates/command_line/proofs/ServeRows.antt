@@ -8,7 +8,14 @@ use Rattle.command_line.specs.declared.task.Idle.TheVariants.{Sleep, Spin}
 use Rattle.command_line.specs.declared.task.Task.TheVariants.{Serve}
 
 serve_is_taken : task_of (codes "serve" ∷ codes "a:7" ∷ codes "--turns" ∷ codes "3" ∷ [])
-    ≡ Some (Serve (record { addr = codes "a:7"; turns = 3; workers = 0; timeout = 5000; idle = Sleep }))
+    ≡ Some (Serve (record {
+      addr = codes "a:7";
+      turns = 3;
+      workers = 0;
+      life = 1;
+      timeout = 5000;
+      idle = Sleep;
+    }))
 unfolding clap_on_literals task_of serve_in taken number_in is_numeral value_of
 serve_is_taken = refl
 
@@ -23,7 +30,14 @@ turns_stand_once = refl
 
 workers_are_taken : task_of (codes "serve" ∷ codes "--workers" ∷ codes "16" ∷ codes "a:7"
     ∷ codes "--turns" ∷ codes "3" ∷ [])
-    ≡ Some (Serve (record { addr = codes "a:7"; turns = 3; workers = 16; timeout = 5000; idle = Sleep }))
+    ≡ Some (Serve (record {
+      addr = codes "a:7";
+      turns = 3;
+      workers = 16;
+      life = 1;
+      timeout = 5000;
+      idle = Sleep;
+    }))
 unfolding clap_on_literals task_of serve_in taken number_in is_numeral value_of
 workers_are_taken = refl
 
@@ -38,6 +52,7 @@ waiting_is_taken : task_of (codes "serve" ∷ codes "a:7" ∷ codes "--spin" ∷
       addr = codes "a:7";
       turns = 3;
       workers = 0;
+      life = 1;
       timeout = 1000000;
       idle = Spin;
     }))
@@ -48,3 +63,21 @@ short_timeout : task_of (codes "serve" ∷ codes "a:7" ∷ codes "--turns" ∷ c
     ∷ codes "--timeout" ∷ codes "99" ∷ []) ≡ None
 unfolding clap_on_literals task_of serve_in taken number_in is_numeral value_of
 short_timeout = refl
+
+life_is_taken : task_of (codes "serve" ∷ codes "a:7" ∷ codes "--life" ∷ codes "2" ∷ codes "--turns"
+    ∷ codes "3" ∷ [])
+    ≡ Some (Serve (record {
+      addr = codes "a:7";
+      turns = 3;
+      workers = 0;
+      life = 2;
+      timeout = 5000;
+      idle = Sleep;
+    }))
+unfolding clap_on_literals task_of serve_in taken number_in is_numeral value_of
+life_is_taken = refl
+
+high_life : task_of (codes "serve" ∷ codes "a:7" ∷ codes "--turns" ∷ codes "3"
+    ∷ codes "--life" ∷ codes "4294967296" ∷ []) ≡ None
+unfolding clap_on_literals task_of serve_in taken number_in is_numeral value_of
+high_life = refl

@@ -32,6 +32,7 @@ ReadsText (Err error) said = IsNone error said
 abbrev pub IsServeInRange : ServeWords → Type 0
 IsServeInRange words =
     (1 ≤ words.turns) × (words.turns ≤ 4294967295) × (words.workers ≤ 16)
+    × (1 ≤ words.life) × (words.life ≤ 4294967295)
     × (100 ≤ words.timeout) × (words.timeout ≤ 1000000)
 
 -- a frame, where one is given, takes the largest packet, and fits a datagram
@@ -48,6 +49,8 @@ pub record IsLoadInRange (words : LoadWords) : Type 0 where
   pub some_turns : 1 ≤ words.turns
   pub most_turns : words.turns ≤ 4294967295
   pub frame : IsFrameInRange words.frame
+  pub some_life : 1 ≤ words.life
+  pub most_life : words.life ≤ 4294967295
   pub least_timeout : 100 ≤ words.timeout
   pub most_timeout : words.timeout ≤ 1000000
 

@@ -42,10 +42,16 @@ abbrev pub with_waiting : App → App
 with_waiting app = with_rule (with_rule app (optional (codes "timeout") (codes "5000")))
     (flag (codes "spin"))
 
--- `serve ADDR --turns T [--workers W]`, and how it waits
+-- the option that says which life its node has
+abbrev pub with_life : App → App
+with_life app = with_rule app (optional (codes "life") (codes "1"))
+
+-- `serve ADDR --turns T [--workers W] [--life L]`, and how it waits
 abbrev pub serve_row : App
-serve_row = with_waiting (with_rule (with_rule (with_rule (row (codes "serve"))
-    (positional (codes "ADDR"))) (needed (codes "turns"))) (optional (codes "workers") (codes "0")))
+serve_row =
+    let addressed = with_rule (row (codes "serve")) (positional (codes "ADDR")) in
+    with_waiting (with_life (with_rule (with_rule addressed (needed (codes "turns")))
+    (optional (codes "workers") (codes "0"))))
 
 -- the options of `load` that say what is asked
 abbrev pub with_call : App → App
@@ -57,9 +63,10 @@ abbrev pub with_way : App → App
 with_way app = with_rule (with_rule app (optional (codes "bind") (codes "127.0.0.1:0")))
     (named (codes "frame"))
 
--- `load ADDR --calls N --type Y --size Z --seed G --turns T [--bind ADDR] [--frame BYTES]`, and how
--- it waits
+-- `load ADDR --calls N --type Y --size Z --seed G --turns T [--bind ADDR] [--frame BYTES]
+-- [--life L]`, and how it waits
 abbrev pub load_row : App
 load_row =
     let addressed = with_rule (row (codes "load")) (positional (codes "ADDR")) in
-    with_waiting (with_way (with_rule (with_call addressed) (needed (codes "turns"))))
+    let turning = with_rule (with_call addressed) (needed (codes "turns")) in
+    with_waiting (with_life (with_way turning))

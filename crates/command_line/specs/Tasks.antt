@@ -29,28 +29,30 @@ drill_of_rows rows =
 unfoldable pub drill_in : List Text → Option Task
 drill_in words = given (taken drill_row words) drill_of_rows
 
--- ADDR, --turns from 1 to 2^32 - 1, --workers up to 16, --timeout from 100 to 1,000,000
--- microseconds, and --spin
+-- ADDR, --turns from 1 to 2^32 - 1, --workers up to 16, --life from 1 to 2^32 - 1, --timeout from
+-- 100 to 1,000,000 microseconds, and --spin
 abbrev pub serve_of_rows : List Row → Option Task
 serve_of_rows rows =
     given (first_of (codes "ADDR") rows) (λ addr.
     given (number_at 1 4294967295 (codes "turns") rows) (λ turns.
     given (number_at 0 16 (codes "workers") rows) (λ workers.
+    given (number_at 1 4294967295 (codes "life") rows) (λ life.
     given (number_at 100 1000000 (codes "timeout") rows) (λ timeout.
     Some (Serve (record {
       addr = addr;
       turns = turns;
       workers = workers;
+      life = life;
       timeout = timeout;
       idle = idle_at rows;
-    }))))))
+    })))))))
 
 unfoldable pub serve_in : List Text → Option Task
 serve_in words = given (taken serve_row words) serve_of_rows
 
 -- ADDR, --calls from 1 to 1,000,000, --type in its list, --size up to 1,048,576, --seed from 0 and
--- --turns from 1 up to 2^32 - 1, --bind, --frame from 1,088 to 65,507 bytes or none, --timeout from
--- 100 to 1,000,000 microseconds, and --spin
+-- --turns from 1 up to 2^32 - 1, --bind, --frame from 1,088 to 65,507 bytes or none, --life from 1
+-- to 2^32 - 1, --timeout from 100 to 1,000,000 microseconds, and --spin
 abbrev pub load_of_rows : List Row → Option Task
 load_of_rows rows =
     given (first_of (codes "ADDR") rows) (λ addr.
@@ -61,6 +63,7 @@ load_of_rows rows =
     given (number_at 1 4294967295 (codes "turns") rows) (λ turns.
     given (first_of (codes "bind") rows) (λ bind.
     given (some_number_at 1088 65507 (codes "frame") rows) (λ frame.
+    given (number_at 1 4294967295 (codes "life") rows) (λ life.
     given (number_at 100 1000000 (codes "timeout") rows) (λ timeout.
     Some (Load (record {
       addr = addr;
@@ -71,9 +74,10 @@ load_of_rows rows =
       turns = turns;
       bind = bind;
       frame = frame;
+      life = life;
       timeout = timeout;
       idle = idle_at rows;
-    })))))))))))
+    }))))))))))))
 
 unfoldable pub load_in : List Text → Option Task
 load_in words = given (taken load_row words) load_of_rows

@@ -7,6 +7,7 @@ pub record ServeWords : Type 0 where
   pub addr : Text
   pub turns : ℕ
   pub workers : ℕ
+  pub life : ℕ
   pub timeout : ℕ
   pub idle : Idle
 
@@ -19,5 +20,6 @@ pub record LoadWords : Type 0 where
   pub turns : ℕ
   pub bind : Text
   pub frame : Option ℕ
+  pub life : ℕ
   pub timeout : ℕ
   pub idle : Idle

@@ -6,7 +6,7 @@ ghost use Rattle.clap.specs.declared.error.kind.ErrorKind.TheVariants.{OutOfMemo
 ghost use Rattle.command_line.specs.Answers.{Takes};
 ghost use Rattle.command_line.specs.Rows.{drill_row, flag, load_row, named, needed, optional};
 ghost use Rattle.command_line.specs.Rows.{positional, row, serve_row, sim_row, with_call};
-ghost use Rattle.command_line.specs.Rows.{with_waiting, with_way};
+ghost use Rattle.command_line.specs.Rows.{with_life, with_waiting, with_way};
 
 use crate::task::WordsError;
 use clap::error::ErrorKind;
@@ -103,20 +103,28 @@ fn with_waiting<'a>(alloc: Global, command: Command<'a>) -> Result<Command<'a>, 
     Ok(command)
 }
 
-/// `serve ADDR --turns T [--workers W] [--timeout MICROSECONDS] [--spin]`.
+/// The command with the option that says which life its node has.
+fn with_life<'a>(alloc: Global, command: Command<'a>) -> Result<Command<'a>, AllocError>
+    ensures { IfOk result (λ new. app_of new ≡ with_life (app_of command.entry)) }
+{
+    command.arg(optional(alloc, "life", "L", "1"))
+}
+
+/// `serve ADDR --turns T [--workers W] [--life L] [--timeout MICROSECONDS] [--spin]`.
 pub fn serve<'a>(alloc: Global) -> Result<Command<'a>, AllocError>
     ensures { IfOk result (λ command. app_of command ≡ serve_row) }
 {
     let command = row(
         alloc,
         "serve",
-        "erpc serve ADDR --turns T [--workers W] [--timeout MICROSECONDS] [--spin]",
+        "erpc serve ADDR --turns T [--workers W] [--life L] [--timeout MICROSECONDS] [--spin]",
         "answers calls that come to the UDP address ADDR, for T turns, with W threads for \
-         background calls, and counts what happened",
+         background calls, as life L of its node, and counts what happened",
     )
     .arg(positional(alloc, "ADDR"))?
     .arg(needed(alloc, "turns", "T"))?
     .arg(optional(alloc, "workers", "W", "0"))?;
+    let command = with_life(alloc, command)?;
     with_waiting(alloc, command)
 }
 
@@ -142,18 +150,21 @@ fn with_way<'a>(alloc: Global, command: Command<'a>) -> Result<Command<'a>, Allo
     Ok(command)
 }
 
-/// The command with what says for how long `load` turns, how its packets go, and how it waits.
+/// The command with what says for how long `load` turns, how its packets go, which life its node
+/// has, and how it waits.
 fn with_turns<'a>(alloc: Global, command: Command<'a>) -> Result<Command<'a>, AllocError>
     ensures { IfOk result (λ new. app_of new
-        ≡ with_waiting (with_way (with_rule (app_of command.entry) (needed (codes "turns"))))) }
+        ≡ with_waiting (with_life
+        (with_way (with_rule (app_of command.entry) (needed (codes "turns")))))) }
 {
     let command = command.arg(needed(alloc, "turns", "T"))?;
     let command = with_way(alloc, command)?;
+    let command = with_life(alloc, command)?;
     with_waiting(alloc, command)
 }
 
 /// `load ADDR --calls N --type Y --size Z --seed G --turns T [--bind ADDR] [--frame BYTES]
-/// [--timeout MICROSECONDS] [--spin]`.
+/// [--life L] [--timeout MICROSECONDS] [--spin]`.
 pub fn load<'a>(alloc: Global) -> Result<Command<'a>, AllocError>
     ensures { IfOk result (λ command. app_of command ≡ load_row) }
 {
@@ -161,8 +172,8 @@ pub fn load<'a>(alloc: Global) -> Result<Command<'a>, AllocError>
         alloc,
         "load",
         "erpc load ADDR --calls N --type Y --size Z --seed G --turns T [--bind ADDR] \
-         [--frame BYTES] [--timeout MICROSECONDS] [--spin]",
-        "asks N calls of the server at ADDR, and counts how they ended",
+         [--frame BYTES] [--life L] [--timeout MICROSECONDS] [--spin]",
+        "asks N calls of the server at ADDR, as life L of its node, and counts how they ended",
     )
     .arg(positional(alloc, "ADDR"))?;
     let command = with_call(alloc, command)?;

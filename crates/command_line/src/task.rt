@@ -1,4 +1,5 @@
 //! What the words of a command line ask for.
+use packet_header::Life;
 use std::alloc::AllocError;
 use std::error::Error;
 use std::fmt;
@@ -22,6 +23,8 @@ pub struct ServeSpec {
     pub turns: u32,
     /// So many hands work its jobs, at most 16; where there are none, it works them by itself.
     pub workers: u8,
+    /// The life of its node: 1 where none was written.
+    pub life: Life,
     /// An unanswered packet is taken for lost after so many microseconds, 100 to 1,000,000; 5,000
     /// where none were written.
     pub timeout: u32,
@@ -39,6 +42,7 @@ impl Model for ServeSpec {
       addr = string_bytes spec.addr;
       turns = spec.turns;
       workers = spec.workers;
+      life = spec.life;
       timeout = spec.timeout;
       idle = spec.idle;
     } };
@@ -65,6 +69,8 @@ pub struct LoadSpec {
     /// Packets to the server may go several in a datagram of at most so many bytes, 1,088 to
     /// 65,507; each goes alone where none were written.
     pub frame: Option<u32>,
+    /// The life of the client's node: 1 where none was written.
+    pub life: Life,
     /// An unanswered packet is taken for lost after so many microseconds, 100 to 1,000,000; 5,000
     /// where none were written.
     pub timeout: u32,
@@ -87,6 +93,7 @@ impl Model for LoadSpec {
       turns = spec.turns;
       bind = string_bytes spec.bind;
       frame = spec.frame;
+      life = spec.life;
       timeout = spec.timeout;
       idle = spec.idle;
     } };

@@ -3,16 +3,16 @@ use crate::number::{Number, TYPES, request_type};
 use crate::row::{drill, load, serve, sim};
 use crate::text::text_at;
 use crate::words::{
-    CALLS, CALLS_OF_DRILL, FRAME, SEED, SEED_OF_DRILL, SIZE, TIMEOUT, TURNS, WORKERS,
+    CALLS, CALLS_OF_DRILL, FRAME, LIFE, SEED, SEED_OF_DRILL, SIZE, TIMEOUT, TURNS, WORKERS,
 };
 use clap::{ArgMatches, Command, Error};
 use std::alloc::{AllocError, Global};
 
 const NUMBERS_OF_DRILL: [Number; 2] = [SEED_OF_DRILL, CALLS_OF_DRILL];
 
-const NUMBERS_OF_SERVE: [Number; 3] = [TURNS, WORKERS, TIMEOUT];
+const NUMBERS_OF_SERVE: [Number; 4] = [TURNS, WORKERS, LIFE, TIMEOUT];
 
-const NUMBERS_OF_LOAD: [Number; 6] = [CALLS, SIZE, SEED, TURNS, TIMEOUT, FRAME];
+const NUMBERS_OF_LOAD: [Number; 7] = [CALLS, SIZE, SEED, TURNS, FRAME, LIFE, TIMEOUT];
 
 /// What `clap` says of words, in one line: its lines up to an empty one.
 fn first_paragraph(alloc: Global, error: &Error) -> Result<String, AllocError> {

@@ -13,6 +13,7 @@ use crate::task::{LoadSpec, ServeSpec, Task, WordsError};
 use crate::text::{copy_at, text_at};
 use clap::ArgMatches;
 use drill_maker::MOST_CALLS;
+use packet_header::{FIRST_LIFE, Life};
 use std::alloc::Global;
 
 /// SEED of `drill`.
@@ -65,6 +66,14 @@ pub const SEED: Number = Number {
     high: u32::MAX as u64,
 };
 
+/// `--life` of `serve` and `load`.
+pub const LIFE: Number = Number {
+    id: "life",
+    shown: "--life",
+    low: FIRST_LIFE as u64,
+    high: u32::MAX as u64,
+};
+
 /// `--timeout` of `serve` and `load`, in microseconds.
 pub const TIMEOUT: Number = Number {
     id: "timeout",
@@ -110,11 +119,13 @@ fn read_serve(alloc: Global, words: &[String]) -> Result<Task, WordsError>
     let addr = copy_at(alloc, &matches, "ADDR")?;
     let turns = TURNS.read(&matches).ok_or(WordsError::Usage)? as u32;
     let workers = WORKERS.read(&matches).ok_or(WordsError::Usage)? as u8;
+    let life = LIFE.read(&matches).ok_or(WordsError::Usage)? as u32;
     let timeout = TIMEOUT.read(&matches).ok_or(WordsError::Usage)? as u32;
     Ok(Task::Serve(ServeSpec {
         addr,
         turns,
         workers,
+        life: Life(life),
         timeout,
         idle: idle_of(&matches),
     }))
@@ -148,6 +159,7 @@ fn read_load(alloc: Global, words: &[String]) -> Result<Task, WordsError>
     let turns = TURNS.read(&matches).ok_or(WordsError::Usage)? as u32;
     let bind = copy_at(alloc, &matches, "bind")?;
     let frame = frame_of(&matches).ok_or(WordsError::Usage)?;
+    let life = LIFE.read(&matches).ok_or(WordsError::Usage)? as u32;
     let timeout = TIMEOUT.read(&matches).ok_or(WordsError::Usage)? as u32;
     Ok(Task::Load(LoadSpec {
         addr,
@@ -158,6 +170,7 @@ fn read_load(alloc: Global, words: &[String]) -> Result<Task, WordsError>
         turns,
         bind,
         frame,
+        life: Life(life),
         timeout,
         idle: idle_of(&matches),
     }))

@@ -31,6 +31,7 @@ mod udp;
 pub use client_core::{Done, Outcome};
 pub use endpoint_loop::{AskError, Continuation, Endpoint, LinkFault, Refused, Turn};
 pub use message_buffer::MsgBuf;
+pub use packet_header::{FIRST_LIFE, Life};
 pub use rpc_base::{CallNo, Limits, NoMemory, NodeId, Peer, SessionNo, SessionState};
 pub use rpc_outside::{
     Clock, Duty, Failed, Link, Mode, NoRecord, PlainDuty, PlainService, Recorder, Service, SysClock,

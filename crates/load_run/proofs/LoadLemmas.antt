@@ -68,6 +68,7 @@ module _ {L C R : Type 0} (o : Outside L C R) (words : LoadWords) (old : Edges L
           noted = starts.noted ++ on.runs.goes.noted;
           grew = grew-then o.log old.rec mid last.edges.rec starts.noted on.runs.goes.noted
               starts.grew on.runs.goes.grew;
+          in_life = on.runs.goes.lives limits starts.noted starts.stands ∙ starts.life;
           stands = on.runs.goes.goes_on limits starts.noted starts.stands;
           sends = on.runs.sends limits starts.noted starts.stands
               ∙ ap (option_map (λ ds. ds ++ sent_of on.runs.goes.noted)) starts.sent
@@ -112,7 +113,7 @@ module _ {L C R : Type 0} (o : Outside L C R) (words : LoadWords) (old : Edges L
   -- the link failed, or there was no memory, and nothing was written
   pub loads-stopped : (page : Written) (told : Status) → (told ≡ LinkFault) ⊎ (told ≡ NoMemory)
       → TurnsEnd told o first last
-      → NotesRun o.log (limits_at words.timeout) old.rec last.edges.rec
+      → NotesRun o.log words.life (limits_at words.timeout) old.rec last.edges.rec
       → Loads told o words old last.edges page page
   loads-stopped page LinkFault which ends notes =
       (subst (λ n. HasRisen n (o.net.faults last.edges.link)) starts.faults ends, notes, refl)

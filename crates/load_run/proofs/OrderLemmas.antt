@@ -17,7 +17,6 @@ use Rattle.rpc_base.specs.declared.fact.Fact.{Fact}
 use Rattle.rpc_base.specs.declared.limits.Limits.{Limits}
 use Rattle.rpc_laws.specs.declared.tables.Lists.{Lists}
 use Rattle.rpc_laws.specs.NodeLists.{after, asked_after, new_lists}
-use Rattle.rpc_laws.specs.Lives.{first_life}
 
 -- a node counts the calls that were asked
 asked-by : (e : Event) (n : ℕ) → asked_after e n ≡ n + cond (is_asked e) 1 0
@@ -38,7 +37,7 @@ pub asked-stands : (limits : Limits) (past : List Fact) (e : End) → Stands lim
     → e.timed.lists.asked ≡ asked_in past
 asked-stands limits past e s =
     let all : e.timed.lists.asked ≡ 0 + asked_in past =
-    asked-leads (new_lists e.timed.lists.me first_life limits) past _ (run_leads s.runs.run) in
+    asked-leads (new_lists e.timed.lists.me e.timed.lists.life limits) past _ (run_leads s.runs.run) in
     omega (arith, all)
 
 -- numbers, and those behind them

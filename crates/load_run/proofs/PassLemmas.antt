@@ -15,7 +15,7 @@ use Rattle.endpoint_node.specs.Seen.{asking}
 use Rattle.endpoint_node.proofs.PacketCrew.{staffed-still}
 use Rattle.endpoint_node.proofs.NoteEnds.{ends-append, me-goes, no_asks}
 use Rattle.endpoint_loop.proofs.PollLaw.{still-answers}
-use Rattle.endpoint_loop.proofs.StandingLaw.{is_labour, me-more, none-ran}
+use Rattle.endpoint_loop.proofs.StandingLaw.{is_labour, life-more, me-more, none-ran}
 use Rattle.endpoint_loop.proofs.StandingLaw.{none-worked, stands-more}
 use Rattle.endpoint_node.proofs.NoteStill.{AllStill, Stills, still-by, still-none}
 use Rattle.endpoint_node.proofs.NoteCounts.{many-append, many-none}
@@ -29,7 +29,7 @@ use Rattle.rpc_base.specs.declared.event.Event.TheVariants.{Asked, DoneOk, DoneP
 use Rattle.rpc_base.specs.declared.event.Event.TheVariants.{DoneTooSmall}
 use Rattle.rpc_base.specs.declared.event.Event.TheVariants.{NconnectNumbers, NconnectRing, Opened}
 use Rattle.rpc_base.specs.declared.event.Event.TheVariants.{Closing, NcloseBusy, NcloseState}
-use Rattle.rpc_base.specs.declared.event.Event.TheVariants.{Rated, Ran, Sent, Worked}
+use Rattle.rpc_base.specs.declared.event.Event.TheVariants.{Rated, Ran, Restarted, Sent, Worked}
 use Rattle.rpc_base.specs.declared.fact.Fact.{Fact}
 use Rattle.rpc_base.specs.declared.limits.Limits.{Limits}
 use Rattle.rpc_base.specs.declared.state.SessionState.{SessionState}
@@ -49,7 +49,7 @@ use Rattle.worker_crew.specs.Dispatching.{jobs_in}
 use Rattle.rpc_turns.specs.Plain.{End, Stands, crew_members}
 use Rattle.rpc_turns.proofs.RunLemmas.{goes-none, goes-then}
 
--- a handler ran, a job was worked, a datagram was sent, or a call ended
+-- a handler ran, a job was worked, a datagram was sent, a call ended, or a node began anew
 abbrev pub is_loud : Event → Bool
 is_loud (Ran session request req_type) = true
 is_loud (Worked session request) = true
@@ -57,11 +57,13 @@ is_loud (Sent peer owner k) = true
 is_loud (DoneOk call) = true
 is_loud (DoneTooSmall call size) = true
 is_loud (DonePeerLost call) = true
+is_loud (Restarted life) = true
 is_loud _ = false
 
 loud-labour : (e : Event) → is_loud e ≡ false → is_labour e ≡ false
 loud-labour (Ran session request req_type) h = cc
 loud-labour (Worked session request) h = cc
+loud-labour (Restarted life) h = cc
 loud-labour _ h = refl
 
 loud-end : (e : Event) → is_loud e ≡ false → is_end_event e ≡ false
@@ -103,6 +105,8 @@ module _ {R : Type 0} (log : R → Log) where
       noted = makes.noted;
       grew = makes.grew;
       goes_on = goes;
+      lives = λ limits h s.
+          life-more plain_members crew_members limits h a b makes.noted s.runs changes;
     };
     asks = asked;
     order = order;

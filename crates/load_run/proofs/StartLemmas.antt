@@ -1,6 +1,6 @@
 -- What a run noted since its start.
 use Rattle.std.proofs.Common.{◌++◌}
-use Rattle.std.proofs.Common.{inr}
+use Rattle.std.proofs.Common.{inr, ◌∙◌}
 use Rattle.rpc_outside.specs.Recording.{Log}
 use Rattle.load_run.specs.Loading.{LoadsSoFar, NotesRun, StartsAs}
 use Rattle.command_line.specs.Words.{LoadWords}
@@ -14,9 +14,13 @@ module _ {R : Type 0} (log : R → Log) where
       (before mid later : R) (start run : LoadsSoFar)
       → StartsAs log net words link via before mid start
       → GoesOnBy log start.endpoint run.endpoint mid later
-      → NotesRun log (limits_at words.timeout) before later
+      → NotesRun log words.life (limits_at words.timeout) before later
   notes-run net words link via before mid later start run starts goes = record {
     noted = starts.noted ++ goes.noted;
     grew = grew-then log before mid later starts.noted goes.noted starts.grew goes.grew;
-    runs = inr (run.endpoint, goes.goes_on (limits_at words.timeout) starts.noted starts.stands);
+    runs = inr (
+      run.endpoint,
+      goes.lives (limits_at words.timeout) starts.noted starts.stands ∙ starts.life,
+      goes.goes_on (limits_at words.timeout) starts.noted starts.stands,
+    );
   }

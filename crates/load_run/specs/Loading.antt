@@ -272,6 +272,7 @@ pub record StartsAs {L R : Type 0} (log : R → Log) (net : Link.Ghosts L) (word
   pub busies : net.busies then_link ≡ net.busies link
   pub opens : noted ≡ plain 0 (Opened s.session peer LOAD_CREDITS) ∷ []
   pub grew : Grew (log before) (log now) noted
+  pub life : s.endpoint.timed.lists.life ≡ words.life
   pub stands : Stands (limits_at words.timeout) noted s.endpoint
   pub rest : s.rest ≡ resting (sleeps words.idle)
   pub sends : sent_of noted ≡ []
@@ -309,8 +310,8 @@ pub record HasRun {L C R : Type 0} (o : Outside L C R) (words : LoadWords) (old 
   pub over : going_at new.run ≢ On
   pub plan : new.run.ledger.plan ≡ calls_of words
   pub turns : new.run.turns ≡ words.turns
-  pub turned : HasTurned plain_members crew_members o (limits_at words.timeout) old (end_at new)
-      new.run.made
+  pub turned : HasTurned plain_members crew_members o words.life (limits_at words.timeout) old
+      (end_at new) new.run.made
   pub opens : (peer : ℕ) × (rest : List Fact)
       × (turned.noted ≡ plain 0 (Opened new.run.session peer LOAD_CREDITS) ∷ rest)
   pub asked : new.run.asked ≡ asked_in turned.noted
@@ -318,12 +319,13 @@ pub record HasRun {L C R : Type 0} (o : Outside L C R) (words : LoadWords) (old 
   pub tallies : Tallies new.run.ledger.plan new.run.ledger.tally turned.noted
   pub quiet : o.net.faults new.edges.link ≡ o.net.faults old.link
 
--- the facts that were noted are a run of node 0 with these limits
-pub record NotesRun {R : Type 0} (log : R → Log) (limits : Limits) (before later : R)
+-- the facts that were noted are a run of node 0 in this life with these limits
+pub record NotesRun {R : Type 0} (log : R → Log) (life : ℕ) (limits : Limits) (before later : R)
     : Type 0 where
   pub noted : List Fact
   pub grew : Grew (log before) (log later) noted
-  pub runs : (noted ≡ []) ⊎ ((endpoint : End) × Stands limits noted endpoint)
+  pub runs : (noted ≡ [])
+      ⊎ ((endpoint : End) × (endpoint.timed.lists.life ≡ life) × Stands limits noted endpoint)
 
 -- how `load` ends: the link failed, or there was no memory and it didn't, and nothing was written;
 -- or its run was over, and the line was written, or a front of it where the sink failed
@@ -331,10 +333,12 @@ abbrev pub Loads : {L C R : Type 0} → Status → Outside L C R → LoadWords
     → (old new : Edges L C R) → (page then_page : Written) → Type 0
 Loads status.LinkFault o words old new page then_page =
     HasRisen (o.net.faults old.link) (o.net.faults new.link)
-    × NotesRun o.log (limits_at words.timeout) old.rec new.rec × (then_page ≡ page)
+    × NotesRun o.log words.life (limits_at words.timeout) old.rec new.rec
+    × (then_page ≡ page)
 Loads status.NoMemory o words old new page then_page =
     (o.net.faults new.link ≡ o.net.faults old.link)
-    × NotesRun o.log (limits_at words.timeout) old.rec new.rec × (then_page ≡ page)
+    × NotesRun o.log words.life (limits_at words.timeout) old.rec new.rec
+    × (then_page ≡ page)
 Loads told o words old new page then_page =
     (run : LoadsSoFar)
     × HasRun o words old (record { run = run; edges = new })

@@ -142,9 +142,10 @@ fn reach<L: Link>(spec: &LoadSpec, link: &mut L) -> Result<Peer, Failed>
 
 impl<H: Wait + Drop> LoadRun<H> {
     /// Binds the link to the client's address, and opens a session with the server at the other
-    /// one, with 32 credits, of an endpoint of node 0 with usual limits but for its timeout. Packets
-    /// to the server go several in a datagram where the words name a frame. `LinkFault` comes
-    /// exactly where a fault of the link came, and `NoMemory` only where there was no memory.
+    /// one, with 32 credits, of an endpoint of node 0 in the life of the words, with usual limits but
+    /// for its timeout. Packets to the server go several in a datagram where the words name a frame.
+    /// `LinkFault` comes exactly where a fault of the link came, and `NoMemory` only where there was
+    /// no memory.
     pub fn start<L: Link, R: Recorder>(
         rt: H,
         alloc: Global,
@@ -169,7 +170,8 @@ impl<H: Wait + Drop> LoadRun<H> {
             return Err(Status::NoMemory);
         };
         let mut spawner = SerialSpawner::new();
-        let Ok(mut endpoint) = plain_endpoint(rt, alloc, spec.timeout, 0, &mut spawner) else {
+        let (life, timeout) = (spec.life, spec.timeout);
+        let Ok(mut endpoint) = plain_endpoint(rt, alloc, life, timeout, 0, &mut spawner) else {
             return Err(Status::NoMemory);
         };
         let Ok(session) = endpoint.connect(peer, LOAD_CREDITS, 0, rec) else {

@@ -25,17 +25,19 @@ module _ {R V W : Type 0} (log : R → Log) {service : Service.Ghosts V} {worker
       grew = grew-none log f;
       goes_on = λ limits past s.
           subst (λ z. Stands service workers limits z a) (sym (append-nil past)) s;
+      lives = λ limits past s. refl;
     }
 
-    -- facts of a call that keeps the node's number
+    -- facts of a call that keeps the node's number and life
     pub goes-by : (a b : Running V W) (f g : R) → b.timed.lists.me ≡ a.timed.lists.me
-        → GoesOn log service workers a b f g
+        → b.timed.lists.life ≡ a.timed.lists.life → GoesOn log service workers a b f g
         → GoesOnBy log service workers a b f g
-    goes-by a b f g me h = record {
+    goes-by a b f g me life h = record {
       noted = h.noted;
       grew = h.grew;
       goes_on = λ limits past s.
           record { node = me ∙ s.node; runs = h.goes_on limits past s.runs };
+      lives = λ limits past s. life;
     }
 
     -- facts, and then further ones
@@ -48,6 +50,8 @@ module _ {R V W : Type 0} (log : R → Log) {service : Service.Ghosts V} {worker
       goes_on = λ limits past s.
           subst (λ z. Stands service workers limits z c) (append_assoc past p.noted q.noted)
           (q.goes_on limits (past ++ p.noted) (p.goes_on limits past s));
+      lives = λ limits past s.
+          q.lives limits (past ++ p.noted) (p.goes_on limits past s) ∙ p.lives limits past s;
     }
 
 module _ {V W L C R : Type 0} {service : Service.Ghosts V} {workers : Workers.Ghosts W}

@@ -15,13 +15,14 @@ use Rattle.endpoint_loop.specs.Turns.{DeliversAll, TakesIn}
 use Rattle.endpoint_node.proofs.PacketCrew.{staffed-still}
 use Rattle.endpoint_node.proofs.NoteEnds.{ends-append, me-goes}
 use Rattle.endpoint_loop.proofs.PollLaw.{still-answers}
-use Rattle.endpoint_loop.proofs.StandingLaw.{delivery-still, goes-polled, is_labour, me-polled}
+use Rattle.endpoint_loop.proofs.StandingLaw.{delivery-still, goes-polled, group-polled, is_labour}
+use Rattle.endpoint_loop.proofs.StandingLaw.{life-after_all, life-more, me-polled}
 use Rattle.endpoint_loop.proofs.StandingLaw.{none-ran, none-worked, unasked-polled, unworked}
 use Rattle.endpoint_loop.specs.Stands.{StandsFor}
 use Rattle.endpoint_node.proofs.NoteStill.{AllStill, still-append}
 use Rattle.endpoint_node.proofs.NoteCounts.{many-append, many-none}
 use Rattle.endpoint_node.proofs.NoteSteps.{sent-append}
-use Rattle.node_laws.specs.NodeRun.{Group, NodeRun, delivers}
+use Rattle.node_laws.specs.NodeRun.{Group, LifeRun, delivers}
 use Rattle.rpc_base.specs.declared.event.Event.{Event}
 use Rattle.rpc_base.specs.declared.event.Event.TheVariants.{Arrived, Bad, Overflowed}
 use Rattle.rpc_base.specs.declared.fact.Fact.{Fact}
@@ -46,10 +47,10 @@ use Rattle.rpc_turns.specs.declared.rest.Rest.{Rest}
 use Rattle.endpoint_node.specs.Status.{IsQuiet}
 use Rattle.rpc_laws.specs.declared.tables.Lists.{Lists}
 
-module _ (v : Serving) (me : ℕ) (limits : Limits) where
+module _ (v : Serving) (me life : ℕ) (limits : Limits) where
   -- a run, and then a group that runs and works nothing
-  run-more : (g x : List Fact) (s t : Timed) → NodeRun v me limits g s → Group v.mode s x t
-      → AllStill is_labour x → NodeRun v me limits (g ++ x) t
+  run-more : (g x : List Fact) (s t : Timed) → LifeRun v me life limits g s → Group v.mode s x t
+      → AllStill is_labour x → LifeRun v me life limits (g ++ x) t
   run-more g x s t run group still = record {
     steps = more run.steps x t group;
     worked_once = λ i r. omega (
@@ -62,8 +63,8 @@ module _ (v : Serving) (me : ℕ) (limits : Limits) where
         (still-answers v (served_after_all v.mode [] g) x (none-ran x still)).0;
   }
 
-  run-delivers : (came : List Carried) (g x : List Fact) (s t : Timed) → NodeRun v me limits g s
-      → DeliversAll came s x t → NodeRun v me limits (g ++ x) t
+  run-delivers : (came : List Carried) (g x : List Fact) (s t : Timed) → LifeRun v me life limits g s
+      → DeliversAll came s x t → LifeRun v me life limits (g ++ x) t
   run-delivers [] g x s t run h =
       rw (h.0, h.1, append-nil g) run
   run-delivers (d ∷ ds) g x s t run h =
@@ -129,6 +130,13 @@ me-delivers [] s x t h = ap (λ (u : Timed). u.lists.me) h.1
 me-delivers (d ∷ ds) s x t h =
     me-delivers ds h.between h.back t h.second ∙ me-goes s h.between h.front h.first.goes
 
+life-delivers : (came : List Carried) (s : Timed) (x : List Fact) (t : Timed) → DeliversAll came s x t
+    → t.lists.life ≡ s.lists.life
+life-delivers [] s x t h = ap (λ (u : Timed). u.lists.life) h.1
+life-delivers (d ∷ ds) s x t h =
+    life-delivers ds h.between h.back t h.second
+    ∙ (ap (λ (u : Timed). u.lists.life) h.first.goes ∙ life-after_all s.clock s.lists h.front)
+
 -- datagrams come in
 module _ {R V W : Type 0} (log : R → Log) (service : Service.Ghosts V) (workers : Workers.Ghosts W)
     (came : List Carried) (a b : Running V W) (f g : R) (h : TakesIn log came a b f g) where
@@ -142,10 +150,14 @@ module _ {R V W : Type 0} (log : R → Log) (service : Service.Ghosts V) (worker
   takes-me = me-delivers came (out a.workers a.timed) h.delivers.noted (out a.workers b.timed)
       takes-step
 
+  takes-life : b.timed.lists.life ≡ a.timed.lists.life
+  takes-life = life-delivers came (out a.workers a.timed) h.delivers.noted (out a.workers b.timed)
+      takes-step
+
   takes-stands : (limits : Limits) → (past : List Fact) → Stands service workers limits past a
       → Stands service workers limits (past ++ h.delivers.noted) b
   takes-stands limits past s =
-      let run = run-delivers (rules_of service) a.timed.lists.me limits came past h.delivers.noted
+      let run = run-delivers (rules_of service) a.timed.lists.me a.timed.lists.life limits came past h.delivers.noted
       (out a.workers a.timed) (out a.workers b.timed) s.runs.run takes-step in
       let me = takes-me in
       let still = all-still came (out a.workers a.timed) h.delivers.noted (out a.workers b.timed)
@@ -153,11 +165,13 @@ module _ {R V W : Type 0} (log : R → Log) (service : Service.Ghosts V) (worker
       let none = still-answers (rules_of service) (served_after_all service.mode_of [] past)
       h.delivers.noted (none-ran h.delivers.noted still) in
       let runs : StandsFor service workers limits (past ++ h.delivers.noted) b = record {
-        run = subst (λ (w : W). NodeRun (rules_of service) b.timed.lists.me limits
+        run = subst (λ (w : W). LifeRun (rules_of service) b.timed.lists.me b.timed.lists.life limits
             (past ++ h.delivers.noted) (out w b.timed))
             (sym h.leaves.workers)
-            (subst (λ m. NodeRun (rules_of service) m limits (past ++ h.delivers.noted)
-            (out a.workers b.timed)) (sym me) run);
+            (subst (λ k. LifeRun (rules_of service) b.timed.lists.me k limits
+            (past ++ h.delivers.noted) (out a.workers b.timed)) (sym takes-life)
+            (subst (λ m. LifeRun (rules_of service) m a.timed.lists.life limits
+            (past ++ h.delivers.noted) (out a.workers b.timed)) (sym me) run));
         serves = subst (service.stands b.service)
             (sym (served-append service.mode_of [] past h.delivers.noted ∙ none.1))
             (rw h.leaves.service s.runs.serves);
@@ -220,6 +234,20 @@ module _ {V W L C R K : Type 0} (service : Service.Ghosts V) (workers : Workers.
       from to h.turns.polls limits (past ++ first) s.runs in
       record { node = me ∙ s.node; runs = runs }
 
+  -- the node keeps its life
+  lives : (limits : Limits) → (past : List Fact)
+      → Stands service workers limits past old.run.endpoint
+      → new.run.endpoint.timed.lists.life ≡ old.run.endpoint.timed.lists.life
+  lives limits past s =
+      let mid = between-stands limits past s in
+      life-more service workers limits (past ++ first) h.turns.between new.run.endpoint second
+      mid.runs
+      (group-polled o.log given service workers h.turns.polled h.now h.turns.mid_link
+      (wire_of o.net then_link) h.turns.between new.run.endpoint second
+      (h.turns.polls.does mid.runs.staffed).0)
+      ∙ takes-life o.log service workers h.turns.came old.run.endpoint h.turns.between
+      old.edges.rec h.turns.mid h.turns.takes
+
   more-told : (limits : Limits) → (past : List Fact)
       → Stands service workers limits past old.run.endpoint
       → TellsMore given (o.net.sent old.edges.link) (o.net.sent then_link) (first ++ second) from to
@@ -255,6 +283,7 @@ module _ {V W L C R K : Type 0} (service : Service.Ghosts V) (workers : Workers.
       goes_on = λ limits past s.
           subst (λ z. Stands service workers limits z new.run.endpoint)
           (append_assoc past first second) (polled limits past (between-stands limits past s));
+      lives = lives;
     };
     told = more-told;
   }

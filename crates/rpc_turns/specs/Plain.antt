@@ -6,7 +6,6 @@ use Rattle.rpc_base.specs.declared.fact.Fact.{Fact}
 use Rattle.rpc_base.specs.declared.limits.Limits.{Limits}
 use Rattle.rpc_base.specs.declared.limits.TheConstants.{USUAL_JOBS, USUAL_RING}
 use Rattle.rpc_laws.specs.NodeLists.{new_node}
-use Rattle.rpc_laws.specs.Lives.{first_life}
 use Rattle.rpc_outside.specs.PlainAnswer.{background_answer}
 use Rattle.rpc_outside.specs.Recording.{Log}
 use Rattle.rpc_turns.specs.Turns.{GoesOnBy as GoesOnIn, Stands as StandsBy}
@@ -51,15 +50,16 @@ pub record IsFresh (c : CrewState) : Type 0 where
   pub given : c.dispatching.given ≡ 0
   pub none : jobs_in c.dispatching ≡ []
 
--- the endpoint of node 0 with these limits and this crew, which noted nothing so far
-pub record IsNew (limits : Limits) (c : CrewState) (e : End) : Type 0 where
-  pub timed : e.timed ≡ new_node 0 first_life limits
+-- the endpoint of node 0 in this life with these limits and this crew, which noted nothing so far
+pub record IsNew (life : ℕ) (limits : Limits) (c : CrewState) (e : End) : Type 0 where
+  pub timed : e.timed ≡ new_node 0 life limits
   pub workers : e.workers ≡ c
   pub stands : Stands limits [] e
 
 -- and its crew has so many hands, of which these are out
-pub record IsCrewed (limits : Limits) (hands : ℕ) (out : List HandName) (e : End) : Type 0 where
-  pub timed : e.timed ≡ new_node 0 first_life limits
+pub record IsCrewed (life : ℕ) (limits : Limits) (hands : ℕ) (out : List HandName) (e : End)
+    : Type 0 where
+  pub timed : e.timed ≡ new_node 0 life limits
   pub stands : Stands limits [] e
   pub made : length e.workers.dispatching.view.used ≡ hands
   pub started : AreStarted e.workers out

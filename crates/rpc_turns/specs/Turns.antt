@@ -27,13 +27,15 @@ pub record Stands {V W : Type 0} (service : Service.Ghosts V) (workers : Workers
   pub runs : StandsFor service workers limits g e
 
 -- the recorder grew by facts, and for whatever the endpoint stood, it stands for that and these
--- facts after it
+-- facts after it, in the life that it had
 pub record GoesOnBy {R V W : Type 0} (log : R → Log) (service : Service.Ghosts V)
     (workers : Workers.Ghosts W) (old new : Running V W) (before now : R) : Type 0 where
   pub noted : List Fact
   pub grew : Grew (log before) (log now) noted
   pub goes_on : (limits : Limits) → (past : List Fact) → Stands service workers limits past old
       → Stands service workers limits (past ++ noted) new
+  pub lives : (limits : Limits) → (past : List Fact) → Stands service workers limits past old
+      → new.timed.lists.life ≡ old.timed.lists.life
 
 -- a turn of a run: where the run is asleep its link waited, then the clock gave one number, and the
 -- endpoint made one turn then
@@ -84,13 +86,14 @@ pub record RunsOn {V W L C R : Type 0} (service : Service.Ghosts V) (workers : W
   pub ticks : GivesAll o.gave old.edges.clock new.edges.clock times
 
 -- what a run did in so many turns since it was around these edges, whose endpoint is the one that is
--- left: the facts are a run of node 0 with these limits, the link, where it tells that, sent just
--- what they say was sent, and the clock gave a number for each turn
+-- left: the facts are a run of node 0 in this life with these limits, the link, where it tells that,
+-- sent just what they say was sent, and the clock gave a number for each turn
 pub record HasTurned {V W L C R : Type 0} (service : Service.Ghosts V) (workers : Workers.Ghosts W)
-    (o : Outside L C R) (limits : Limits) (old : Edges L C R) (new : Moment (Running V W) L C R)
-    (made : ℕ) : Type 0 where
+    (o : Outside L C R) (life : ℕ) (limits : Limits) (old : Edges L C R)
+    (new : Moment (Running V W) L C R) (made : ℕ) : Type 0 where
   pub noted : List Fact
   pub grew : Grew (o.log old.rec) (o.log new.edges.rec) noted
+  pub in_life : new.run.timed.lists.life ≡ life
   pub stands : Stands service workers limits noted new.run
   pub sends : o.net.sent new.edges.link
       ≡ option_map (λ ds. ds ++ sent_of noted) (o.net.sent old.link)

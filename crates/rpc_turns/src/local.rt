@@ -8,6 +8,7 @@ ghost use Rattle.rpc_laws.specs.Service.{rules_of};
 ghost use Rattle.rpc_turns.specs.Turns.{Stands};
 
 use endpoint_loop::Endpoint;
+use packet_header::{FIRST_LIFE, Life};
 use rpc_base::{Limits, NoMemory, NodeId};
 use rpc_outside::{Duty, Service};
 use std::alloc::Global;
@@ -27,9 +28,9 @@ impl Duty for NoDuty {
 /// The workers of a service without background types.
 pub type NoWorkers = LocalWorkers<NoDuty>;
 
-/// The endpoint of node 0 with these limits, which are in their ranges, over workers to which no job
-/// was given, which take as many jobs, and which answer background requests as the service does. It
-/// noted nothing so far. `NoMemory` comes only where there is none for it.
+/// The endpoint of node 0 in its first life with these limits, which are in their ranges, over
+/// workers to which no job was given, which take as many jobs, and which answer background requests
+/// as the service does. It noted nothing so far. `NoMemory` comes only where there is none for it.
 pub fn new_endpoint<V: Service + Drop, W: Workers + Drop>(
     alloc: Global,
     limits: Limits,
@@ -46,7 +47,8 @@ pub fn new_endpoint<V: Service + Drop, W: Workers + Drop>(
     ensures workers { IfOk result (λ e. e.workers ≡ workers) }
     ensures stands { IfOk result (Stands V.Service W.Workers limits []) }
 {
-    match Endpoint::new(alloc, NodeId(0), limits, service, workers) {
+    let life = Life(FIRST_LIFE);
+    match Endpoint::new(alloc, NodeId(0), life, limits, service, workers) {
         Ok(endpoint) => Ok(endpoint),
         Err(_workers) => Err(NoMemory),
     }

@@ -5,6 +5,7 @@ ghost use Rattle.rpc_base.specs.Limits.{Fits};
 ghost use Rattle.worker_crew.specs.Crews.{AreStarted};
 
 use endpoint_loop::Endpoint;
+use packet_header::Life;
 use rpc_base::{Limits, MOST_TIMEOUT, NoMemory, NodeId, USUAL_JOBS, USUAL_RING};
 use rpc_outside::{PlainDuty, PlainService};
 use std::alloc::Global;
@@ -17,39 +18,43 @@ pub type PlainCrew<H> = Crew<PlainDuty, H>;
 /// An endpoint with the plain service, whose jobs a crew works.
 pub type PlainEndpoint<H> = Endpoint<PlainService, PlainCrew<H>>;
 
-// The endpoint of node 0 with limits that fit over a crew to which no job was given. The crew comes
-// back where there is no memory.
+// The endpoint of node 0 in this life with limits that fit over a crew to which no job was given.
+// The crew comes back where there is no memory.
 fn endpoint_over<H: Wait>(
     alloc: Global,
+    life: Life,
     limits: Limits,
     crew: PlainCrew<H>,
 ) -> Result<PlainEndpoint<H>, PlainCrew<H>>
+    requires life { 1 ≤ life }
     requires fits { Fits limits }
     requires jobs { limits.jobs ≡ USUAL_JOBS }
     requires fresh { IsFresh crew }
-    ensures made { IfOk result (IsNew limits crew) }
+    ensures made { IfOk result (IsNew life limits crew) }
     ensures wanting { IfErr result (λ back. back ≡ crew) }
 {
-    Endpoint::new(alloc, NodeId(0), limits, PlainService::new(), crew)
+    Endpoint::new(alloc, NodeId(0), life, limits, PlainService::new(), crew)
 }
 
-/// The endpoint of node 0 with a ring of 1,024 places, 64 jobs and this timeout, of 1 to 60,000,000
-/// microseconds, which noted nothing so far, over a crew of `hands` hands, at most 16, each of which
-/// is offered to the spawner, which has no hand out. `NoMemory` comes only where there is none for
-/// the crew or the endpoint; no hand is out then.
+/// The endpoint of node 0 in this life with a ring of 1,024 places, 64 jobs and this timeout, of 1
+/// to 60,000,000 microseconds, which noted nothing so far, over a crew of `hands` hands, at most 16,
+/// each of which is offered to the spawner, which has no hand out. `NoMemory` comes only where there
+/// is none for the crew or the endpoint; no hand is out then.
 pub fn plain_endpoint<H: Wait + Drop, P: Spawner<Hand<PlainDuty>>>(
     rt: H,
     alloc: Global,
+    life: Life,
     timeout: u32,
     hands: u8,
     spawner: &mut P,
 ) -> Result<PlainEndpoint<H>, NoMemory>
+    requires life { 1 ≤ life }
     requires some { 1 ≤ timeout }
     requires most { timeout ≤ MOST_TIMEOUT }
     requires hands { hands ≤ MOST_HANDS }
     requires none { P.hands_out spawner.old ≡ [] }
     ensures made { IfOk result
-        (IsCrewed (limits_at timeout) hands (P.hands_out spawner.new)) }
+        (IsCrewed life (limits_at timeout) hands (P.hands_out spawner.new)) }
     ensures wanting { OnErr result (P.hands_out spawner.new ≡ []) }
 {
     let limits = Limits {
@@ -59,7 +64,7 @@ pub fn plain_endpoint<H: Wait + Drop, P: Spawner<Hand<PlainDuty>>>(
     };
     let duty = Arc::new(alloc, PlainDuty)?;
     let crew = Crew::start(rt, alloc, duty, USUAL_JOBS, hands, spawner)?;
-    match endpoint_over(alloc, limits, crew) {
+    match endpoint_over(alloc, life, limits, crew) {
         Ok(endpoint) => Ok(endpoint),
         Err(crew) => {
             let _none = crew.stop(spawner);

@@ -20,6 +20,7 @@ use crate::rest::{Rest, rests_for};
 use crate::turn::take_turn;
 use client_core::Done;
 use endpoint_loop::{Endpoint, LinkFault, Turn};
+use packet_header::{FIRST_LIFE, Life};
 use rpc_base::{Limits, NoMemory, SessionNo, SessionState, USUAL_TIMEOUT};
 use rpc_outside::{Clock, Duty, Failed, Link, NoRecord, PlainService, Recorder, Service};
 use std::alloc::Global;
@@ -239,8 +240,8 @@ impl<V: Service + Drop, L: Link + Drop, C: Clock + Drop> InlineRunning<V, L, C> 
 pub type PlainRunning<H, L, C> = Running<PlainService, PlainCrew<H>, L, C, NoRecord>;
 
 impl<H: Wait + Drop, L: Link + Drop, C: Clock + Drop> PlainRunning<H, L, C> {
-    /// A run of a new endpoint with the plain service and usual limits, over this link and by this
-    /// clock. Its crew has no hands, and works by itself; its calls wait by the handle `rt`. It
+    /// A run of a new endpoint in its first life with the plain service and usual limits, over this
+    /// link and by this clock. Its crew has no hands, and works by itself; its calls wait by the handle `rt`. It
     /// sleeps where nothing comes, and keeps no facts. `NoMemory` comes only where there is none
     /// for the endpoint.
     pub fn plain(rt: H, alloc: Global, link: L, clock: C) -> Result<PlainRunning<H, L, C>, NoMemory>
@@ -248,7 +249,8 @@ impl<H: Wait + Drop, L: Link + Drop, C: Clock + Drop> PlainRunning<H, L, C> {
         ensures ended { IfOk result (λ r. KeepsAll r.ended []) }
     {
         let mut spawner = SerialSpawner::new();
-        let endpoint = plain_endpoint(rt, alloc, USUAL_TIMEOUT as u32, 0, &mut spawner)?;
+        let (life, timeout) = (Life(FIRST_LIFE), USUAL_TIMEOUT as u32);
+        let endpoint = plain_endpoint(rt, alloc, life, timeout, 0, &mut spawner)?;
         Ok(Running::over(alloc, endpoint, Rest::new(true), link, clock, NoRecord))
     }
 }

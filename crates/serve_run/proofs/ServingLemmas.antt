@@ -6,6 +6,7 @@ use Rattle.std.proofs.lemmas.Bool.{eqb-false, eqb-true}
 use Rattle.command_line.specs.Words.{ServeWords}
 use Rattle.endpoint_node.specs.Notes.{sent_of}
 use Rattle.endpoint_loop.specs.PlainMembers.{plain_members}
+use Rattle.rpc_laws.specs.declared.tables.Timed.{Timed}
 use Rattle.rpc_outside.specs.Faults.{HasRisen}
 use Rattle.rpc_outside.specs.Writing.{Written}
 use Rattle.rpc_turns.proofs.RunLemmas.{none-made, runs-then}
@@ -130,6 +131,8 @@ module _ {L C R : Type 0} (o : Outside L C R) (words : ServeWords) (old : Edges 
         turned = record {
           noted = on.runs.goes.noted;
           grew = on.runs.goes.grew;
+          in_life = on.runs.goes.lives (limits_at words.timeout) [] starts.stands
+              ∙ ap (λ (t : Timed). t.lists.life) starts.timed;
           stands = on.runs.goes.goes_on (limits_at words.timeout) [] starts.stands;
           sends = on.runs.sends (limits_at words.timeout) [] starts.stands
               ∙ ap (option_map (λ ds. ds ++ sent_of on.runs.goes.noted)) starts.sent;

@@ -8,7 +8,6 @@ use Rattle.endpoint_loop.specs.declared.endpoint.poll.Turn.{Turn}
 use Rattle.endpoint_loop.specs.PlainMembers.{plain_members}
 use Rattle.command_line.specs.Words.{ServeWords}
 use Rattle.rpc_laws.specs.NodeLists.{new_node}
-use Rattle.rpc_laws.specs.Lives.{first_life}
 use Rattle.rpc_laws.specs.declared.tables.Counted.{Counted}
 use Rattle.rpc_outside.specs.Faults.{HasRisen}
 use Rattle.rpc_outside.specs.Linking.{NoneComes}
@@ -107,7 +106,8 @@ TurnsEnd status.LinkFault o old new =
 TurnsEnd _ o old new = ⊥
 
 -- a server was started: its link took the address of its words for its own, and tells else what it
--- told; its endpoint is new, with usual limits but for the timeout of its words; no turn was made
+-- told; its endpoint is new, in the life of its words, with usual limits but for their timeout; no
+-- turn was made
 pub record StartsServing {L : Type 0} (net : Link.Ghosts L) (words : ServeWords)
     (link then_link : L) (s : ServesSoFar) : Type 0 where
   pub bound : IfSome (net.bound then_link) (λ bytes. bytes ≡ words.addr)
@@ -115,7 +115,7 @@ pub record StartsServing {L : Type 0} (net : Link.Ghosts L) (words : ServeWords)
   pub lists : NoneComes net.waiting net.received link then_link
   pub faults : net.faults then_link ≡ net.faults link
   pub busies : net.busies then_link ≡ net.busies link
-  pub timed : s.endpoint.timed ≡ new_node 0 first_life (limits_at words.timeout)
+  pub timed : s.endpoint.timed ≡ new_node 0 words.life (limits_at words.timeout)
   pub stands : Stands (limits_at words.timeout) [] s.endpoint
   pub rest : s.rest ≡ resting (sleeps words.idle)
   pub turns : s.turns ≡ words.turns
@@ -129,8 +129,8 @@ pub record HasServedSome {L C R : Type 0} (o : Outside L C R) (words : ServeWord
   pub start : ServesSoFar
   pub starts : StartsServing o.net words old.link ready start
   pub each : Turns (HasServed o) many (where_at start ready old.clock old.rec) new
-  pub turned : HasTurned plain_members crew_members o (limits_at words.timeout) old (end_at new)
-      many
+  pub turned : HasTurned plain_members crew_members o words.life (limits_at words.timeout) old
+      (end_at new) many
 
 -- all turns were made, the link didn't fail, and the line counts what happened
 pub record HasServedAll {L C R : Type 0} (o : Outside L C R) (words : ServeWords)

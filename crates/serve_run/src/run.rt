@@ -103,9 +103,9 @@ fn listen<L: Link>(spec: &ServeSpec, link: &mut L) -> Result<(), Failed>
 }
 
 impl<H: Wait + Drop> ServeRun<H> {
-    /// Binds the link to the address, for an endpoint of node 0 with usual limits but for its
-    /// timeout, and starts its crew: each of its hands, at most 16, is offered to the spawner, which
-    /// has no hand out.
+    /// Binds the link to the address, for an endpoint of node 0 in the life of the words, with usual
+    /// limits but for its timeout, and starts its crew: each of its hands, at most 16, is offered to
+    /// the spawner, which has no hand out.
     /// `LinkFault` comes exactly where a fault of the link came, and `NoMemory` only where there
     /// was no memory; no hand is out then.
     pub fn start<L: Link, P: Spawner<Hand<PlainDuty>>>(
@@ -118,8 +118,8 @@ impl<H: Wait + Drop> ServeRun<H> {
         requires range { IsServeInRange spec.now }
         requires none { P.hands_out spawner.old ≡ [] }
         ensures starts { IfOk result (StartsServing L.Link spec.now link.old link.new) }
-        ensures crew { IfOk result (λ r. IsCrewed (limits_at spec.now.timeout) spec.now.workers
-            (P.hands_out spawner.new) r.endpoint) }
+        ensures crew { IfOk result (λ r. IsCrewed spec.now.life (limits_at spec.now.timeout)
+            spec.now.workers (P.hands_out spawner.new) r.endpoint) }
         ensures none { OnErr result (P.hands_out spawner.new ≡ []) }
         ensures refused { IfErr result (WhyNot (L.faults link.old) (L.faults link.new)) }
         ensures quiet { OnOk result (L.faults link.new ≡ L.faults link.old) }
@@ -130,7 +130,8 @@ impl<H: Wait + Drop> ServeRun<H> {
         let Ok(()) = listen(spec, link) else {
             return Err(Status::LinkFault);
         };
-        let Ok(endpoint) = plain_endpoint(rt, alloc, spec.timeout, spec.workers, spawner) else {
+        let (life, timeout) = (spec.life, spec.timeout);
+        let Ok(endpoint) = plain_endpoint(rt, alloc, life, timeout, spec.workers, spawner) else {
             return Err(Status::NoMemory);
         };
         Ok(ServeRun {

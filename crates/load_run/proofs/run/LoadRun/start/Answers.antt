@@ -7,6 +7,7 @@ use Rattle.run_status.specs.Words.{sleeps}
 use Rattle.load_run.proofs.PassLemmas.{connect-passes}
 use Rattle.rpc_base.specs.declared.event.Event.TheVariants.{Opened}
 use Rattle.rpc_laws.specs.Facts.{plain}
+use Rattle.rpc_laws.specs.declared.tables.Timed.{Timed}
 use Rattle.load_run.proofs.run.LoadRun.start.Goals as goal
 
 pub returns-clause-starts : goal.returns-clause-starts
@@ -16,8 +17,8 @@ returns-clause-starts g c =
     c.in-Ok-of.plan 0 c.in-Ok.peer 32 (record { some = omega arith; few = omega arith })
     c.in-Ok-connect.ensures.makes c.in-Ok-connect.ensures.accepted in
     let passes = opened.passes in
-    let stands = passes.goes.goes_on (limits_at c.spec.inside.timeout) []
-    c.in-Ok-plain_endpoint.ensures.made.stands in
+    let made = c.in-Ok-plain_endpoint.ensures.made in
+    let stands = passes.goes.goes_on (limits_at c.spec.inside.timeout) [] made.stands in
     record {
       noted = passes.goes.noted;
       grew = passes.goes.grew;
@@ -29,6 +30,9 @@ returns-clause-starts g c =
       busies = c.reach.ensures.busies;
       opens = opened.opens ∙ ap₂ (λ m n. plain m (Opened n c.in-Ok.peer 32) ∷ []) stands.node
           (sym c.in-Ok-connect.ensures.number);
+      life = passes.goes.lives (limits_at c.spec.inside.timeout) [] made.stands
+          ∙ ap (λ (t : Timed). t.lists.life) made.timed
+          ∙ ap (λ (w : LoadWords). w.life) c.spec.view_is;
       stands = subst (λ (w : LoadWords). Stands (limits_at w.timeout) passes.goes.noted
           c.connect.new.self) c.spec.view_is stands;
       rest = c.new.ensures ∙ ap (λ s. resting s) (c.sleeps.ensures

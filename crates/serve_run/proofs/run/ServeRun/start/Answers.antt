@@ -2,7 +2,6 @@
 use Rattle.std.proofs.Common.{[], ◌∙◌, ap, refl, subst}
 use Rattle.command_line.specs.Words.{ServeWords}
 use Rattle.rpc_laws.specs.NodeLists.{new_node}
-use Rattle.rpc_laws.specs.Lives.{first_life}
 use Rattle.rpc_turns.specs.Plain.{Stands, limits_at}
 use Rattle.rpc_turns.specs.Rests.{resting}
 use Rattle.run_status.specs.Words.{sleeps}
@@ -18,7 +17,7 @@ returns-clause-starts g c =
       lists = c.listen.ensures.lists;
       faults = c.in-Ok.ensures.cause;
       busies = c.listen.ensures.busies;
-      timed = made.timed ∙ ap (λ (w : ServeWords). new_node 0 first_life (limits_at w.timeout)) same;
+      timed = made.timed ∙ ap (λ (w : ServeWords). new_node 0 w.life (limits_at w.timeout)) same;
       stands = subst (λ (w : ServeWords). Stands (limits_at w.timeout) []
           c.in-Ok-plain_endpoint.endpoint) same made.stands;
       rest = c.new.ensures ∙ ap (λ s. resting s) (c.sleeps.ensures
