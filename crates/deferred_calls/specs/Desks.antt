@@ -2,7 +2,9 @@
 -- answered.
 use Rattle.std.specs.Prelude.{ℕ, suc, ◌+◌, ◌≤◌, List, [], ◌∷◌, ◌++◌, length, map}
 use Rattle.std.specs.List.{AllByRecursion}
+use Rattle.atomic_table.specs.Seated.{TableId}
 use Rattle.worker_board.specs.declared.Parcel.{Parcel}
+use Rattle.worker_crew.specs.Crews.{Team}
 use Rattle.worker_crew.specs.Jobs.{Job, job_of, HasRoom, IsAnswered}
 use Rattle.deferred_calls.specs.declared.job.Numbered.{Numbered}
 
@@ -26,6 +28,31 @@ open_of s = map parcel_of (s.handled ++ s.waiting)
 -- the jobs given and not taken
 abbrev pub out_of : Jobs → List Job
 out_of s = map job_of (open_of s ++ s.answered)
+
+-- the numbers of the jobs whose handles are out
+abbrev pub number_of : Numbered → ℕ
+number_of n = n.number
+
+-- no board and no queue of tickets
+abbrev pub no_table : TableId
+no_table = record {
+  words = 0;
+  slots = 0;
+  views_name = 0;
+  atom = 0;
+  block = 0;
+  offset = 0;
+  slot_names = [];
+}
+
+-- the hands that work for a desk are its handles that are out, each with its job's number. They work
+-- at no board
+abbrev pub hands_of : Jobs → Team
+hands_of s = record {
+  board = record { board = no_table; queue = no_table };
+  out = map number_of s.handled;
+  kept = [];
+}
 
 -- the numbers rise, from `low` on, and stay below `high`
 abbrev pub Rises : ℕ → List Numbered → ℕ → Type 0

@@ -1,5 +1,5 @@
 //! A desk, and what its handles do.
-ghost use Rattle.std.specs.Prelude.{◌≡◌, ◌≤◌, ◌<◌, ◌+◌, ◌++◌, [], ◌∷◌, length, drop};
+ghost use Rattle.std.specs.Prelude.{◌≡◌, ◌≤◌, ◌<◌, ◌+◌, ◌^◌, ◌++◌, [], ◌∷◌, length, drop};
 ghost use Rattle.std.specs.Prelude.{option_to_list};
 ghost use Rattle.std.specs.Prelude.{slice_get, ℕ, Some, IfOk, IfErr, OnOk, OnErr, IsErr, ◌↔◌, ◌≢◌};
 ghost use Rattle.std.specs.Prelude.{IfSome, IfNone, IsPermutation};
@@ -8,7 +8,7 @@ ghost use Rattle.std.specs.VecDeque.{deque_capacity};
 ghost use Rattle.worker_crew.specs.Jobs.{HasRoom, IsAnswered};
 ghost use Rattle.worker_crew.specs.Local.{answered};
 ghost use Rattle.message_buffer.specs.Buffer.{bytes_of};
-ghost use Rattle.deferred_calls.specs.Desks.{HasNumbers, out_of};
+ghost use Rattle.deferred_calls.specs.Desks.{HasNumbers, IsSound, out_of};
 ghost use Rattle.deferred_calls.specs.Moves.{HandsOut, IsHandleOf, Answers, IsFirstOf, TakesOut};
 ghost use Rattle.deferred_calls.specs.Moves.{with_answer};
 
@@ -83,6 +83,14 @@ impl<D: Duty> Desk<D> {
             handled,
             answered,
         })
+    }
+
+    /// What always holds of its jobs.
+    pub fn sound(&self)
+        ensures sound { IsSound D.answer self.now }
+        ensures given { self.now.given < 2 ^ 64 }
+    {
+        let _given = self.given;
     }
 
     /// A handle for the oldest job that has none; `None` comes exactly where each has one.

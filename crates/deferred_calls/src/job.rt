@@ -1,7 +1,10 @@
 //! A job with its number, and the handle of a job.
-ghost use Rattle.std.specs.Prelude.{◌≡◌};
+ghost use Rattle.std.specs.Prelude.{◌≡◌, ◌≤◌, IfOk};
 ghost use Rattle.message_buffer.specs.Buffer.{bytes_of};
 
+use message_buffer::{MOST_CAPACITY, MsgBuf};
+use rpc_base::NoMemory;
+use std::alloc::Global;
 use std::marker::Model;
 use std::snapshot::Snapshot;
 use worker_board::Parcel;
@@ -94,6 +97,30 @@ impl Deferred {
         ensures { result.now ≡ bytes_of self.now.parcel.ask }
     {
         self.job.parcel.ask.bytes()
+    }
+
+    /// How many bytes the answer has.
+    pub fn room(&self) -> u32
+        ensures room { result ≡ self.now.parcel.out.len }
+        ensures most { result ≤ MOST_CAPACITY }
+    {
+        let out = &self.job.parcel.out;
+        let _most = out.capacity();
+        out.len()
+    }
+
+    /// A message of the bytes that are asked. `NoMemory` comes only where there is none for it.
+    pub fn copy_ask(&self, alloc: Global) -> Result<MsgBuf, NoMemory>
+        ensures asks { IfOk result (λ b. bytes_of b ≡ bytes_of self.now.parcel.ask) }
+        ensures len { IfOk result (λ b. b.len ≡ self.now.parcel.ask.len) }
+    {
+        let ask = &self.job.parcel.ask;
+        let _most = ask.capacity();
+        let len = ask.len();
+        let mut copy = MsgBuf::new(alloc, len)?;
+        copy.set_len(len);
+        copy.write(0, ask.bytes());
+        Ok(copy)
     }
 
     /// Gives the handle up, and hands the job's buffers out. The job counts as given and not taken

@@ -1,10 +1,10 @@
 //! A desk as an endpoint's workers.
 ghost use Rattle.std.specs.Prelude.{◌≡◌, ◌≤◌, ◌↔◌, ◌+◌, ◌<◌, ◌∷◌, ◌++◌, [], length, drop, true};
-ghost use Rattle.std.specs.Prelude.{Some, None, option_to_list, false, IsTrue};
+ghost use Rattle.std.specs.Prelude.{Some, option_to_list, false, IsTrue};
 ghost use Rattle.std.specs.Prelude.{IsErr, IfErr, IfSome, IfNone, OnOk, OnErr, IsPermutation};
 ghost use Rattle.worker_crew.specs.Jobs.{job_of, HasRoom, IsAnswered, IsFull, TakesFirst};
 ghost use Rattle.worker_crew.specs.Jobs.{FoundUnfinished};
-ghost use Rattle.deferred_calls.specs.Desks.{open_of, out_of};
+ghost use Rattle.deferred_calls.specs.Desks.{hands_of, open_of, out_of};
 ghost use Rattle.deferred_calls.specs.Moves.{given_to};
 ghost use Rattle.std.specs.VecDeque.{deque_capacity};
 
@@ -31,7 +31,7 @@ impl<D: Duty> Workers for Desk<D> {
 
     ghost looks = { λ _. 0 };
 
-    ghost team = { λ _. None };
+    ghost team = { λ d. Some (hands_of d) };
 
     /// As the trait says; the job gets the next number, and waits behind all others.
     fn give(&mut self, job: Parcel) -> Result<(), Parcel>
@@ -49,6 +49,7 @@ impl<D: Duty> Workers for Desk<D> {
         ensures waits { OnOk result (Some (open_of self.new)
             ≡ Some (open_of self.old ++ job ∷ [])) }
         ensures limit { self.new.limit ≡ self.old.limit }
+        ensures team { Some (hands_of self.new) ≡ Some (hands_of self.old) }
     {
         if self.full() {
             return Err(job);
@@ -88,6 +89,7 @@ impl<D: Duty> Workers for Desk<D> {
         ensures waits { Some (open_of self.new) ≡ Some (open_of self.old) }
         ensures given { self.new.given ≡ self.old.given }
         ensures limit { self.new.limit ≡ self.old.limit }
+        ensures team { Some (hands_of self.new) ≡ Some (hands_of self.old) }
     {
         let parcel = take_first(&mut self.answered)?;
         Some(Finished {
