@@ -4,22 +4,14 @@ use Rattle.std.proofs.Common.{Option, Some, None, List, [], ◌∷◌, length, r
 use Rattle.std.proofs.Common.{◌∙◌, ◌⊎◌, subst, inl, inr, arith, ltb, leb, lit≤}
 use Rattle.std.proofs.lemmas.List.{length-replicate}
 use Rattle.std.specs.Prelude.{◌==◌, nat_lt, nat_le, if◌then◌else◌}
-use borrow.Author.Tests.{eq-eqb, eqb-true, le-leb, le-ltb, leb-true, lt-ltb, ltb-false, ltb-true}
-use borrow.Author.Tests.{not-true}
+use Rattle.std.proofs.lemmas.Bool.{and_from, and_left, and_parts, and_right, eq-eqb, eqb-true, le-leb, le-ltb}
+use Rattle.std.proofs.lemmas.Bool.{leb-true, lt-ltb, ltb-false, ltb-true, not-true, not_from_false, or_left, or_right}
 use Rattle.rpc_base.specs.declared.event.Event.{Event}
-use Rattle.rpc_base.specs.declared.event.Event.TheVariants.{Made, Opened, PairedClient, PairedServer}
-use Rattle.rpc_base.specs.declared.event.Event.TheVariants.{NconnectRing, NconnectNumbers, Accepted, Declined}
-use Rattle.rpc_base.specs.declared.event.Event.TheVariants.{Starved, Connected as IsConnected, FailedNoRoom, FailedNoAnswer}
-use Rattle.rpc_base.specs.declared.event.Event.TheVariants.{Closing as BeginsClosing, NcloseState, NcloseBusy, ClosedHeard}
-use Rattle.rpc_base.specs.declared.event.Event.TheVariants.{ClosedUnheard, Ended, Broken as IsBroken, Rated}
-use Rattle.rpc_base.specs.declared.event.Event.TheVariants.{Nrate, Asked, NcallTooLarge, NcallState}
-use Rattle.rpc_base.specs.declared.event.Event.TheVariants.{Begun, Posted, Flushed, Sent}
-use Rattle.rpc_base.specs.declared.event.Event.TheVariants.{Unsent, Arrived, Overflowed, Bad}
-use Rattle.rpc_base.specs.declared.event.Event.TheVariants.{Heard, Took, Again, Dropped}
-use Rattle.rpc_base.specs.declared.event.Event.TheVariants.{Given, Worked, Ran, Rolled}
-use Rattle.rpc_base.specs.declared.event.Event.TheVariants.{DoneOk, DoneTooSmall, DonePeerLost, Polled}
-use Rattle.rpc_base.specs.declared.event.Event.TheVariants.{Missed, Carried, Lost, Repeated}
-use Rattle.rpc_base.specs.declared.event.Event.TheVariants.{Ticked}
+use Rattle.rpc_base.specs.declared.event.Event.TheVariants.{Arrived, Asked, Bad, Closing as BeginsClosing}
+use Rattle.rpc_base.specs.declared.event.Event.TheVariants.{Missed, NcallState, NcallTooLarge, NcloseBusy}
+use Rattle.rpc_base.specs.declared.event.Event.TheVariants.{NcloseState, NconnectNumbers, NconnectRing, Nrate}
+use Rattle.rpc_base.specs.declared.event.Event.TheVariants.{Opened, Overflowed, PairedClient, PairedServer}
+use Rattle.rpc_base.specs.declared.event.Event.TheVariants.{Rated, Worked}
 use Rattle.rpc_base.specs.declared.fact.Fact.{Fact}
 use Rattle.rpc_base.specs.declared.fact.Who.{Who}
 use Rattle.rpc_base.specs.declared.fact.Who.TheVariants.{Node}
@@ -47,11 +39,6 @@ use Rattle.node_rules.specs.Noted.{are_credits, has_bytes, is_answer, IsNoted, i
 use Rattle.node_rules.specs.Noted.{is_state, is_taken, lacks_room, pending_in, state_in}
 use Rattle.node_rules.specs.Noted.{state_number}
 
-both : (a b : Bool) → (a && b) ≡ true → (a ≡ true) × (b ≡ true)
-both true true e = (refl, refl)
-both true false e = cc
-both false b e = cc
-
 alone : (a : Bool) → (a || false) ≡ true → a ≡ true
 alone true e = refl
 alone false e = cc
@@ -62,7 +49,7 @@ no-bytes (x ∷ xs) e = let n : length (x ∷ xs) ≡ 0 = eqb-true (length (x �
 
 credits-of : (n : ℕ) → are_credits n ≡ true → IsCredits n
 credits-of n e =
-    let parts = both (leb 1 n) (leb n MOST_CREDITS) e in
+    let parts = and_parts (leb 1 n) (leb n MOST_CREDITS) e in
     record { some = leb-true 1 n parts.0; few = leb-true n MOST_CREDITS parts.1 }
 
 nothing-refuses : (spent : Bool) (credits : ℕ) (l : Lists) → spent ≡ false
@@ -76,8 +63,8 @@ record Free (spent : Bool) (credits : ℕ) (l : Lists) : Type 0 where
 free-if : (spent : Bool) (credits : ℕ) (l : Lists) → is_taken spent credits l ≡ true
     → Free spent credits l
 free-if spent credits l e =
-    let parts = both (are_credits credits) (not spent && not (has_no_room credits l)) e in
-    let rest = both (not spent) (not (has_no_room credits l)) parts.1 in
+    let parts = and_parts (are_credits credits) (not spent && not (has_no_room credits l)) e in
+    let rest = and_parts (not spent) (not (has_no_room credits l)) parts.1 in
     record {
       few = credits-of credits parts.0;
       fits = nothing-refuses spent credits l (not-true spent rest.0) (not-true (has_no_room credits l) rest.1);
@@ -168,16 +155,16 @@ module _ (mode : ℕ → Mode) (s : Timed) where
   abbrev Grouped : Event → List ℕ → Type 0
   Grouped e first = Group mode s (with_bytes s.lists.me e first ∷ []) (gone (with_bytes s.lists.me e first ∷ []))
 
-  paired-client : (n p t c : ℕ) (first : List ℕ) → n ≡ length s.lists.clients → t < SESSION_NUMBERS
-      → Free (clients_spent s.lists) c s.lists → first ≡ [] → Grouped (PairedClient n p t c) first
-  paired-client n p t c first e h f k =
-      pairs_client p t c (record { credits_fit = f.few; other_is = h; fits = f.fits })
+  paired-client : (n p t c w : ℕ) (first : List ℕ) → n ≡ length s.lists.clients → t < SESSION_NUMBERS
+      → Free (clients_spent s.lists) c s.lists → first ≡ [] → Grouped (PairedClient n p t c w) first
+  paired-client n p t c w first e h f k =
+      pairs_client p t c w (record { credits_fit = f.few; other_is = h; fits = f.fits })
       (record { facts = rw (e, k) refl; goes = refl })
 
-  paired-server : (n p t c : ℕ) (first : List ℕ) → n ≡ s.lists.server_numbers → t < SESSION_NUMBERS
-      → Free (servers_spent s.lists) c s.lists → first ≡ [] → Grouped (PairedServer n p t c) first
-  paired-server n p t c first e h f k =
-      pairs_server p t c (record { credits_fit = f.few; other_is = h; fits = f.fits })
+  paired-server : (n p t c w : ℕ) (first : List ℕ) → n ≡ s.lists.server_numbers → t < SESSION_NUMBERS
+      → Free (servers_spent s.lists) c s.lists → first ≡ [] → Grouped (PairedServer n p t c w) first
+  paired-server n p t c w first e h f k =
+      pairs_server p t c w (record { credits_fit = f.few; other_is = h; fits = f.fits })
       (record { facts = rw (e, k) refl; goes = refl })
 
   opened : (n p c : ℕ) (first : List ℕ) → n ≡ length s.lists.clients
@@ -210,8 +197,9 @@ module _ (mode : ℕ → Mode) (s : Timed) where
   full : (a c room : ℕ) (first : List ℕ) → a ≡ shares s.lists → room ≡ s.lists.room
       → lacks_room c s.lists ≡ true → first ≡ [] → Grouped (NconnectRing a c room) first
   full a c room first e h o k =
-      let parts = both (are_credits c) (not (clients_spent s.lists && servers_spent s.lists) && has_no_room c s.lists) o in
-      let rest = both (not (clients_spent s.lists && servers_spent s.lists)) (has_no_room c s.lists) parts.1 in
+      let parts = and_parts (are_credits c)
+      (not (clients_spent s.lists && servers_spent s.lists) && has_no_room c s.lists) o in
+      let rest = and_parts (not (clients_spent s.lists && servers_spent s.lists)) (has_no_room c s.lists) parts.1 in
       full-by (clients_spent s.lists) (servers_spent s.lists) a c room first refl refl e h
       (credits-of c parts.0) rest.0 rest.1 k
 
@@ -266,49 +254,55 @@ module _ (mode : ℕ → Mode) (s : Timed) where
   -- each event that is an answer
   told : (e : Event) (first : List ℕ) → is_answer s.lists e first ≡ true
       → (has_bytes e || (length first == 0)) ≡ true → Grouped e first
-  told (PairedClient n p t c) first h b =
-      let parts = both (n == length s.lists.clients) (nat_lt t SESSION_NUMBERS && is_taken (clients_spent s.lists) c s.lists) (alone _ h) in
-      let rest = both (nat_lt t SESSION_NUMBERS) (is_taken (clients_spent s.lists) c s.lists) parts.1 in
-      paired-client n p t c first (eqb-true n (length s.lists.clients) parts.0) (ltb-true t SESSION_NUMBERS rest.0)
+  told (PairedClient n p t c w) first h b =
+      let parts = and_parts (n == length s.lists.clients)
+      (nat_lt t SESSION_NUMBERS && is_taken (clients_spent s.lists) c s.lists) (alone _ h) in
+      let rest = and_parts (nat_lt t SESSION_NUMBERS) (is_taken (clients_spent s.lists) c s.lists) parts.1 in
+      paired-client n p t c w first (eqb-true n (length s.lists.clients) parts.0) (ltb-true t SESSION_NUMBERS rest.0)
       (free-if (clients_spent s.lists) c s.lists rest.1) (no-bytes first b)
-  told (PairedServer n p t c) first h b =
-      let parts = both (n == s.lists.server_numbers) (nat_lt t SESSION_NUMBERS && is_taken (servers_spent s.lists) c s.lists) (alone _ h) in
-      let rest = both (nat_lt t SESSION_NUMBERS) (is_taken (servers_spent s.lists) c s.lists) parts.1 in
-      paired-server n p t c first (eqb-true n s.lists.server_numbers parts.0) (ltb-true t SESSION_NUMBERS rest.0)
+  told (PairedServer n p t c w) first h b =
+      let parts = and_parts (n == s.lists.server_numbers)
+      (nat_lt t SESSION_NUMBERS && is_taken (servers_spent s.lists) c s.lists) (alone _ h) in
+      let rest = and_parts (nat_lt t SESSION_NUMBERS) (is_taken (servers_spent s.lists) c s.lists) parts.1 in
+      paired-server n p t c w first (eqb-true n s.lists.server_numbers parts.0) (ltb-true t SESSION_NUMBERS rest.0)
       (free-if (servers_spent s.lists) c s.lists rest.1) (no-bytes first b)
   told (Opened n p c) first h b =
-      let parts = both (n == length s.lists.clients) (is_taken (clients_spent s.lists) c s.lists) (alone _ h) in
-      opened n p c first (eqb-true n (length s.lists.clients) parts.0) (free-if (clients_spent s.lists) c s.lists parts.1)
-      (no-bytes first b)
+      let parts = and_parts (n == length s.lists.clients) (is_taken (clients_spent s.lists) c s.lists) (alone _ h) in
+      opened n p c first (eqb-true n (length s.lists.clients) parts.0)
+      (free-if (clients_spent s.lists) c s.lists parts.1) (no-bytes first b)
   told NconnectNumbers first h b =
       spent (clients_spent s.lists) (servers_spent s.lists) first refl refl (alone _ h) (no-bytes first b)
   told (NconnectRing a c room) first h b =
-      let parts = both (a == shares s.lists) ((room == s.lists.room) && lacks_room c s.lists) (alone _ h) in
-      let rest = both (room == s.lists.room) (lacks_room c s.lists) parts.1 in
-      full a c room first (eqb-true a (shares s.lists) parts.0) (eqb-true room s.lists.room rest.0) rest.1 (no-bytes first b)
+      let parts = and_parts (a == shares s.lists) ((room == s.lists.room) && lacks_room c s.lists) (alone _ h) in
+      let rest = and_parts (room == s.lists.room) (lacks_room c s.lists) parts.1 in
+      full a c room first (eqb-true a (shares s.lists) parts.0) (eqb-true room s.lists.room rest.0) rest.1
+      (no-bytes first b)
   told (BeginsClosing n) first h b =
-      let parts = both (is_connected (state_in n s.lists)) (pending_in n s.lists == 0) (alone _ h) in
+      let parts = and_parts (is_connected (state_in n s.lists)) (pending_in n s.lists == 0) (alone _ h) in
       closing n first parts.0 parts.1 (no-bytes first b)
   told (NcloseBusy n calls) first h b =
-      let parts = both (is_connected (state_in n s.lists)) (not (calls == 0) && (calls == pending_in n s.lists)) (alone _ h) in
-      let rest = both (not (calls == 0)) (calls == pending_in n s.lists) parts.1 in
+      let parts = and_parts (is_connected (state_in n s.lists))
+      (not (calls == 0) && (calls == pending_in n s.lists)) (alone _ h) in
+      let rest = and_parts (not (calls == 0)) (calls == pending_in n s.lists) parts.1 in
       busy n calls first parts.0 rest.0 (eqb-true calls (pending_in n s.lists) rest.1) (no-bytes first b)
   told (NcloseState n state) first h b =
-      let parts = both (not (is_connected (state_in n s.lists))) (is_state state (state_in n s.lists)) (alone _ h) in
+      let parts = and_parts (not (is_connected (state_in n s.lists)))
+      (is_state state (state_in n s.lists)) (alone _ h) in
       unclosed n state first (not-true (is_connected (state_in n s.lists)) parts.0)
       (same-state state (state_in n s.lists) parts.1) (no-bytes first b)
   told (Rated n rate) first h b = rated n rate first (alone _ h) (no-bytes first b)
   told (Nrate n state) first h b =
-      let parts = both (not (is_live (state_in n s.lists))) (is_state state (state_in n s.lists)) (alone _ h) in
+      let parts = and_parts (not (is_live (state_in n s.lists))) (is_state state (state_in n s.lists)) (alone _ h) in
       unrated n state first (not-true (is_live (state_in n s.lists)) parts.0)
       (same-state state (state_in n s.lists) parts.1) (no-bytes first b)
   told (Asked c n y room) first h b =
-      let parts = both (c == s.lists.asked) (nat_le (length first) MOST_MESSAGE_BYTES && is_open (state_in n s.lists)) (alone _ h) in
-      let rest = both (nat_le (length first) MOST_MESSAGE_BYTES) (is_open (state_in n s.lists)) parts.1 in
+      let parts = and_parts (c == s.lists.asked)
+      (nat_le (length first) MOST_MESSAGE_BYTES && is_open (state_in n s.lists)) (alone _ h) in
+      let rest = and_parts (nat_le (length first) MOST_MESSAGE_BYTES) (is_open (state_in n s.lists)) parts.1 in
       asked c n y room first (eqb-true c s.lists.asked parts.0) rest.0 rest.1
   told (NcallTooLarge n len) first h b = too-large n len first (alone _ h) (no-bytes first b)
   told (NcallState n state) first h b =
-      let parts = both (not (is_open (state_in n s.lists))) (is_state state (state_in n s.lists)) (alone _ h) in
+      let parts = and_parts (not (is_open (state_in n s.lists))) (is_state state (state_in n s.lists)) (alone _ h) in
       unasked n state first (not-true (is_open (state_in n s.lists)) parts.0)
       (same-state state (state_in n s.lists) parts.1) (no-bytes first b)
   told (Arrived p) first h b =
@@ -325,37 +319,7 @@ module _ (mode : ℕ → Mode) (s : Timed) where
       (nat_lt (length s.lists.inbox) inbox_room) p h)
   told (Worked t r) first h b = works t r h (record { facts = rw (no-bytes first b) refl; goes = refl })
   told (Missed i) first h b = misses i (record { facts = rw (no-bytes first b) refl; goes = refl })
-  told (Made x0) first h b = cc
-  told (Accepted x0 x1 x2 x3) first h b = cc
-  told (Declined x0 x1 x2) first h b = cc
-  told (Starved x0 x1 x2) first h b = cc
-  told (IsConnected x0 x1) first h b = cc
-  told (FailedNoRoom x0) first h b = cc
-  told (FailedNoAnswer x0) first h b = cc
-  told (ClosedHeard x0) first h b = cc
-  told (ClosedUnheard x0) first h b = cc
-  told (Ended x0) first h b = cc
-  told (IsBroken x0) first h b = cc
-  told (Begun x0 x1) first h b = cc
-  told (Posted x0 x1) first h b = cc
-  told (Flushed x0 x1) first h b = cc
-  told (Sent x0 x1 x2) first h b = cc
-  told (Unsent x0) first h b = cc
-  told Heard first h b = cc
-  told (Took x0 x1) first h b = cc
-  told (Again x0 x1) first h b = cc
-  told (Dropped x0) first h b = cc
-  told (Given x0 x1) first h b = cc
-  told (Ran x0 x1 x2) first h b = cc
-  told (Rolled x0 x1 x2) first h b = cc
-  told (DoneOk x0) first h b = cc
-  told (DoneTooSmall x0 x1) first h b = cc
-  told (DonePeerLost x0) first h b = cc
-  told (Polled x0) first h b = cc
-  told (Carried x0) first h b = cc
-  told (Lost x0) first h b = cc
-  told (Repeated x0) first h b = cc
-  told (Ticked x0) first h b = cc
+  told _ first h b = cc
 
   -- a fact that is noted is a group of its own
   pub noted-group : (f : Fact) → IsNoted s.lists f → Group mode s (f ∷ []) (gone (f ∷ []))
@@ -367,20 +331,8 @@ module _ (mode : ℕ → Mode) (s : Timed) where
 abbrev pub IsPoll : (ℕ → Mode) → Timed → List Fact → Timed → Type 0
 IsPoll mode s x t = (now : ℕ) × Poll mode now s x t
 
-one-more : (a b : Bool) → a ≡ true → b ≡ true → (a && b) ≡ true
-one-more true b e h = h
-one-more false b e h = cc
-
-with-none : (a : Bool) → a ≡ true → (a || false) ≡ true
-with-none true e = refl
-with-none false e = cc
-
-negated : (a : Bool) → a ≡ false → not a ≡ true
-negated false e = refl
-negated true e = cc
-
 are-credits : (n : ℕ) → IsCredits n → are_credits n ≡ true
-are-credits n h = one-more (leb 1 n) (leb n MOST_CREDITS) (le-leb 1 n h.some) (le-leb n MOST_CREDITS h.few)
+are-credits n h = and_from (leb 1 n) (leb n MOST_CREDITS) (le-leb 1 n h.some) (le-leb n MOST_CREDITS h.few)
 
 record Unrefused (spent : Bool) (credits : ℕ) (l : Lists) : Type 0 where
   unspent : spent ≡ false
@@ -397,13 +349,14 @@ taken-if : (spent : Bool) (credits : ℕ) (l : Lists) → IsCredits credits
     → refusal_by spent credits l ≡ None → is_taken spent credits l ≡ true
 taken-if spent credits l h e =
     let parts = unrefused-by spent (has_no_room credits l) (shares l) credits l.room e in
-    one-more (are_credits credits) (not spent && not (has_no_room credits l)) (are-credits credits h)
-    (one-more (not spent) (not (has_no_room credits l)) (negated spent parts.0)
-    (negated (has_no_room credits l) parts.1))
+    and_from (are_credits credits) (not spent && not (has_no_room credits l)) (are-credits credits h)
+    (and_from (not spent) (not (has_no_room credits l)) (not_from_false spent parts.0)
+    (not_from_false (has_no_room credits l) parts.1))
 
 refused-by : (spent full : Bool) (a b d : ℕ) (e : Event)
     → cond spent (Some NconnectNumbers) (cond full (Some (NconnectRing a b d)) None) ≡ Some e
-    → ((spent ≡ true) × (e ≡ NconnectNumbers)) ⊎ ((spent ≡ false) × (full ≡ true) × (e ≡ NconnectRing a b d))
+    → ((spent ≡ true) × (e ≡ NconnectNumbers))
+    ⊎ ((spent ≡ false) × (full ≡ true) × (e ≡ NconnectRing a b d))
 refused-by true full a b d e h = let same : e ≡ NconnectNumbers = cc in inl (refl, same)
 refused-by false true a b d e h = let same : e ≡ NconnectRing a b d = cc in inr (refl, refl, same)
 refused-by false false a b d e h = cc
@@ -414,10 +367,6 @@ first-is f g r e = cc
 front-is : (f g : Fact) (r q : List Fact) → f ∷ r ≡ g ∷ q → f ≡ g
 front-is f g r q e = cc
 
-or-right : (a b : Bool) → b ≡ true → (a || b) ≡ true
-or-right true b e = refl
-or-right false b e = e
-
 module _ (l : Lists) where
   abbrev Noted : Fact → Type 0
   Noted f = IsNoted l f
@@ -425,65 +374,55 @@ module _ (l : Lists) where
   as-noted : (f g : Fact) → f ≡ g → Noted g → Noted f
   as-noted f g e h = subst Noted (sym e) h
 
-  noted-client : (p t c : ℕ) → MayPair (client_refusal c l) t c
-      → Noted (plain l.me (PairedClient (length l.clients) p t c))
-  noted-client p t c h = record {
+  noted-client : (p t c w : ℕ) → MayPair (client_refusal c l) t c
+      → Noted (plain l.me (PairedClient (length l.clients) p t c w))
+  noted-client p t c w h = record {
     own = refl;
-    answer = with-none _ (one-more _ _ (eq-eqb (length l.clients) (length l.clients) refl)
-        (one-more _ _ (lt-ltb t SESSION_NUMBERS h.other_is) (taken-if (clients_spent l) c l h.credits_fit h.fits)));
+    answer = or_left _ _ (and_from _ _ (eq-eqb (length l.clients) (length l.clients) refl)
+        (and_from _ _ (lt-ltb t SESSION_NUMBERS h.other_is) (taken-if (clients_spent l) c l h.credits_fit h.fits)));
     first = refl;
     second = refl;
   }
 
-  noted-server : (p t c : ℕ) → MayPair (server_refusal c l) t c
-      → Noted (plain l.me (PairedServer l.server_numbers p t c))
-  noted-server p t c h = record {
+  noted-server : (p t c w : ℕ) → MayPair (server_refusal c l) t c
+      → Noted (plain l.me (PairedServer l.server_numbers p t c w))
+  noted-server p t c w h = record {
     own = refl;
-    answer = with-none _ (one-more _ _ (eq-eqb l.server_numbers l.server_numbers refl)
-        (one-more _ _ (lt-ltb t SESSION_NUMBERS h.other_is) (taken-if (servers_spent l) c l h.credits_fit h.fits)));
+    answer = or_left _ _ (and_from _ _ (eq-eqb l.server_numbers l.server_numbers refl)
+        (and_from _ _ (lt-ltb t SESSION_NUMBERS h.other_is) (taken-if (servers_spent l) c l h.credits_fit h.fits)));
     first = refl;
     second = refl;
   }
 
   noted-spent : (clients_spent l || servers_spent l) ≡ true → Noted (plain l.me NconnectNumbers)
-  noted-spent e = record { own = refl; answer = with-none _ e; first = refl; second = refl }
+  noted-spent e = record { own = refl; answer = or_left _ _ e; first = refl; second = refl }
 
   noted-full : (c : ℕ) → IsCredits c → (clients_spent l && servers_spent l) ≡ false
       → has_no_room c l ≡ true → Noted (plain l.me (NconnectRing (shares l) c l.room))
   noted-full c few e h = record {
     own = refl;
-    answer = with-none _ (one-more _ _ (eq-eqb (shares l) (shares l) refl)
-        (one-more _ _ (eq-eqb l.room l.room refl) (one-more _ _ (are-credits c few)
-        (one-more _ _ (negated (clients_spent l && servers_spent l) e) h))));
+    answer = or_left _ _ (and_from _ _ (eq-eqb (shares l) (shares l) refl)
+        (and_from _ _ (eq-eqb l.room l.room refl) (and_from _ _ (are-credits c few)
+        (and_from _ _ (not_from_false (clients_spent l && servers_spent l) e) h))));
     first = refl;
     second = refl;
   }
 
-  not-both-left : (a b : Bool) → a ≡ false → (a && b) ≡ false
-  not-both-left false b e = refl
-  not-both-left true b e = cc
-
-  not-both-right : (a b : Bool) → b ≡ false → (a && b) ≡ false
-  not-both-right true b e = e
-  not-both-right false b e = refl
-
-  or-left : (a b : Bool) → a ≡ true → (a || b) ≡ true
-  or-left true b e = refl
-  or-left false b e = cc
-
   refused-client : (c : ℕ) (e : Event) → IsCredits c
-      → ((clients_spent l ≡ true) × (e ≡ NconnectNumbers)) ⊎ ((clients_spent l ≡ false) × (has_no_room c l ≡ true) × (e ≡ NconnectRing (shares l) c l.room))
+      → ((clients_spent l ≡ true) × (e ≡ NconnectNumbers))
+      ⊎ ((clients_spent l ≡ false) × (has_no_room c l ≡ true) × (e ≡ NconnectRing (shares l) c l.room))
       → Noted (plain l.me e)
-  refused-client c e few (inl h) = rw h.1 (noted-spent (or-left (clients_spent l) (servers_spent l) h.0))
+  refused-client c e few (inl h) = rw h.1 (noted-spent (or_left (clients_spent l) (servers_spent l) h.0))
   refused-client c e few (inr h) =
-      rw h.2 (noted-full c few (not-both-left (clients_spent l) (servers_spent l) h.0) h.1)
+      rw h.2 (noted-full c few (and_left (clients_spent l) (servers_spent l) h.0) h.1)
 
   refused-server : (c : ℕ) (e : Event) → IsCredits c
-      → ((servers_spent l ≡ true) × (e ≡ NconnectNumbers)) ⊎ ((servers_spent l ≡ false) × (has_no_room c l ≡ true) × (e ≡ NconnectRing (shares l) c l.room))
+      → ((servers_spent l ≡ true) × (e ≡ NconnectNumbers))
+      ⊎ ((servers_spent l ≡ false) × (has_no_room c l ≡ true) × (e ≡ NconnectRing (shares l) c l.room))
       → Noted (plain l.me e)
-  refused-server c e few (inl h) = rw h.1 (noted-spent (or-right (clients_spent l) (servers_spent l) h.0))
+  refused-server c e few (inl h) = rw h.1 (noted-spent (or_right (clients_spent l) (servers_spent l) h.0))
   refused-server c e few (inr h) =
-      rw h.2 (noted-full c few (not-both-right (clients_spent l) (servers_spent l) h.0) h.1)
+      rw h.2 (noted-full c few (and_right (clients_spent l) (servers_spent l) h.0) h.1)
 
   noted-refusal : (c : ℕ) (e : Event) → IsCredits c
       → (client_refusal c l ≡ Some e) ⊎ (server_refusal c l ≡ Some e) → Noted (plain l.me e)
@@ -496,7 +435,7 @@ module _ (l : Lists) where
       → Noted (plain l.me (Opened (length l.clients) p c))
   noted-opened p c few h = record {
     own = refl;
-    answer = with-none _ (one-more _ _ (eq-eqb (length l.clients) (length l.clients) refl)
+    answer = or_left _ _ (and_from _ _ (eq-eqb (length l.clients) (length l.clients) refl)
         (taken-if (clients_spent l) c l few h));
     first = refl;
     second = refl;
@@ -507,8 +446,8 @@ module _ (l : Lists) where
   noted-connect f r p c rate (Some e) few h k =
       as-noted f (plain l.me e) (front-is f (plain l.me e) r [] k) (noted-refusal c e few (inl h))
   noted-connect f r p c rate None few h k =
-      as-noted f (plain l.me (Opened (length l.clients) p c)) (front-is f (plain l.me (Opened (length l.clients) p c)) r _ k)
-      (noted-opened p c few h)
+      let opens = plain l.me (Opened (length l.clients) p c) in
+      as-noted f opens (front-is f opens r _ k) (noted-opened p c few h)
 
   own-state : (x : SessionState) → is_state x x ≡ true
   own-state x = eq-eqb (state_number x) (state_number x) refl
@@ -516,11 +455,11 @@ module _ (l : Lists) where
   noted-closing : (n : ℕ) (b z : Bool) → is_connected (state_in n l) ≡ b → (pending_in n l == 0) ≡ z
       → Noted (plain l.me (disconnect_by (state_in n l) n (pending_in n l)))
   noted-closing n true true e h =
-      rw (e, h) (record { own = refl; answer = with-none _ (one-more _ _ e h); first = refl; second = refl })
+      rw (e, h) (record { own = refl; answer = or_left _ _ (and_from _ _ e h); first = refl; second = refl })
   noted-closing n true false e h =
       rw (e, h) (record {
         own = refl;
-        answer = with-none _ (one-more _ _ e (one-more _ _ (negated (pending_in n l == 0) h)
+        answer = or_left _ _ (and_from _ _ e (and_from _ _ (not_from_false (pending_in n l == 0) h)
             (eq-eqb (pending_in n l) (pending_in n l) refl)));
         first = refl;
         second = refl;
@@ -528,7 +467,7 @@ module _ (l : Lists) where
   noted-closing n false z e h =
       rw e (record {
         own = refl;
-        answer = with-none _ (one-more _ _ (negated (is_connected (state_in n l)) e) (own-state (state_in n l)));
+        answer = or_left _ _ (and_from _ _ (not_from_false (is_connected (state_in n l)) e) (own-state (state_in n l)));
         first = refl;
         second = refl;
       })
@@ -536,11 +475,11 @@ module _ (l : Lists) where
   noted-rate : (n rate : ℕ) (b : Bool) → is_live (state_in n l) ≡ b
       → Noted (plain l.me (rate_by (state_in n l) n rate))
   noted-rate n rate true e =
-      rw e (record { own = refl; answer = with-none _ e; first = refl; second = refl })
+      rw e (record { own = refl; answer = or_left _ _ e; first = refl; second = refl })
   noted-rate n rate false e =
       rw e (record {
         own = refl;
-        answer = with-none _ (one-more _ _ (negated (is_live (state_in n l)) e) (own-state (state_in n l)));
+        answer = or_left _ _ (and_from _ _ (not_from_false (is_live (state_in n l)) e) (own-state (state_in n l)));
         first = refl;
         second = refl;
       })
@@ -551,14 +490,14 @@ module _ (l : Lists) where
   noted-asked n y room ask true e h =
       rw (open-state (state_in n l) e) (record {
         own = refl;
-        answer = with-none _ (one-more _ _ (eq-eqb l.asked l.asked refl) (one-more _ _ h e));
+        answer = or_left _ _ (and_from _ _ (eq-eqb l.asked l.asked refl) (and_from _ _ h e));
         first = refl;
         second = refl;
       })
   noted-asked n y room ask false e h =
       rw (shut-state (state_in n l) n y room ask l e) (record {
         own = refl;
-        answer = with-none _ (one-more _ _ (negated (is_open (state_in n l)) e) (own-state (state_in n l)));
+        answer = or_left _ _ (and_from _ _ (not_from_false (is_open (state_in n l)) e) (own-state (state_in n l)));
         first = refl;
         second = refl;
       })
@@ -566,7 +505,7 @@ module _ (l : Lists) where
   noted-ask : (n y room : ℕ) (ask : List ℕ) (b : Bool) → ltb MOST_MESSAGE_BYTES (length ask) ≡ b
       → Noted (ask_fact n y room ask l)
   noted-ask n y room ask true e =
-      rw e (record { own = refl; answer = with-none _ e; first = refl; second = refl })
+      rw e (record { own = refl; answer = or_left _ _ e; first = refl; second = refl })
   noted-ask n y room ask false e =
       let few : leb (length ask) MOST_MESSAGE_BYTES ≡ true =
       le-leb (length ask) MOST_MESSAGE_BYTES (ltb-false MOST_MESSAGE_BYTES (length ask) e) in
@@ -589,10 +528,10 @@ module _ (l : Lists) where
 -- each group that is no poll begins with a fact that is noted
 pub group-noted : (mode : ℕ → Mode) (s : Timed) (f : Fact) (r : List Fact) (t : Timed)
     → Group mode s (f ∷ r) t → IsPoll mode s (f ∷ r) t ⊎ IsNoted s.lists f
-group-noted mode s f r t (pairs_client p o c may n) =
-    inr (as-noted s.lists f _ (first-is f _ r n.facts) (noted-client s.lists p o c may))
-group-noted mode s f r t (pairs_server p o c may n) =
-    inr (as-noted s.lists f _ (first-is f _ r n.facts) (noted-server s.lists p o c may))
+group-noted mode s f r t (pairs_client p o c w may n) =
+    inr (as-noted s.lists f _ (first-is f _ r n.facts) (noted-client s.lists p o c w may))
+group-noted mode s f r t (pairs_server p o c w may n) =
+    inr (as-noted s.lists f _ (first-is f _ r n.facts) (noted-server s.lists p o c w may))
 group-noted mode s f r t (refuses c few e why n) =
     inr (as-noted s.lists f _ (first-is f _ r n.facts) (noted-refusal s.lists c e few why))
 group-noted mode s f r t (connects p c rate few h) =

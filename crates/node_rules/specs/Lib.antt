@@ -3,5 +3,7 @@ pub mod Fronts
 pub mod Heads
 pub mod NextFacts
 pub mod Noted
+pub mod Sending
 pub mod SingleFacts
+pub mod Speaking
 pub mod Tells

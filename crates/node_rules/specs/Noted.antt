@@ -75,9 +75,9 @@ is_packet bytes = is_message bytes || is_control bytes
 -- whether the node answers so to a connect, or where an end of a pair is made, as the event tells
 -- it
 abbrev pub is_session_answer : Lists → Event → Bool
-is_session_answer s (PairedClient n peer t credits) =
+is_session_answer s (PairedClient n peer t credits life) =
     (n == length s.clients) && (nat_lt t SESSION_NUMBERS && is_taken (clients_spent s) credits s)
-is_session_answer s (PairedServer n peer c credits) =
+is_session_answer s (PairedServer n peer c credits life) =
     (n == s.server_numbers) && (nat_lt c SESSION_NUMBERS && is_taken (servers_spent s) credits s)
 is_session_answer s (Opened n peer credits) =
     (n == length s.clients) && is_taken (clients_spent s) credits s

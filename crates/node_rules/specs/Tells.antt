@@ -14,7 +14,7 @@ use Rattle.rpc_base.specs.declared.fact.Who.{Who}
 use Rattle.rpc_base.specs.declared.fact.Who.TheVariants.{Node, Net}
 use Rattle.rpc_base.specs.declared.owner.Owner.{Owner}
 use Rattle.rpc_base.specs.declared.state.DropReason.{DropReason}
-use Rattle.rpc_base.specs.declared.state.DropReason.TheVariants.{NoSession, WrongPeer, Old}
+use Rattle.rpc_base.specs.declared.state.DropReason.TheVariants.{StaleLife, NoSession, WrongPeer, Old}
 use Rattle.rpc_base.specs.declared.state.DropReason.TheVariants.{NotFirst}
 use Rattle.rpc_base.specs.declared.state.DropReason.TheVariants.{Working, Unserved, JobsFull}
 use Rattle.rpc_base.specs.declared.state.DropReason.TheVariants.{NoMemory}
@@ -33,20 +33,21 @@ is_plain me f = is_node me f.who && ((length f.first == 0) && (length f.second =
 
 -- the place of a reason in its type
 abbrev pub reason_number : DropReason → ℕ
-reason_number NoSession = 0
-reason_number WrongPeer = 1
-reason_number Old = 2
-reason_number NotFirst = 3
-reason_number Working = 4
-reason_number Unserved = 5
-reason_number JobsFull = 6
-reason_number NoMemory = 7
-reason_number Mismatch = 8
-reason_number Ahead = 9
-reason_number Beyond = 10
-reason_number NoCall = 11
-reason_number Past = 12
-reason_number Queued = 13
+reason_number StaleLife = 0
+reason_number NoSession = 1
+reason_number WrongPeer = 2
+reason_number Old = 3
+reason_number NotFirst = 4
+reason_number Working = 5
+reason_number Unserved = 6
+reason_number JobsFull = 7
+reason_number NoMemory = 8
+reason_number Mismatch = 9
+reason_number Ahead = 10
+reason_number Beyond = 11
+reason_number NoCall = 12
+reason_number Past = 13
+reason_number Queued = 14
 
 abbrev pub is_reason : DropReason → DropReason → Bool
 is_reason a b = reason_number a == reason_number b
@@ -56,9 +57,10 @@ abbrev pub tells_heard : Event → Bool
 tells_heard Heard = true
 tells_heard _ = false
 
-abbrev pub tells_accepted : ℕ → ℕ → ℕ → ℕ → Event → Bool
-tells_accepted s p t n (Accepted x0 x1 x2 x3) = (x0 == s) && ((x1 == p) && ((x2 == t) && (x3 == n)))
-tells_accepted s p t n _ = false
+abbrev pub tells_accepted : (s p t n life : ℕ) → Event → Bool
+tells_accepted s p t n life (Accepted x0 x1 x2 x3 x4) =
+    (x0 == s) && ((x1 == p) && ((x2 == t) && ((x3 == n) && (x4 == life))))
+tells_accepted s p t n life _ = false
 
 abbrev pub tells_declined : ℕ → ℕ → ℕ → Event → Bool
 tells_declined p t n (Declined x0 x1 x2) = (x0 == p) && ((x1 == t) && (x2 == n))
@@ -68,9 +70,9 @@ abbrev pub tells_starved : ℕ → ℕ → ℕ → Event → Bool
 tells_starved p t n (Starved x0 x1 x2) = (x0 == p) && ((x1 == t) && (x2 == n))
 tells_starved p t n _ = false
 
-abbrev pub tells_connected : ℕ → ℕ → Event → Bool
-tells_connected s t (IsConnected x0 x1) = (x0 == s) && (x1 == t)
-tells_connected s t _ = false
+abbrev pub tells_connected : (s t life : ℕ) → Event → Bool
+tells_connected s t life (IsConnected x0 x1 x2) = (x0 == s) && ((x1 == t) && (x2 == life))
+tells_connected s t life _ = false
 
 abbrev pub tells_failed_no_room : ℕ → Event → Bool
 tells_failed_no_room s (FailedNoRoom x0) = x0 == s

@@ -3,22 +3,34 @@
 #![tactic(auto)]
 
 mod client_rule;
+mod control_facts;
+mod control_packets;
 mod control_rule;
 mod finishing;
+mod flushing;
 mod heads;
 mod next;
 mod noted;
+mod packets;
 mod posting;
 mod says;
 mod server_rule;
+mod session_ends;
+mod speaking;
 mod timers;
 
 pub use client_rule::{client_row, end_row};
-pub use control_rule::control_row;
+pub use control_facts::control_noted;
+pub use control_packets::{control_reply, own_request, retry_row};
+pub use control_rule::{control_row, is_stale, named_end, outdated};
 pub use finishing::{awaited, next_finished};
+pub use flushing::flushed;
 pub use heads::is_spelled;
 pub use next::{is_end, is_next_begun, is_next_posted};
 pub use noted::is_group;
+pub use packets::{is_sending, outgoing};
 pub use posting::{next_begun, next_posted};
 pub use server_rule::{are_full, makes_job, server_row};
+pub use session_ends::{session_ended, slot_flushed};
+pub use speaking::{answered, spoken};
 pub use timers::row_of;

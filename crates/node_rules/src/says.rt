@@ -10,6 +10,7 @@ ghost use Rattle.node_rules.specs.Tells.{tells_failed_no_answer, tells_failed_no
 ghost use Rattle.node_rules.specs.Tells.{tells_flushed, tells_given, tells_heard, tells_polled};
 ghost use Rattle.node_rules.specs.Tells.{tells_posted, tells_rolled, tells_starved, tells_took};
 
+use packet_header::Life;
 use rpc_base::{CallNo, DropReason, Event, Fact, NodeId, Owner, Peer, RequestNo, SessionNo, Who};
 
 /// Whether it happened at this node.
@@ -34,20 +35,21 @@ fn reason_number(reason: DropReason) -> u8
     ensures { result ≡ reason_number reason }
 {
     match reason {
-        DropReason::NoSession => 0,
-        DropReason::WrongPeer => 1,
-        DropReason::Old => 2,
-        DropReason::NotFirst => 3,
-        DropReason::Working => 4,
-        DropReason::Unserved => 5,
-        DropReason::JobsFull => 6,
-        DropReason::NoMemory => 7,
-        DropReason::Mismatch => 8,
-        DropReason::Ahead => 9,
-        DropReason::Beyond => 10,
-        DropReason::NoCall => 11,
-        DropReason::Past => 12,
-        DropReason::Queued => 13,
+        DropReason::StaleLife => 0,
+        DropReason::NoSession => 1,
+        DropReason::WrongPeer => 2,
+        DropReason::Old => 3,
+        DropReason::NotFirst => 4,
+        DropReason::Working => 5,
+        DropReason::Unserved => 6,
+        DropReason::JobsFull => 7,
+        DropReason::NoMemory => 8,
+        DropReason::Mismatch => 9,
+        DropReason::Ahead => 10,
+        DropReason::Beyond => 11,
+        DropReason::NoCall => 12,
+        DropReason::Past => 13,
+        DropReason::Queued => 14,
     }
 }
 
@@ -76,22 +78,25 @@ fn tells_accepted(
     peer: Peer,
     client: SessionNo,
     credits: u16,
+    life: Life,
 ) -> bool
-    ensures { result ≡ tells_accepted session peer client credits event.now }
+    ensures { result ≡ tells_accepted session peer client credits life event.now }
 {
     let Event::Accepted {
         session: x0,
         peer: x1,
         client: x2,
         credits: x3,
+        life: x4,
     } = event
     else {
         return false;
     };
-    x0.0 == session.0 && x1.0 == peer.0 && x2.0 == client.0 && *x3 == credits
+    x0.0 == session.0 && x1.0 == peer.0 && x2.0 == client.0 && *x3 == credits && *x4 == life.0
 }
 
-/// Whether a fact of the node says that a connect request made this server session.
+/// Whether a fact of the node says that a connect request made this server session, whose client
+/// has this life.
 pub fn says_accepted(
     fact: &Fact,
     me: NodeId,
@@ -99,11 +104,12 @@ pub fn says_accepted(
     peer: Peer,
     client: SessionNo,
     credits: u16,
+    life: Life,
 ) -> bool
     ensures { result ≡ (is_plain me fact.now
-        && tells_accepted session peer client credits fact.now.event) }
+        && tells_accepted session peer client credits life fact.now.event) }
 {
-    is_plain(fact, me) && tells_accepted(&fact.event, session, peer, client, credits)
+    is_plain(fact, me) && tells_accepted(&fact.event, session, peer, client, credits, life)
 }
 
 fn tells_declined(event: &Event, peer: Peer, client: SessionNo, credits: u16) -> bool
@@ -148,24 +154,33 @@ pub fn says_starved(fact: &Fact, me: NodeId, peer: Peer, client: SessionNo, cred
     is_plain(fact, me) && tells_starved(&fact.event, peer, client, credits)
 }
 
-fn tells_connected(event: &Event, session: SessionNo, server: SessionNo) -> bool
-    ensures { result ≡ tells_connected session server event.now }
+fn tells_connected(event: &Event, session: SessionNo, server: SessionNo, life: Life) -> bool
+    ensures { result ≡ tells_connected session server life event.now }
 {
     let Event::Connected {
         session: x0,
         server: x1,
+        life: x2,
     } = event
     else {
         return false;
     };
-    x0.0 == session.0 && x1.0 == server.0
+    x0.0 == session.0 && x1.0 == server.0 && *x2 == life.0
 }
 
-/// Whether a fact of the node says that a client session is connected with this server session.
-pub fn says_connected(fact: &Fact, me: NodeId, session: SessionNo, server: SessionNo) -> bool
-    ensures { result ≡ (is_plain me fact.now && tells_connected session server fact.now.event) }
+/// Whether a fact of the node says that a client session is connected with this server session, in
+/// this life of its node.
+pub fn says_connected(
+    fact: &Fact,
+    me: NodeId,
+    session: SessionNo,
+    server: SessionNo,
+    life: Life,
+) -> bool
+    ensures { result ≡ (is_plain me fact.now
+        && tells_connected session server life fact.now.event) }
 {
-    is_plain(fact, me) && tells_connected(&fact.event, session, server)
+    is_plain(fact, me) && tells_connected(&fact.event, session, server, life)
 }
 
 fn tells_failed_no_room(event: &Event, session: SessionNo) -> bool

@@ -19,13 +19,14 @@ sessions_changed clock f s = record s {
   jobs = (after clock s f).jobs;
 }
 
--- the ring, the inbox and the counts are
+-- the ring, the inbox, the lives that are known and the counts are
 abbrev pub others_changed : Fact → Lists → Lists
 others_changed f s = record s {
   ring = (after 0 s f).ring;
   inbox = (after 0 s f).inbox;
   asked = (after 0 s f).asked;
   server_numbers = (after 0 s f).server_numbers;
+  known = (after 0 s f).known;
   counts = (after 0 s f).counts;
 }
 

@@ -6,6 +6,7 @@ ghost use Rattle.rpc_laws.specs.Sessions.{asks, clients_after, is_client};
 
 use crate::clients as sessions;
 use crate::reading::{front_body, read_control, read_front};
+use packet_header::Life;
 use rpc_base::{CallNo, Event, Listed, NoMemory, Octets, Owner, Peer, SessionNo, SessionState};
 use rpc_laws::{Arrival, Asking, Client};
 use std::alloc::Global;
@@ -105,13 +106,18 @@ pub fn change_clients(
             peer,
             server,
             credits,
-        } => sessions::pair(alloc, clients, *session, *peer, *server, *credits)?,
+            life,
+        } => sessions::pair(alloc, clients, *session, *peer, *server, *credits, *life)?,
         Event::Opened {
             session,
             peer,
             credits,
         } => sessions::open(alloc, clients, *session, *peer, *credits)?,
-        Event::Connected { session, server } => sessions::connect(clients, *session, *server),
+        Event::Connected {
+            session,
+            server,
+            life,
+        } => sessions::connect(clients, *session, *server, Life(*life)),
         Event::FailedNoRoom { session } => sessions::come(clients, *session, SessionState::Failed),
         Event::FailedNoAnswer { session } => sessions::come(
             clients,

@@ -4,13 +4,13 @@ ghost use Rattle.std.specs.List.{position};
 ghost use Rattle.rpc_base.specs.Tables.{at_first};
 ghost use Rattle.rpc_laws.specs.Sessions.{asks, begins, breaks, client_end, clients_told};
 ghost use Rattle.rpc_laws.specs.Sessions.{comes_to, connects, ends, has_call};
-ghost use Rattle.rpc_laws.specs.Sessions.{is_client, is_request_of, no_turns, opened_end, posts};
-ghost use Rattle.rpc_laws.specs.Sessions.{requests, rolls, sends, takes, turned};
+ghost use Rattle.rpc_laws.specs.Sessions.{is_client, is_request_of, is_with, no_turns, opened_end};
+ghost use Rattle.rpc_laws.specs.Sessions.{posts, requests, rolls, sends, takes, turned};
 ghost use Rattle.node_tables.specs.Changed.{new_client};
 
 use crate::calls;
 use crate::counting::one_more;
-use packet_header::{ControlHeader, ControlKind, FIRST_LIFE, Life, MessageHeader};
+use packet_header::{ControlHeader, ControlKind, Life, MessageHeader};
 use rpc_base::{
     CallNo, Listed, NoMemory, Peer, RequestNo, SESSION_NUMBERS, SessionNo, SessionState,
 };
@@ -19,6 +19,9 @@ use std::alloc::Global;
 
 /// The slots of a session.
 const SLOTS: usize = 8;
+
+/// The life of a server that isn't known yet.
+const NOBODYS_LIFE: u32 = 0;
 
 // Eight slots in which no request began.
 fn no_turns(alloc: Global) -> Result<Listed<u64>, NoMemory>
@@ -59,15 +62,16 @@ pub fn pair(
     peer: Peer,
     other: SessionNo,
     credits: u16,
+    life: u32,
 ) -> Result<(), NoMemory>
     ensures { OnOk result (clients.new
-        ≡ clients.old ++ client_end number peer other credits ∷ []) }
+        ≡ clients.old ++ client_end number peer other credits life ∷ []) }
 {
     let way = Way {
         number,
         peer,
         other,
-        life: Life(FIRST_LIFE),
+        life: Life(life),
     };
     let client = new_client(alloc, way, SessionState::Connected, credits)?;
     clients.push(client)?;
@@ -88,7 +92,7 @@ pub fn open(
         number,
         peer,
         other: SessionNo(SESSION_NUMBERS),
-        life: Life(FIRST_LIFE),
+        life: Life(NOBODYS_LIFE),
     };
     let client = new_client(alloc, way, SessionState::Connecting, credits)?;
     clients.push(client)?;
@@ -144,32 +148,40 @@ pub fn come(clients: &mut Listed<Client>, session: SessionNo, state: SessionStat
     come_client(clients.at_mut(place), state);
 }
 
-fn connect_client(client: &mut Client, server: SessionNo)
-    ensures { client.new ≡ connects server client.old }
+fn connect_client(client: &mut Client, server: SessionNo, life: Life)
+    ensures { client.new ≡ connects server life client.old }
 {
     come_client(client, SessionState::Connected);
     client.way.other = server;
+    client.way.life = life;
 }
 
-/// A session is connected with this session of its server.
-pub fn connect(clients: &mut Listed<Client>, session: SessionNo, server: SessionNo)
-    ensures { clients.new ≡ at_first (is_client session) (connects server) clients.old }
+/// A session is connected with this session of its server, in that life of it.
+pub fn connect(clients: &mut Listed<Client>, session: SessionNo, server: SessionNo, life: Life)
+    ensures { clients.new ≡ at_first (is_client session) (connects server life) clients.old }
 {
     let Some(place) = place_of(clients, session) else {
         return;
     };
-    connect_client(clients.at_mut(place), server);
+    connect_client(clients.at_mut(place), server, life);
+}
+
+/// Whether the other end of a way is this session, in this life of its endpoint.
+pub fn is_with(way: &Way, session: SessionNo, life: Life) -> bool
+    ensures { result ≡ is_with session life way.now }
+{
+    way.other.0 == session.0 && way.life.0 == life.0
 }
 
 // Whether a control packet is the session's own request.
 fn is_request_of(client: &Client, head: &ControlHeader) -> bool
-    ensures { result ≡ is_request_of head.now.kind head.now.server client.now.state
-        client.now.way.other }
+    ensures { result ≡ is_request_of head.now.kind head.now.server head.now.to_life
+        client.now.state client.now.way }
 {
-    match (head.kind, head.server, client.state) {
-        (ControlKind::ConnectRequest, _, SessionState::Connecting) => true,
-        (ControlKind::DisconnectRequest, Some(server), SessionState::Closing) => {
-            server.0 == client.way.other.0
+    match (head.kind, head.server, head.to_life, client.state) {
+        (ControlKind::ConnectRequest, _, _, SessionState::Connecting) => true,
+        (ControlKind::DisconnectRequest, Some(server), Some(life), SessionState::Closing) => {
+            is_with(&client.way, server, life)
         }
         _ => false,
     }

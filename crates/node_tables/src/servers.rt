@@ -9,7 +9,7 @@ ghost use Rattle.rpc_laws.specs.Requests.{took_packet};
 
 use crate::counting::one_more;
 use crate::reading::{front_body, read_front};
-use packet_header::{FIRST_LIFE, Life, MessageHeader};
+use packet_header::{Life, MessageHeader};
 use rpc_base::{Event, Listed, NoMemory, Octets, Owner, Peer, RequestNo, SessionNo};
 use rpc_laws::{Arrival, Served, Server, Way};
 use std::alloc::Global;
@@ -22,16 +22,17 @@ fn add(
     peer: Peer,
     other: SessionNo,
     credits: u16,
+    life: u32,
 ) -> Result<(), NoMemory>
     ensures { OnOk result (servers.new
-        ≡ servers.old ++ server_end number peer other credits ∷ []) }
+        ≡ servers.old ++ server_end number peer other credits life ∷ []) }
 {
     servers.push(Server {
         way: Way {
             number,
             peer,
             other,
-            life: Life(FIRST_LIFE),
+            life: Life(life),
         },
         credits,
         slots: Listed::new(alloc),
@@ -320,13 +321,15 @@ pub fn change_servers(
             peer,
             client,
             credits,
-        } => add(alloc, servers, *session, *peer, *client, *credits)?,
+            life,
+        } => add(alloc, servers, *session, *peer, *client, *credits, *life)?,
         Event::Accepted {
             session,
             peer,
             client,
             credits,
-        } => add(alloc, servers, *session, *peer, *client, *credits)?,
+            life,
+        } => add(alloc, servers, *session, *peer, *client, *credits, *life)?,
         Event::Ended { session } => end(servers, *session),
         Event::Took { owner, .. } => match owner {
             Owner::Reply { session, request } => {

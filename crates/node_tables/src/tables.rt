@@ -6,6 +6,7 @@ ghost use Rattle.node_tables.specs.Changed.{others_changed, sessions_changed};
 use crate::client_events::change_clients;
 use crate::counting::{change_counts, count_asked, count_server_numbers};
 use crate::jobs::change_jobs;
+use crate::lives::change_known;
 use crate::pacing::{change_paces, due_of};
 use crate::queues::{change_inbox, change_queued, change_ring};
 use crate::servers::change_servers;
@@ -34,7 +35,7 @@ fn change_sessions(
     Ok(())
 }
 
-// The ring, the inbox and the counts.
+// The ring, the inbox, the lives that are known and the counts.
 fn change_others(alloc: Global, lists: &mut Lists, fact: &Fact) -> Result<(), NoMemory>
     ensures { OnOk result (lists.new ≡ others_changed fact.now lists.old) }
 {
@@ -42,6 +43,7 @@ fn change_others(alloc: Global, lists: &mut Lists, fact: &Fact) -> Result<(), No
     let first = fact.first.bytes();
     change_ring(alloc, &mut lists.ring, event, first)?;
     change_inbox(alloc, &mut lists.inbox, event, first)?;
+    change_known(&mut lists.known, event, first);
     lists.asked = count_asked(lists.asked, event)?;
     lists.server_numbers = count_server_numbers(lists.server_numbers, event)?;
     lists.counts = change_counts(&lists.counts, event);

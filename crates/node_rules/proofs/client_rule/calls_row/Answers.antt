@@ -4,9 +4,12 @@ use Rattle.rpc_laws.specs.Calls.{is_active}
 use Rattle.node_rules.proofs.client_rule.calls_row.Goals as goal
 
 pub returns-in_default : goal.returns-in_default
-returns-in_default c = rw (find-missing (is_active c.args.head.now.request) c.args.calls.now (sym c.in_default.ensures)) refl
+returns-in_default c =
+    rw (find-missing (is_active c.args.head.now.request) c.args.calls.now (sym c.in_default.ensures))
+    refl
 
 pub returns : goal.returns
 returns c =
-    rw (find-found (is_active c.args.head.now.request) c.args.calls.now c.in-Some.place (sym c.in-Some.ensures) ∙ c.at.ensures)
+    rw (find-found (is_active c.args.head.now.request) c.args.calls.now c.in-Some.place
+    (sym c.in-Some.ensures) ∙ c.at.ensures)
     c.call_row.ensures

@@ -4,9 +4,12 @@ use Rattle.rpc_laws.specs.Sessions.{is_client}
 use Rattle.node_rules.proofs.control_rule.disconnect_reply_row.Goals as goal
 
 pub returns-in_default : goal.returns-in_default
-returns-in_default c = rw (find-missing (is_client c.args.head.now.client) c.args.clients.now (sym c.in_default.ensures)) refl
+returns-in_default c =
+    rw (find-missing (is_client c.args.head.now.client) c.args.clients.now (sym c.in_default.ensures))
+    refl
 
 pub returns : goal.returns
 returns c =
-    rw (find-found (is_client c.args.head.now.client) c.args.clients.now c.in-Some.place (sym c.in-Some.ensures) ∙ c.at.ensures)
+    rw (find-found (is_client c.args.head.now.client) c.args.clients.now c.in-Some.place
+    (sym c.in-Some.ensures) ∙ c.at.ensures)
     c.opened_closed_row.ensures

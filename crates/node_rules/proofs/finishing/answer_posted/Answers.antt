@@ -25,4 +25,5 @@ returns-then-says_posted-clause-fronts c =
     (says-posted me owner c.from.result f).0 (sym c.says_posted.ensures ∙ c.if-says_posted.true)
     ∙ ap (λ (k : ℕ). plain me (Posted owner k)) c.from.ensures in
     subst (λ (o : Option ℕ). Fronts (answer_posted me c.args.job.now o) c.args.facts.now (Some 1)) c.in-Some.ensures
-    (fronts-one (plain me (Posted owner c.in-Some.number)) f (take (length c.args.facts.now - 1) (drop 1 c.args.facts.now)) c.args.facts.now parted same)
+    (fronts-one (plain me (Posted owner c.in-Some.number)) f
+    (take (length c.args.facts.now - 1) (drop 1 c.args.facts.now)) c.args.facts.now parted same)

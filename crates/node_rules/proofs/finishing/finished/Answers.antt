@@ -21,5 +21,5 @@ returns c =
     is ∙ ap (λ (a : List ℕ). with_two me (Ran job.session job.request job.req_type) job.ask a)
     (sym (ap told_answer parted)) in
     fronts-more (with_two me (Ran job.session job.request job.req_type) job.ask (told_answer facts)) f
-    (answer_posted me job (awaited job c.args.lists.now.servers)) (take (length facts - 1) (drop 1 facts)) facts c.in-Some.count parted same
-    c.in-Some.ensures.fronts
+    (answer_posted me job (awaited job c.args.lists.now.servers)) (take (length facts - 1) (drop 1 facts)) facts
+    c.in-Some.count parted same c.in-Some.ensures.fronts

@@ -12,5 +12,6 @@ returns-in_default c =
 
 pub returns : goal.returns
 returns c =
-    subst (λ (o : Option Event). IsTrue c.says_posted.result ↔ IsNext o c.args.lists.now.me c.args.fact.now) c.in-Some.ensures
+    subst (λ (o : Option Event). IsTrue c.says_posted.result ↔ IsNext o c.args.lists.now.me c.args.fact.now)
+    c.in-Some.ensures
     (rw c.says_posted.ensures (says-posted c.args.lists.now.me c.in-Some.next.0 c.in-Some.next.1 c.args.fact.now))

@@ -4,9 +4,12 @@ use Rattle.rpc_laws.specs.Sessions.{is_client}
 use Rattle.node_rules.proofs.noted.pending_in.Goals as goal
 
 pub returns-in_default : goal.returns-in_default
-returns-in_default c = rw (find-missing (is_client c.args.session) c.args.lists.now.clients (sym c.in_default.ensures)) refl
+returns-in_default c =
+    rw (find-missing (is_client c.args.session) c.args.lists.now.clients (sym c.in_default.ensures))
+    refl
 
 pub returns : goal.returns
 returns c =
-    rw (find-found (is_client c.args.session) c.args.lists.now.clients c.in-Some.place (sym c.in-Some.ensures) ∙ c.at.ensures)
+    rw (find-found (is_client c.args.session) c.args.lists.now.clients c.in-Some.place
+    (sym c.in-Some.ensures) ∙ c.at.ensures)
     c.len.ensures

@@ -4,9 +4,12 @@ use Rattle.rpc_laws.specs.Requests.{is_server}
 use Rattle.node_rules.proofs.server_rule.server_row.Goals as goal
 
 pub returns-in_default : goal.returns-in_default
-returns-in_default c = rw (find-missing (is_server c.args.head.now.session) c.args.servers.now (sym c.in_default.ensures)) refl
+returns-in_default c =
+    rw (find-missing (is_server c.args.head.now.session) c.args.servers.now (sym c.in_default.ensures))
+    refl
 
 pub returns : goal.returns
 returns c =
-    rw (find-found (is_server c.args.head.now.session) c.args.servers.now c.in-Some.place (sym c.in-Some.ensures) ∙ c.at.ensures)
+    rw (find-found (is_server c.args.head.now.session) c.args.servers.now c.in-Some.place
+    (sym c.in-Some.ensures) ∙ c.at.ensures)
     c.session_row.ensures
