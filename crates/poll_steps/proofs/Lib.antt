@@ -1,0 +1,4 @@
+pub mod ChainLemmas
+pub mod FinishLemmas
+pub mod PostLemmas
+pub mod SendLemmas

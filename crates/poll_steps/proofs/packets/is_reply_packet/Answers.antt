@@ -1,0 +1,11 @@
+use Rattle.std.proofs.Common.{sym, ◌∙◌}
+use Rattle.rpc_base.proofs.TablesLemmas.{find-found, find-missing}
+use Rattle.rpc_laws.specs.Requests.{is_server}
+use Rattle.poll_steps.proofs.packets.is_reply_packet.Goals as goal
+
+pub returns-in_default : goal.returns-in_default
+returns-in_default c = rw (find-missing (is_server c.args.session) c.args.lists.now.servers (sym c.in_default.ensures)) (λ h. cc, λ h. absurd h)
+
+pub returns : goal.returns
+returns c =
+    rw (find-found (is_server c.args.session) c.args.lists.now.servers c.in-Some.place (sym c.in-Some.ensures) ∙ c.at.ensures) c.is_request_packet.ensures

@@ -1,0 +1,83 @@
+//! The first step of a poll: background jobs that are finished.
+ghost use Rattle.std.specs.Prelude.{◌≡◌, IfOk, OnOk, drop};
+ghost use Rattle.rpc_laws.specs.NodeLists.{after_all};
+ghost use Rattle.rpc_laws.specs.PollOrder.{FinishesOne};
+ghost use Rattle.node_rules.specs.SingleFacts.{at_clock};
+ghost use Rattle.poll_steps.specs.Steps.{AreSteps, IsStep, Stops, begins_with, is_ran};
+
+use crate::facts::fact_at;
+use node_rules::next_finished;
+use node_tables::apply;
+use rpc_base::{Event, Fact, NoMemory};
+use rpc_laws::Lists;
+use std::alloc::Global;
+
+fn is_ran(event: &Event) -> bool
+    ensures { result ≡ is_ran event.now }
+{
+    matches!(event, Event::Ran { .. })
+}
+
+// Whether a handler ran at a place.
+fn ran_at(facts: &[Fact], place: usize) -> bool
+    ensures { result ≡ begins_with is_ran (drop place facts.now) }
+{
+    if facts.len() <= place {
+        return false;
+    }
+    is_ran(&fact_at(facts, place).event)
+}
+
+// Changes the lists as the facts do.
+fn apply_all(alloc: Global, lists: &mut Lists, clock: u64, facts: &[Fact]) -> Result<(), NoMemory>
+    ensures { OnOk result (lists.new ≡ after_all clock lists.old facts.now) }
+{
+    let mut count = 0;
+    'facts: while count < facts.len() {
+        apply(alloc, lists, clock, fact_at(facts, count))?;
+        count += 1;
+    }
+    Ok(())
+}
+
+// How many of the facts finish the next job.
+fn finish_one(
+    alloc: Global,
+    lists: &mut Lists,
+    clock: u64,
+    facts: &[Fact],
+) -> Result<Option<usize>, NoMemory>
+    ensures { IfOk result (IsStep FinishesOne (at_clock clock lists.old) facts.now
+        (at_clock clock lists.new)) }
+{
+    let Some(told) = next_finished(lists, facts) else {
+        return Ok(None);
+    };
+    let count = told.min(facts.len());
+    apply_all(alloc, lists, clock, &facts[..count])?;
+    Ok(Some(count))
+}
+
+/// How many of the facts finish background jobs, one after another, at the head of a poll at this
+/// clock, in microseconds, up to the first fact that is no `ran`, and no packet posted behind one.
+/// `None` comes exactly where one of the facts up to there isn't that of a job that is finished.
+/// Changes the lists as these facts do; where the answer is `None`, or memory is wanting, what they
+/// hold isn't told.
+pub fn finish_jobs(
+    alloc: Global,
+    lists: &mut Lists,
+    clock: u64,
+    facts: &[Fact],
+) -> Result<Option<usize>, NoMemory>
+    ensures { IfOk result (AreSteps FinishesOne (Stops is_ran) (at_clock clock lists.old) facts.now
+        (at_clock clock lists.new)) }
+{
+    let mut count = 0;
+    'jobs: while ran_at(facts, count) {
+        let Some(more) = finish_one(alloc, lists, clock, &facts[count..])? else {
+            return Ok(None);
+        };
+        count += more;
+    }
+    Ok(Some(count))
+}
