@@ -1,2 +1,5 @@
-pub mod PollLemmas
-pub mod VerdictLemmas
+mod CalmLemmas
+mod NetLemmas
+mod PollLemmas
+mod VerdictLemmas
+mod WorkedLemmas

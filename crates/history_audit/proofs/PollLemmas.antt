@@ -3,7 +3,7 @@ use Rattle.std.proofs.Common.{◌≡◌, ℕ, ◌==◌, ◌||◌, ◌&&◌, not,
 use Rattle.std.proofs.Common.{arith, eq-eqb, length, subst, true≢false}
 use Rattle.std.proofs.lemmas.Bool.{eqb-true}
 use Rattle.std.specs.List.{filter}
-use Rattle.front_laws.specs.Whole.{is_open, is_polled, is_polls, IsWhole, open_after}
+use Rattle.front_laws.specs.Whole.{is_open, ends_poll, is_polls, IsWhole, open_after}
 use Rattle.history_audit.specs.OpenPolls.{AreOpen, is_among}
 use Rattle.rpc_base.specs.declared.fact.Fact.{Fact}
 use Rattle.rpc_base.specs.declared.fact.Who.TheVariants.{Node, Net}
@@ -95,9 +95,9 @@ next-polls n m f busy who p = rw (who, p) (by (m == n))
     by true = refl
     by false = refl
 
-pub next-polled : (n m : ℕ) (f : Fact) (busy : Bool) → f.who ≡ Node m → is_polls f.event ≡ false
-    → is_polled f.event ≡ true → (not (m == n) && busy) ≡ busy_next n f busy
-next-polled n m f busy who p q = rw (who, p, q) (by (m == n) busy)
+pub next-ended : (n m : ℕ) (f : Fact) (busy : Bool) → f.who ≡ Node m → is_polls f.event ≡ false
+    → ends_poll f.event ≡ true → (not (m == n) && busy) ≡ busy_next n f busy
+next-ended n m f busy who p q = rw (who, p, q) (by (m == n) busy)
   where
     by : (b c : Bool) → (not b && c) ≡ cond b (c && false) c
     by true true = refl
@@ -105,7 +105,7 @@ next-polled n m f busy who p q = rw (who, p, q) (by (m == n) busy)
     by false c = refl
 
 pub next-quiet : (n m : ℕ) (f : Fact) (busy : Bool) → f.who ≡ Node m → is_polls f.event ≡ false
-    → is_polled f.event ≡ false → busy ≡ busy_next n f busy
+    → ends_poll f.event ≡ false → busy ≡ busy_next n f busy
 next-quiet n m f busy who p q = rw (who, p, q) (by (m == n) busy)
   where
     by : (b c : Bool) → c ≡ cond b (c && true) c

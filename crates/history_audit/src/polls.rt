@@ -1,7 +1,7 @@
 //! Which nodes are in the midst of a poll.
 ghost use Rattle.std.specs.Prelude.{ℕ, ◌≡◌, ◌==◌, ◌||◌, ◌&&◌, not, ◌∷◌, ◌++◌, [], ◌↔◌};
 ghost use Rattle.std.specs.Prelude.{List, OnOk, IfSome, IfNone, IsTrue};
-ghost use Rattle.front_laws.specs.Whole.{is_polled, is_polls, IsWhole};
+ghost use Rattle.front_laws.specs.Whole.{IsWhole, ends_poll, is_polls};
 ghost use Rattle.history_audit.specs.OpenPolls.{AreOpen, is_among};
 ghost use Rattle.rpc_base.specs.declared.fact.Fact.{Fact};
 ghost use Rattle.rpc_base.specs.declared.fact.Who.TheVariants.{Node, Net};
@@ -46,6 +46,7 @@ fn is_polls(event: &Event) -> bool
         | Event::Ended { .. }
         | Event::Broken { .. } => true,
         Event::Made { .. }
+        | Event::Restarted { .. }
         | Event::Opened { .. }
         | Event::PairedClient { .. }
         | Event::PairedServer { .. }
@@ -72,11 +73,11 @@ fn is_polls(event: &Event) -> bool
     }
 }
 
-// Whether it ends a poll.
-fn is_polled(event: &Event) -> bool
-    ensures { result ≡ is_polled event.now }
+// Whether no poll is open after it: it ends one, or a life of its node begins.
+fn ends_poll(event: &Event) -> bool
+    ensures { result ≡ ends_poll event.now }
 {
-    matches!(event, Event::Polled { .. })
+    matches!(event, Event::Polled { .. } | Event::Restarted { .. })
 }
 
 // Whose fact it is, None where it is the network's.
@@ -137,7 +138,7 @@ impl OpenPolls {
         };
         if is_polls(&fact.event) {
             open(&mut self.nodes, node)?;
-        } else if is_polled(&fact.event) {
+        } else if ends_poll(&fact.event) {
             shut(&mut self.nodes, node);
         }
         Ok(())

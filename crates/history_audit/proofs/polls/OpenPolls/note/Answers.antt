@@ -1,5 +1,5 @@
 use Rattle.std.proofs.Common.{◌∙◌, sym}
-use Rattle.history_audit.proofs.PollLemmas.{next-net, next-polled, next-polls, next-quiet, open-next}
+use Rattle.history_audit.proofs.PollLemmas.{next-net, next-ended, next-polls, next-quiet, open-next}
 use Rattle.history_audit.proofs.polls.OpenPolls.note.Goals as goal
 
 pub returns-in_default : goal.returns-in_default
@@ -11,14 +11,14 @@ returns-in_ok-open c = λ h a.
     open-next _ _ h c.args.fact.now (λ n. c.in_ok-open.ensures n
     ∙ next-polls n _ c.args.fact.now _ c.in-Some.ensures.node (sym c.is_polls.ensures ∙ c.if-is_polls.true)) a
 
-pub returns-then-is_polled : goal.returns-then-is_polled
-returns-then-is_polled c = λ h a.
+pub returns-then-ends_poll : goal.returns-then-ends_poll
+returns-then-ends_poll c = λ h a.
     open-next _ _ h c.args.fact.now (λ n. c.shut.ensures n
-    ∙ next-polled n _ c.args.fact.now _ c.in-Some.ensures.node
-    (sym c.is_polls.ensures ∙ c.if-is_polls.false) (sym c.is_polled.ensures ∙ c.if-is_polled.true)) a
+    ∙ next-ended n _ c.args.fact.now _ c.in-Some.ensures.node
+    (sym c.is_polls.ensures ∙ c.if-is_polls.false) (sym c.ends_poll.ensures ∙ c.if-ends_poll.true)) a
 
-pub returns-else-is_polled : goal.returns-else-is_polled
-returns-else-is_polled c = λ h a.
+pub returns-else-ends_poll : goal.returns-else-ends_poll
+returns-else-ends_poll c = λ h a.
     open-next _ _ h c.args.fact.now (λ n.
     next-quiet n _ c.args.fact.now _ c.in-Some.ensures.node
-    (sym c.is_polls.ensures ∙ c.if-is_polls.false) (sym c.is_polled.ensures ∙ c.if-is_polled.false)) a
+    (sym c.is_polls.ensures ∙ c.if-is_polls.false) (sym c.ends_poll.ensures ∙ c.if-ends_poll.false)) a

@@ -1,0 +1,4 @@
+mod BookLemmas
+pub mod EachLemmas
+mod NextLemmas
+mod OrLemmas

@@ -1,0 +1,5 @@
+pub mod Kept
+pub mod Requests
+pub mod Shelf
+pub mod SoFar
+pub mod Tells
