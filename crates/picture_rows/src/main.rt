@@ -11,11 +11,13 @@ use std::rt::Files;
 use std::{fs, io};
 
 /// The reports of the folder, each with its picture.
-const PICTURES: [&str; 4] = [
+const PICTURES: [&str; 6] = [
     "one_echo",
     "lost_reply",
     "late_copy",
     "connect_and_disconnect",
+    "late_copy_of_an_older_life",
+    "older_session_ended",
 ];
 
 /// Reports of so many facts.

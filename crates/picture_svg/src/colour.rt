@@ -62,7 +62,8 @@ fn is_blue(event: &Event) -> bool {
 fn is_red(event: &Event) -> bool {
     matches!(
         event,
-        Event::NconnectRing { .. }
+        Event::Restarted { .. }
+            | Event::NconnectRing { .. }
             | Event::NconnectNumbers
             | Event::Declined { .. }
             | Event::Starved { .. }

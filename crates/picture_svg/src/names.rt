@@ -17,6 +17,7 @@ pub fn state_name(state: SessionState) -> &'static str {
 /// Why a packet was dropped, in the word of its report.
 pub fn reason_name(reason: DropReason) -> &'static str {
     match reason {
+        DropReason::StaleLife => "stalelife",
         DropReason::NoSession => "nosession",
         DropReason::WrongPeer => "wrongpeer",
         DropReason::Old => "old",

@@ -23,6 +23,7 @@ use Words::{Bytes, Dropped, Handler, Nothing, One, Plain, Refused, Two};
 /// The words beside the mark of an event.
 pub fn words_of(event: &Event) -> Words {
     match event {
+        Event::Restarted { life } => One("restarts, in life ", u64::from(*life), ""),
         Event::Opened {
             session,
             credits,

@@ -21,8 +21,8 @@ use Rattle.sequence_picture.specs.Tracks.{tracks_after}
 -- between its queues and rings, or is a datagram's, which is drawn as a line
 abbrev pub is_marked : Event → Bool
 is_marked (Made a) = false
-is_marked (PairedClient a b c d) = false
-is_marked (PairedServer a b c d) = false
+is_marked (PairedClient a b c d e) = false
+is_marked (PairedServer a b c d e) = false
 is_marked (Begun a b) = false
 is_marked (Posted a b) = false
 is_marked (Flushed a b) = false

@@ -5,12 +5,13 @@ ghost use Rattle.sequence_picture.specs.Drawing.{is_marked};
 use rpc_base::Event;
 
 /// Whether an event of a node is drawn: what an application does and learns, what a handler does,
-/// what a timer does, and what comes of a packet that isn't just taken.
+/// what a timer does, a restart, and what comes of a packet that isn't just taken.
 pub fn is_marked(event: &Event) -> bool
     ensures { result ≡ is_marked event.now }
 {
     match event {
-        Event::Opened { .. }
+        Event::Restarted { .. }
+        | Event::Opened { .. }
         | Event::NconnectRing { .. }
         | Event::NconnectNumbers
         | Event::Accepted { .. }
