@@ -9,6 +9,7 @@ use crate::tally::{Ending, Tally, Turns};
 use crate::watch::Watch;
 use client_core::Done;
 use endpoint_loop::{Endpoint, LinkFault, Turn};
+use packet_header::{FIRST_LIFE, Life};
 use rpc_base::{
     Limits, MOST_CREDITS, NoMemory, NodeId, Peer, SessionNo, SessionState, USUAL_JOBS, USUAL_RING,
 };
@@ -92,7 +93,8 @@ fn plain_node(alloc: Global, timeout: u64) -> Result<PlainNode, NoMemory>
         jobs: USUAL_JOBS,
         timeout,
     };
-    Endpoint::new(alloc, NodeId(0), limits, PlainService::new(), workers).map_err(|_back| NoMemory)
+    let (life, service) = (Life(FIRST_LIFE), PlainService::new());
+    Endpoint::new(alloc, NodeId(0), life, limits, service, workers).map_err(|_back| NoMemory)
 }
 
 impl Caller {

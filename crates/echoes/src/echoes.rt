@@ -6,10 +6,14 @@ ghost use Rattle.rpc_base.specs.declared.limits.TheConstants.{SESSION_NUMBERS};
 use client_core::Done;
 use endpoint_loop::{Continuation, Endpoint};
 use message_buffer::MsgBuf;
+use packet_header::{FIRST_LIFE, Life};
 use rpc_base::{Limits, NoMemory, NodeId, Peer, SessionNo, USUAL_JOBS};
 use rpc_outside::{Failed, Got, Link, MOST_LINK_BYTES, NoRecord, PlainDuty, PlainService, Taken};
 use std::alloc::Global;
 use worker_crew::LocalWorkers;
+
+/// The life of both endpoints.
+const FIRST: Life = Life(FIRST_LIFE);
 
 /// What each call asks.
 const ASKED: &[u8] = b"hello";
@@ -135,6 +139,7 @@ fn plain_node(alloc: Global, me: u8) -> Result<PlainNode, NoMemory> {
     Endpoint::new(
         alloc,
         NodeId(me),
+        FIRST,
         Limits::usual(),
         PlainService::new(),
         workers,
@@ -166,11 +171,11 @@ impl Pair {
     {
         let session = SessionNo(number);
         self.client
-            .pair_client(Peer(SERVER), session, 1, &mut NoRecord)
+            .pair_client(Peer(SERVER), FIRST, session, 1, &mut NoRecord)
             .is_ok()
             && self
                 .server
-                .pair_server(Peer(CLIENT), session, 1, &mut NoRecord)
+                .pair_server(Peer(CLIENT), FIRST, session, 1, &mut NoRecord)
                 .is_ok()
     }
 

@@ -9,6 +9,7 @@ use crate::kept::Kept;
 use crate::told;
 use endpoint_loop::{Delivery, Endpoint, LinkFault, Refused, Turn};
 use message_buffer::{MOST_CAPACITY, MsgBuf};
+use packet_header::{FIRST_LIFE, Life};
 use rpc_base::{
     CallNo, LEAST_RING, Limits, MOST_CREDITS, NoMemory, NodeId, Peer, SessionNo, SessionState,
     USUAL_JOBS, USUAL_TIMEOUT,
@@ -25,6 +26,9 @@ pub const LIMITS: Limits = Limits {
     timeout: USUAL_TIMEOUT,
 };
 
+/// The life of each endpoint.
+pub const FIRST: Life = Life(FIRST_LIFE);
+
 /// An endpoint at work.
 pub struct Bench<V: Service, W: Workers> {
     pub alloc: Global,
@@ -39,7 +43,8 @@ pub type Plain = Bench<PlainService, LocalWorkers<PlainDuty>>;
 
 fn plain(alloc: Global, node: NodeId, link: MemLink) -> Result<Plain, NoMemory> {
     let workers = LocalWorkers::new(alloc, PlainDuty, USUAL_JOBS)?;
-    let Ok(endpoint) = Endpoint::new(alloc, node, LIMITS, PlainService::new(), workers) else {
+    let service = PlainService::new();
+    let Ok(endpoint) = Endpoint::new(alloc, node, FIRST, LIMITS, service, workers) else {
         return Err(NoMemory);
     };
     Ok(Bench::over(alloc, endpoint, link))
@@ -88,7 +93,7 @@ impl<V: Service, W: Workers> Bench<V, W> {
         requires most { credits ≤ MOST_CREDITS }
     {
         self.endpoint
-            .pair_client(peer, SessionNo(0), credits, &mut self.recorder)
+            .pair_client(peer, FIRST, SessionNo(0), credits, &mut self.recorder)
     }
 
     /// Makes the server end of a session with this peer, whose end is number 0.
@@ -97,7 +102,7 @@ impl<V: Service, W: Workers> Bench<V, W> {
         requires most { credits ≤ MOST_CREDITS }
     {
         self.endpoint
-            .pair_server(peer, SessionNo(0), credits, &mut self.recorder)
+            .pair_server(peer, FIRST, SessionNo(0), credits, &mut self.recorder)
     }
 
     pub fn set_rate(&mut self, session: SessionNo, rate: u32) -> Result<(), SessionState> {

@@ -8,7 +8,7 @@ use std::alloc::Global;
 
 const RATED: &str = "\
 0 nrate 0 unknown
-0 paired client 0 peer 1 with 0 credits 1
+0 paired client 0 peer 1 with 0 credits 1 life 1
 0 rated 0 1000
 0 nrate 1 unknown
 ";
@@ -41,7 +41,7 @@ pub fn rate_row(alloc: Global) -> Result<(), Differs> {
 }
 
 const REFUSED: &str = "\
-0 paired client 0 peer 1 with 0 credits 32
+0 paired client 0 peer 1 with 0 credits 32 life 1
 0 nconnect ring 32 1 32
 0 nconnect ring 32 1 32
 ";

@@ -1,5 +1,5 @@
 //! A service with a state of its own.
-use crate::bench::{Bench, LIMITS, Plain, carry, pair, plain_bench};
+use crate::bench::{Bench, FIRST, LIMITS, Plain, carry, pair, plain_bench};
 use crate::counter::Counter;
 use crate::differs::{Differs, expect};
 use crate::links::sound_link;
@@ -14,7 +14,8 @@ type Counting = Bench<Counter, LocalWorkers<PlainDuty>>;
 // Node 1 with a service that counts what it served, over this link.
 fn counting_bench(alloc: Global, link: MemLink) -> Result<Counting, NoMemory> {
     let workers = LocalWorkers::new(alloc, PlainDuty, USUAL_JOBS)?;
-    let Ok(endpoint) = Endpoint::new(alloc, NodeId(1), LIMITS, Counter::new(), workers) else {
+    let service = Counter::new();
+    let Ok(endpoint) = Endpoint::new(alloc, NodeId(1), FIRST, LIMITS, service, workers) else {
         return Err(NoMemory);
     };
     Ok(Bench::over(alloc, endpoint, link))

@@ -7,7 +7,7 @@ use rpc_base::{Event, Peer, SessionNo};
 use std::alloc::Global;
 
 const UNSENT: &str = "\
-0 paired client 0 peer 1 with 0 credits 1
+0 paired client 0 peer 1 with 0 credits 1 life 1
 0 asked 0 on 0 type 1 room 64 68656c6c6f
 0 begun 0 as 0
 0 posted c 0 0 0
@@ -15,7 +15,7 @@ const UNSENT: &str = "\
 ";
 
 const SENT: &str = "\
-0 paired client 0 peer 1 with 0 credits 1
+0 paired client 0 peer 1 with 0 credits 1 life 1
 0 asked 0 on 0 type 1 room 64 68656c6c6f
 0 begun 0 as 0
 0 posted c 0 0 0

@@ -1,5 +1,5 @@
 //! Background jobs that are finished in another order than they were given.
-use crate::bench::{Bench, LIMITS, Plain, carry, pair, plain_bench};
+use crate::bench::{Bench, FIRST, LIMITS, Plain, carry, pair, plain_bench};
 use crate::differs::Differs;
 use crate::links::sound_link;
 use crate::newest::NewestFirst;
@@ -11,7 +11,7 @@ use std::alloc::Global;
 type Newest = Bench<PlainService, NewestFirst>;
 
 const FACTS: &str = "\
-1 paired server 0 peer 0 with 0 credits 2
+1 paired server 0 peer 0 with 0 credits 2 life 1
 1 arrived 0 e2008200000200000000000000000000000000016162
 1 arrived 0 e2008100000200000000000000000001000000016364
 1 took s 0 0 0
@@ -32,7 +32,7 @@ const FACTS: &str = "\
 fn newest_bench(alloc: Global, link: MemLink) -> Result<Newest, NoMemory> {
     let workers = NewestFirst::new(alloc, USUAL_JOBS)?;
     let service = PlainService::new();
-    let Ok(endpoint) = Endpoint::new(alloc, NodeId(1), LIMITS, service, workers) else {
+    let Ok(endpoint) = Endpoint::new(alloc, NodeId(1), FIRST, LIMITS, service, workers) else {
         return Err(NoMemory);
     };
     Ok(Bench::over(alloc, endpoint, link))

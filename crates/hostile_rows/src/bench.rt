@@ -6,6 +6,7 @@ use crate::stopped::Stopped;
 use client_core::Done;
 use endpoint_loop::{AskError, Continuation, Endpoint};
 use message_buffer::{MOST_CAPACITY, MsgBuf};
+use packet_header::{FIRST_LIFE, Life};
 use report_text::print_facts;
 use rpc_base::{
     Event, LEAST_RING, Limits, MOST_CREDITS, NodeId, Peer, SESSION_NUMBERS, SessionNo, USUAL_JOBS,
@@ -18,6 +19,9 @@ use worker_crew::LocalWorkers;
 
 /// The number of the endpoint's node.
 const ME: NodeId = NodeId(1);
+
+/// The life of the endpoint.
+const LIFE: Life = Life(FIRST_LIFE);
 
 const LIMITS: Limits = Limits {
     ring: LEAST_RING,
@@ -81,7 +85,8 @@ impl Bench {
         let workers = LocalWorkers::new(alloc, PlainDuty, USUAL_JOBS)?;
         let none = Vec::new(alloc);
         let link = MemLink::new(alloc, Vec::new(alloc), LINK_ROOM, none, Vec::new(alloc))?;
-        let Ok(endpoint) = Endpoint::new(alloc, ME, LIMITS, PlainService::new(), workers) else {
+        let service = PlainService::new();
+        let Ok(endpoint) = Endpoint::new(alloc, ME, LIFE, LIMITS, service, workers) else {
             return Err(Stopped::NoMemory);
         };
         Ok(Bench {
@@ -125,14 +130,16 @@ impl Bench {
         match step {
             Step::Server {
                 peer,
+                life,
                 client,
                 credits,
-            } => self.pair_server(peer, client, credits),
+            } => self.pair_server(peer, life, client, credits),
             Step::Client {
                 peer,
+                life,
                 server,
                 credits,
-            } => self.pair_client(peer, server, credits),
+            } => self.pair_client(peer, life, server, credits),
             Step::Connect { peer, credits } => self.connect(peer, credits),
             Step::Ask {
                 session,
@@ -146,25 +153,37 @@ impl Bench {
         }
     }
 
-    fn pair_server(&mut self, peer: Peer, client: SessionNo, credits: u16) -> Result<(), Stopped> {
+    fn pair_server(
+        &mut self,
+        peer: Peer,
+        life: Life,
+        client: SessionNo,
+        credits: u16,
+    ) -> Result<(), Stopped> {
         check_credits(credits)?;
-        if SESSION_NUMBERS <= client.0 {
+        if SESSION_NUMBERS <= client.0 || life.0 == 0 {
             return Err(Stopped::NoStep);
         }
         unless_wanting(
             self.endpoint
-                .pair_server(peer, client, credits, &mut self.recorder),
+                .pair_server(peer, life, client, credits, &mut self.recorder),
         )
     }
 
-    fn pair_client(&mut self, peer: Peer, server: SessionNo, credits: u16) -> Result<(), Stopped> {
+    fn pair_client(
+        &mut self,
+        peer: Peer,
+        life: Life,
+        server: SessionNo,
+        credits: u16,
+    ) -> Result<(), Stopped> {
         check_credits(credits)?;
-        if SESSION_NUMBERS <= server.0 {
+        if SESSION_NUMBERS <= server.0 || life.0 == 0 {
             return Err(Stopped::NoStep);
         }
         unless_wanting(
             self.endpoint
-                .pair_client(peer, server, credits, &mut self.recorder),
+                .pair_client(peer, life, server, credits, &mut self.recorder),
         )
     }
 

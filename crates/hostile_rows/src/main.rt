@@ -1,11 +1,11 @@
 //! One endpoint under datagrams that no honest peer sends. Standard input has rows: a line `# NAME`
-//! begins one, with a fresh endpoint, node 1 with a ring of 32, and each line behind it is a step.
-//! The name is printed, and then what each step noted, as a report has it. A further row costs no
-//! proof.
+//! begins one, with a fresh endpoint, node 1 in life 1 with a ring of 32, and each line behind it is
+//! a step; LIFE is that of a session's other end. The name is printed, and then what each step noted,
+//! as a report has it. A further row costs no proof.
 //!
 //! ```text
-//! server PEER CLIENT CREDITS    client PEER SERVER CREDITS    connect PEER CREDITS
-//! ask SESSION TYPE BYTES ROOM   deliver PEER BYTES            work JOB               poll NOW
+//! server PEER CLIENT CREDITS LIFE   client PEER SERVER CREDITS LIFE   connect PEER CREDITS
+//! ask SESSION TYPE BYTES ROOM       deliver PEER BYTES                work JOB    poll NOW
 //! ```
 #![tactic(auto)]
 

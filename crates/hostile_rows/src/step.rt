@@ -1,20 +1,23 @@
 //! The steps of a row.
 use crate::spelling::bytes_of;
+use packet_header::Life;
 use rpc_base::{Peer, SessionNo};
 use std::alloc::{AllocError, Global};
 
 /// What is done to the endpoint.
 #[derive(Drop)]
 pub enum Step {
-    /// It takes the server end of a pair.
+    /// It takes the server end of a pair, with a client of this life.
     Server {
         peer: Peer,
+        life: Life,
         client: SessionNo,
         credits: u16,
     },
-    /// It takes the client end of a pair.
+    /// It takes the client end of a pair, with a server of this life.
     Client {
         peer: Peer,
+        life: Life,
         server: SessionNo,
         credits: u16,
     },
@@ -60,19 +63,25 @@ fn end_of(peer: &str, session: &str, credits: &str) -> Option<(Peer, SessionNo, 
     ))
 }
 
-fn server_of(peer: &str, session: &str, credits: &str) -> Option<Step> {
+fn life_of(word: &str) -> Option<Life> {
+    Some(Life(word.parse::<u32>().ok()?))
+}
+
+fn server_of(peer: &str, session: &str, credits: &str, life: &str) -> Option<Step> {
     let (peer, client, credits) = end_of(peer, session, credits)?;
     Some(Step::Server {
         peer,
+        life: life_of(life)?,
         client,
         credits,
     })
 }
 
-fn client_of(peer: &str, session: &str, credits: &str) -> Option<Step> {
+fn client_of(peer: &str, session: &str, credits: &str, life: &str) -> Option<Step> {
     let (peer, server, credits) = end_of(peer, session, credits)?;
     Some(Step::Client {
         peer,
+        life: life_of(life)?,
         server,
         credits,
     })
@@ -107,8 +116,8 @@ pub fn read_step(alloc: Global, line: &str) -> Result<Option<Step>, AllocError> 
     let (first, second) = (words.next().unwrap_or(""), words.next().unwrap_or(""));
     let (third, fourth) = (words.next().unwrap_or(""), words.next().unwrap_or(""));
     Ok(match name {
-        "server" => server_of(first, second, third),
-        "client" => client_of(first, second, third),
+        "server" => server_of(first, second, third, fourth),
+        "client" => client_of(first, second, third, fourth),
         "connect" => connect_of(first, second),
         "ask" => match bytes_of(alloc, third)? {
             Some(bytes) => ask_of(first, second, bytes, fourth),

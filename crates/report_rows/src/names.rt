@@ -11,6 +11,9 @@ pub const PEER: Peer = Peer(3);
 
 pub const CALL: CallNo = CallNo(4);
 
+/// The life of another end, or of a node made anew.
+pub const LIFE: u32 = 8;
+
 /// Request 13, the second one of slot 5.
 pub fn request() -> RequestNo {
     RequestNo::of(5, 1)

@@ -1,5 +1,5 @@
 //! Events of a node and of its sessions.
-use crate::names::{CLIENT, NODE, PEER, SERVER};
+use crate::names::{CLIENT, LIFE, NODE, PEER, SERVER};
 use rpc_base::{Event, SessionState};
 use rpc_outside::{MemRecorder, Recorder};
 
@@ -8,6 +8,7 @@ pub fn note_client(rec: &mut MemRecorder) {
     let session = CLIENT;
     let events = [
         Event::Made { ring: 32 },
+        Event::Restarted { life: LIFE },
         Event::Opened {
             session,
             peer: PEER,
@@ -18,10 +19,12 @@ pub fn note_client(rec: &mut MemRecorder) {
             peer: PEER,
             server: SERVER,
             credits: 9,
+            life: LIFE,
         },
         Event::Connected {
             session,
             server: SERVER,
+            life: LIFE,
         },
         Event::FailedNoRoom { session },
         Event::FailedNoAnswer { session },
@@ -45,12 +48,14 @@ pub fn note_server(rec: &mut MemRecorder) {
             peer,
             client,
             credits: 9,
+            life: LIFE,
         },
         Event::Accepted {
             session: SERVER,
             peer,
             client,
             credits: 9,
+            life: LIFE,
         },
         Event::Declined {
             peer,

@@ -5,6 +5,7 @@ ghost use Rattle.message_buffer.specs.Buffer.{capacity_of};
 use client_core::{Done, Outcome};
 use endpoint_loop::{Continuation, Endpoint, Refused};
 use message_buffer::MsgBuf;
+use packet_header::{FIRST_LIFE, Life};
 use rpc_base::{LEAST_RING, Limits, NoMemory, NodeId, Peer, SessionNo, USUAL_JOBS, USUAL_TIMEOUT};
 use rpc_outside::{MemLink, NoRecord, PlainDuty, PlainService};
 use std::alloc::Global;
@@ -18,6 +19,9 @@ pub const ASKED: u32 = 5;
 
 const ME: u8 = 0;
 
+/// The life of each endpoint.
+pub const FIRST: Life = Life(FIRST_LIFE);
+
 pub const LIMITS: Limits = Limits {
     ring: LEAST_RING,
     jobs: USUAL_JOBS,
@@ -29,7 +33,8 @@ pub type PlainEndpoint = Endpoint<PlainService, LocalWorkers<PlainDuty>>;
 /// An endpoint of its own, of this node.
 pub fn plain_endpoint(alloc: Global, me: NodeId) -> Result<PlainEndpoint, NoMemory> {
     let workers = LocalWorkers::new(alloc, PlainDuty, USUAL_JOBS)?;
-    Endpoint::new(alloc, me, LIMITS, PlainService::new(), workers).map_err(|_workers| NoMemory)
+    let service = PlainService::new();
+    Endpoint::new(alloc, me, FIRST, LIMITS, service, workers).map_err(|_workers| NoMemory)
 }
 
 /// The call that ended last.
@@ -80,10 +85,10 @@ impl Caller {
     pub fn pair(&mut self) -> bool {
         let here = self
             .endpoint
-            .pair_client(Peer(ME), SessionNo(0), 1, &mut NoRecord);
+            .pair_client(Peer(ME), FIRST, SessionNo(0), 1, &mut NoRecord);
         let there = self
             .endpoint
-            .pair_server(Peer(ME), SessionNo(0), 1, &mut NoRecord);
+            .pair_server(Peer(ME), FIRST, SessionNo(0), 1, &mut NoRecord);
         here.is_ok() && there.is_ok()
     }
 

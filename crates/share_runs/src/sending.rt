@@ -2,7 +2,7 @@
 ghost use Rattle.std.specs.Prelude.{IfSome};
 ghost use Rattle.fan_buffer.specs.Readings.{IsReadingOf};
 
-use crate::caller::{PlainEndpoint, plain_endpoint};
+use crate::caller::{FIRST, PlainEndpoint, plain_endpoint};
 use crate::checks::{Checks, Differs};
 use fan_buffer::{Fan, Reading};
 use fan_calls::ask_fan;
@@ -46,19 +46,22 @@ fn was_asked(recorder: &MemRecorder) -> bool {
     let Some(fact) = recorder.facts().last() else {
         return false;
     };
-    let asked = Event::Asked {
-        call: CallNo(0),
-        session: SessionNo(0),
-        req_type: ECHO,
-        room: ROOM,
-    };
-    fact.event == asked && fact.first.bytes() == b"ab".as_slice()
+    let asked = matches!(
+        fact.event,
+        Event::Asked {
+            call: CallNo(0),
+            session: SessionNo(0),
+            req_type: ECHO,
+            room: ROOM,
+        }
+    );
+    asked && fact.first.bytes() == b"ab".as_slice()
 }
 
 /// The endpoint asks the fan's bytes on a session of its own.
 fn ask(alloc: Global, endpoint: &mut PlainEndpoint, fan: &Fan, checks: &mut Checks) {
     let mut recorder = MemRecorder::new(alloc);
-    let paired = endpoint.pair_client(Peer(1), SessionNo(0), 1, &mut recorder);
+    let paired = endpoint.pair_client(Peer(1), FIRST, SessionNo(0), 1, &mut recorder);
     checks.expect(paired == Ok(SessionNo(0)), Differs::Answer);
     match open_one(fan) {
         Some(reading) => {

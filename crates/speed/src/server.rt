@@ -2,6 +2,7 @@
 use crate::wire::Wire;
 use client_core::Done;
 use endpoint_loop::{Continuation, Endpoint};
+use packet_header::{FIRST_LIFE, Life};
 use rpc_base::{Limits, NoMemory, NodeId, USUAL_JOBS};
 use rpc_outside::{Link, NoRecord, PlainDuty, PlainService};
 use std::alloc::Global;
@@ -78,8 +79,8 @@ impl<L: Carries + Drop> Server<L> {
     /// A server over a link that is bound.
     pub fn new(alloc: Global, link: L) -> Result<Server<L>, NoMemory> {
         let workers = LocalWorkers::new(alloc, PlainDuty, USUAL_JOBS)?;
-        let service = PlainService::new();
-        match Endpoint::new(alloc, NodeId(1), Limits::usual(), service, workers) {
+        let (life, service) = (Life(FIRST_LIFE), PlainService::new());
+        match Endpoint::new(alloc, NodeId(1), life, Limits::usual(), service, workers) {
             Ok(endpoint) => Ok(Server { endpoint, link }),
             Err(_workers) => Err(NoMemory),
         }

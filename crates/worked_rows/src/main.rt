@@ -12,7 +12,7 @@ use crate::reports::Wants;
 use std::io;
 
 /// The cases, and with what each report is compared.
-const CASES: [(&str, Wants); 30] = [
+const CASES: [(&str, Wants); 44] = [
     ("one_echo", Wants::Whole),
     ("every_command", Wants::Whole),
     ("late_copy", Wants::Whole),
@@ -40,6 +40,20 @@ const CASES: [(&str, Wants); 30] = [
     ("connect_and_disconnect", Wants::Lines),
     ("no_answer", Wants::Lines),
     ("declined", Wants::Lines),
+    ("late_copy_of_an_older_life", Wants::Whole),
+    ("older_session_ended", Wants::Whole),
+    ("server_restarted_in_a_request", Wants::Lines),
+    ("server_restarted_with_jobs", Wants::Whole),
+    ("client_restarted_before_its_answer", Wants::Whole),
+    ("tally_of_each_life", Wants::Whole),
+    ("both_restarted", Wants::Lines),
+    ("two_lives_accept", Wants::Whole),
+    ("older_connect_request", Wants::Whole),
+    ("closed_after_a_restart", Wants::Whole),
+    ("queued_reply_of_an_older_life", Wants::Whole),
+    ("declined_life", Wants::Whole),
+    ("paired_after_restarts", Wants::Whole),
+    ("stale_packets_fill_the_ring", Wants::Lines),
     ("largest_message", Wants::Counts),
     ("full_jobs", Wants::Counts),
     ("full_ring", Wants::Counts),
