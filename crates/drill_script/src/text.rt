@@ -67,6 +67,7 @@ impl fmt::Display for CommandText<'_> {
             Command::Tick { by } => write!(f, "tick {by}"),
             Command::Work { node, job } => write!(f, "work {} {job}", node.0),
             Command::Settle { rounds } => write!(f, "settle {rounds}"),
+            Command::Restart { node } => write!(f, "restart {}", node.0),
         }
     }
 }
