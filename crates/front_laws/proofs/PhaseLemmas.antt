@@ -49,15 +49,15 @@ retries-of clock timeout me own None x y r q a b e = a ∙ sym b
 retries-of clock timeout me own (Some c) x y r q a b e =
     retries-as (own_request own c) clock timeout me c x y r q a b e
 
-retries-one : (timeout i : ℕ) → OneWay (Retries timeout i)
+pub retries-one : (timeout i : ℕ) → OneWay (Retries timeout i)
 retries-one timeout i s x y r q t u h k e =
     goes-one s x y t u h.goes k.goes
     (retries-of s.clock timeout s.lists.me s.lists.life (slice_get s.lists.clients i) x y r q h.facts k.facts e)
 
-watches-one : (timeout i number : ℕ) → OneWay (Watches timeout i number)
+pub watches-one : (timeout i number : ℕ) → OneWay (Watches timeout i number)
 watches-one timeout i number s x y r q t u h k e = goes-one s x y t u h.goes k.goes (h.facts ∙ sym k.facts)
 
-session-one : (timeout i : ℕ) → OneWay (WatchesSession timeout i)
+pub session-one : (timeout i : ℕ) → OneWay (WatchesSession timeout i)
 session-one timeout i s x y r q t u h k e =
     each-one (Watches timeout i) (watches-one timeout i) (numbers_in (slice_get s.lists.clients i)) s x y r q t u h k e
 

@@ -243,7 +243,7 @@ as-one mode s front header x y r q a b e =
     (handling-one mode header.kind a.lacks b.lacks a.answer b.answer s front.peer header
     (body_of front.bytes) r q) both ∙ sym b.facts)
 
-handles-one : (mode : ℕ → Mode) → OneWay (Handles mode)
+pub handles-one : (mode : ℕ → Mode) → OneWay (Handles mode)
 handles-one mode s x y r q t u h k e =
     let front : k.front ≡ h.front = some-same (slice_get s.lists.ring 0) k.front h.front k.is_front h.is_front in
     let reads : message_of h.front.bytes ≡ Some k.header =
@@ -263,7 +263,7 @@ ring-front : (ring : List Arrival) (a : Arrival) → slice_get ring 0 ≡ Some a
 ring-front [] a h e = cc
 ring-front (b ∷ ring) a h e = cc
 
-handles-end : (mode : ℕ → Mode) → Ends (Handles mode) NoMoreToHandle
+pub handles-end : (mode : ℕ → Mode) → Ends (Handles mode) NoMoreToHandle
 handles-end mode s x t (inl over) h = ring-front s.lists.ring h.front h.is_front over
 handles-end mode s x t (inr over) h = let room = h.room in omega arith
 

@@ -131,25 +131,25 @@ answers-as s peer h j l a b x y r q speaks other one two e =
     (subst (λ (z : List Fact). x ++ r ≡ z ++ q) two e) in
     one ∙ (rows-one s peer h _ _ a b r q (kind-differs h.kind j l peer h s) speaks other both ∙ sym two)
 
-answers-one : (peer : ℕ) (h : ControlHeader) → OneWay (AnswersControl peer h)
+pub answers-one : (peer : ℕ) (h : ControlHeader) → OneWay (AnswersControl peer h)
 answers-one peer h s x y r q t u a b e =
     goes-one s x y t u a.goes b.goes
     (answers-as s.lists peer h a.lacks b.lacks a.said b.said x y r q a.speaks b.speaks a.facts b.facts e)
 
 -- what it outdates ends before
-ends-one : (peer : ℕ) (h : ControlHeader) → OneWay (EndsOutdated peer h)
+pub ends-one : (peer : ℕ) (h : ControlHeader) → OneWay (EndsOutdated peer h)
 ends-one peer h s x y r q t u a b e =
     let server : a.server ≡ b.server =
     some-same (outdated peer h s.lists) a.server b.server a.is_outdated b.is_outdated in
     goes-one s x y t u a.goes b.goes
     (a.facts ∙ (ap (λ (v : Server). session_end s.lists.me s.lists.queued (Some v)) server ∙ sym b.facts))
 
-ends-all-one : (peer : ℕ) (h : ControlHeader) → OneWay (EndsAllOutdated peer h)
+pub ends-all-one : (peer : ℕ) (h : ControlHeader) → OneWay (EndsAllOutdated peer h)
 ends-all-one peer h =
     until-one (EndsOutdated peer h) (λ t. outdated peer h t.lists ≡ None) (ends-one peer h)
     (λ s x t over a. let no : Some a.server ≡ None = sym a.is_outdated ∙ over in cc)
 
-takes-one : OneWay TakesControl
+pub takes-one : OneWay TakesControl
 takes-one s x y r q t u a b e = goes-one s x y t u a.goes b.goes (a.facts ∙ sym b.facts)
 
 steps-one : (peer : ℕ) (h : ControlHeader)
@@ -163,7 +163,7 @@ abbrev HearsAs : Timed → Arrival → ControlHeader → List Fact → Timed →
 HearsAs s front h x t =
     Then TakesControl (Then (EndsAllOutdated front.peer h) (AnswersControl front.peer h)) s x t
 
-hears-one : OneWay Hears
+pub hears-one : OneWay Hears
 hears-one s x y r q t u h k e =
     let front : k.front ≡ h.front = some-same (slice_get s.lists.inbox 0) k.front h.front k.is_front h.is_front in
     let reads : control_of h.front.bytes ≡ Some k.header =
@@ -175,7 +175,7 @@ hears-one s x y r q t u h k e =
     subst (λ (c : ControlHeader). HearsAs s h.front c y u) header moved in
     steps-one h.front.peer h.header s x y r q t u h.steps other e
 
-inbox-front : (inbox : List Arrival) (a : Arrival) → slice_get inbox 0 ≡ Some a → inbox ≡ [] → ⊥
+pub inbox-front : (inbox : List Arrival) (a : Arrival) → slice_get inbox 0 ≡ Some a → inbox ≡ [] → ⊥
 inbox-front [] a h e = cc
 inbox-front (b ∷ inbox) a h e = cc
 

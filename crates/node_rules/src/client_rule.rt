@@ -177,7 +177,7 @@ pub fn known_packets(asked: u64, answer: Option<u32>) -> u128
 
 /// How a call of so much room stands, once a reply to it was taken and `got` of them are.
 /// `is_first` tells whether its answer wasn't known before.
-pub fn end_row(is_first: bool, what: &Asking, got: u64, answer: Option<u32>) -> EndRow
+pub fn end_row(is_first: bool, what: &Asking, got: u128, answer: Option<u32>) -> EndRow
     ensures { result ≡ end_row is_first (asked_packets what.now) what.now.room got answer }
 {
     let Some(size) = answer else {
@@ -186,7 +186,7 @@ pub fn end_row(is_first: bool, what: &Asking, got: u64, answer: Option<u32>) -> 
     if is_first && what.room < size {
         return EndRow::EndsTooSmall(size);
     }
-    if u128::from(got) == known_packets(asked_packets(what), Some(size)) {
+    if got == known_packets(asked_packets(what), Some(size)) {
         return EndRow::EndsOk;
     }
     EndRow::GoesOn

@@ -17,8 +17,8 @@ use rpc_base::{Fact, NoMemory, NodeId, Peer, SessionNo};
 use rpc_laws::{ControlRow, Lists};
 use std::alloc::Global;
 
-// A row that notes nothing.
-fn none(facts: &[Fact]) -> Option<usize>
+/// A row that notes nothing.
+pub fn none(facts: &[Fact]) -> Option<usize>
     ensures { Fronts [] facts.now result }
 {
     Some(0)

@@ -1,15 +1,23 @@
-//! The rules of a poll that note one fact with no bytes: what a session begins and posts next, and
-//! the end of the poll.
+//! The rules of a poll that note one fact with no bytes: a packet that is taken out of the inbox,
+//! what a session begins and posts next, and the end of the poll.
 ghost use Rattle.std.specs.Prelude.{◌≡◌, ◌↔◌, IsTrue};
-ghost use Rattle.rpc_base.specs.declared.event.Event.TheVariants.{Polled};
+ghost use Rattle.rpc_base.specs.declared.event.Event.TheVariants.{Heard, Polled};
 ghost use Rattle.rpc_laws.specs.Facts.{plain};
 ghost use Rattle.rpc_laws.specs.Posting.{next_begun, next_posted};
 ghost use Rattle.node_rules.specs.NextFacts.{IsNext};
 
 use crate::posting::{next_begun, next_posted};
-use crate::says::{says_begun, says_polled, says_posted};
+use crate::says::{says_begun, says_heard, says_polled, says_posted};
 use rpc_base::Fact;
 use rpc_laws::Lists;
+
+/// Whether a fact says that a packet was taken out of the inbox.
+pub fn is_heard(lists: &Lists, fact: &Fact) -> bool
+    ensures { IsTrue result ↔ (fact.now ≡ plain lists.now.me Heard) }
+{
+    let says = says_heard(fact, lists.me);
+    says
+}
 
 /// Whether a fact says that client session `i` begins its next call.
 pub fn is_next_begun(lists: &Lists, i: usize, fact: &Fact) -> bool
