@@ -1,4 +1,12 @@
 pub mod ChainLemmas
+pub mod ClockLemmas
+pub mod ClosingLemmas
+pub mod EachLemmas
 pub mod FinishLemmas
+pub mod HandleLemmas
+pub mod HearLemmas
+pub mod PollLemmas
 pub mod PostLemmas
 pub mod SendLemmas
+pub mod StepLemmas
+pub mod StopsLemmas

@@ -23,7 +23,7 @@ use Rattle.poll_steps.specs.Steps.{AreSteps, begins_with, is_sent, NoFront, Stop
 use Rattle.poll_steps.proofs.ChainLemmas.{Leads, leads-more, leads-stuck}
 use Rattle.poll_steps.proofs.PostLemmas.{drop-at}
 
-sends-one : OneWay Sends
+pub sends-one : OneWay Sends
 sends-one s x y r q t u h k e =
     goes-one s x y t u h.goes k.goes (one-front _ _ x y r q h.facts k.facts e)
 

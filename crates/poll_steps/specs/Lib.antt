@@ -1,2 +1,4 @@
+pub mod Handling
+pub mod Polling
 pub mod Sending
 pub mod Steps

@@ -28,8 +28,13 @@ fn ran_at(facts: &[Fact], place: usize) -> bool
     is_ran(&fact_at(facts, place).event)
 }
 
-// Changes the lists as the facts do.
-fn apply_all(alloc: Global, lists: &mut Lists, clock: u64, facts: &[Fact]) -> Result<(), NoMemory>
+/// Changes the lists as the facts do. Where memory is wanting, what they hold isn't told.
+pub fn apply_all(
+    alloc: Global,
+    lists: &mut Lists,
+    clock: u64,
+    facts: &[Fact],
+) -> Result<(), NoMemory>
     ensures { OnOk result (lists.new ≡ after_all clock lists.old facts.now) }
 {
     let mut count = 0;

@@ -1,0 +1,23 @@
+use Rattle.std.proofs.Common.{Option, ℕ, None, Some, subst, take}
+use Rattle.rpc_laws.specs.PollOrder.{Handles}
+use Rattle.rpc_outside.specs.PlainAnswer.{plain_mode}
+use Rattle.node_rules.specs.SingleFacts.{at_clock}
+use Rattle.poll_steps.specs.Handling.{HandlesNext}
+use Rattle.poll_steps.specs.Steps.{IsStep}
+use Rattle.poll_steps.proofs.HandleLemmas.{applied-none, applied-some, taken-whole}
+use Rattle.poll_steps.proofs.handling.handle_one.Goals as goal
+
+pub returns-in_default : goal.returns-in_default
+returns-in_default c =
+    applied-none c.args.clock c.args.lists.now c.args.facts.now c.in_ok-count.field-0
+    (at_clock c.args.clock c.args.lists.now) c.in_ok-count.ensures c.in_default.is
+
+pub slice_bounds-apply_all-end : goal.slice_bounds-apply_all-end
+slice_bounds-apply_all-end c =
+    taken-whole c.args.lists.now c.args.facts.now c.in_ok-count.field-0 c.in-Some.count
+    c.in_ok-count.ensures c.in-Some.is
+
+pub returns : goal.returns
+returns c =
+    applied-some c.args.clock c.args.lists.now c.apply_all.new.lists c.args.facts.now c.in_ok-count.field-0
+    c.in-Some.count c.in_ok-count.ensures c.in-Some.is c.in_ok-apply_all.ensures

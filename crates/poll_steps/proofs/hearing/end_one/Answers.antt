@@ -1,0 +1,30 @@
+use Rattle.std.proofs.Common.{Option, ℕ, Some, subst}
+use Rattle.rpc_laws.specs.ControlTable.{session_end}
+use Rattle.node_rules.specs.Fronts.{Fronts}
+use Rattle.node_rules.specs.SingleFacts.{at_clock}
+use Rattle.poll_steps.proofs.HearLemmas.{ends-none, ends-other, ends-some}
+use Rattle.poll_steps.proofs.hearing.end_one.Goals as goal
+
+pub returns-in_default : goal.returns-in_default
+returns-in_default c =
+    ends-none c.args.clock c.args.lists.now c.args.peer c.args.head.now c.args.facts.now
+    (at_clock c.args.clock c.args.lists.now) c.in_default.ensures
+
+pub returns-in_default-2 : goal.returns-in_default-2
+returns-in_default-2 c =
+    let s = c.args.lists.now in
+    ends-other c.args.clock s c.args.peer c.args.head.now c.args.facts.now c.in-Some.server.now
+    (at_clock c.args.clock s) c.in-Some.ensures
+    (subst (λ (o : Option ℕ). Fronts (session_end s.me s.queued (Some c.in-Some.server.now))
+    c.args.facts.now o)
+    c.in_default-2.is c.in_ok-told.ensures)
+
+pub returns : goal.returns
+returns c =
+    let s = c.args.lists.now in
+    ends-some c.args.clock s c.apply_told.new.lists c.args.peer c.args.head.now c.args.facts.now
+    c.in-Some.server.now c.in-Some-2.told c.in_ok-count.count c.in-Some.ensures
+    (subst (λ (o : Option ℕ). Fronts (session_end s.me s.queued (Some c.in-Some.server.now))
+    c.args.facts.now o)
+    c.in-Some-2.is c.in_ok-told.ensures)
+    c.in_ok-count.ensures.count c.in_ok-count.ensures.applied

@@ -1,0 +1,15 @@
+use Rattle.std.proofs.Common.{◌-◌, length}
+use Rattle.rpc_laws.specs.ControlSteps.{Hears}
+use Rattle.node_rules.specs.SingleFacts.{at_clock}
+use Rattle.poll_steps.proofs.ChainLemmas.{Leads}
+use Rattle.poll_steps.proofs.HearLemmas.{InboxEmpty}
+use Rattle.poll_steps.proofs.StepLemmas.{Anyhow}
+use Rattle.poll_steps.proofs.hearing.hear_all.Given as goal
+
+abbrev pub invariant-packets : goal.invariant-packets
+invariant-packets l =
+    Leads Hears (Anyhow InboxEmpty) (at_clock l.clock l.initial.lists) l.facts l.count
+    (at_clock l.clock l.lists)
+
+abbrev pub decreases-packets : goal.decreases-packets
+decreases-packets l = length l.facts - l.count

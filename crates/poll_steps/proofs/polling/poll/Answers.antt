@@ -1,0 +1,37 @@
+use Rattle.std.proofs.Common.{sym}
+use Rattle.node_rules.specs.SingleFacts.{at_clock}
+use Rattle.poll_steps.proofs.PollLemmas.{polls-all, polls-early, polls-endless, polls-short}
+use Rattle.poll_steps.proofs.PollLemmas.{polls-stuck}
+use Rattle.poll_steps.proofs.polling.poll.Goals as goal
+
+pub returns-in_default : goal.returns-in_default
+returns-in_default c =
+    polls-endless c.args.clock c.args.lists.now c.args.facts.now c.args.lists.now
+    (sym c.in_default.ensures)
+
+pub returns-then-now-clock : goal.returns-then-now-clock
+returns-then-now-clock c =
+    polls-early c.args.clock c.in-Some.now c.args.lists.now c.args.facts.now c.args.lists.now
+    (sym c.in-Some.ensures)
+    c.if-now-clock.true
+
+pub returns-in_default-2 : goal.returns-in_default-2
+returns-in_default-2 c =
+    polls-stuck c.args.clock c.in-Some.now c.args.lists.now c.args.facts.now
+    (at_clock c.in-Some.now c.from_jobs.new.lists) c.from_jobs.new.lists c.in_ok-count.field-0
+    (sym c.in-Some.ensures)
+    c.in_ok-count.ensures c.in_default-2.is
+
+pub returns-then-count-facts : goal.returns-then-count-facts
+returns-then-count-facts c =
+    polls-short c.args.clock c.in-Some.now c.args.lists.now c.args.facts.now
+    (at_clock c.in-Some.now c.from_jobs.new.lists) c.from_jobs.new.lists c.in_ok-count.field-0
+    c.in-Some-2.count
+    (sym c.in-Some.ensures) c.in_ok-count.ensures c.in-Some-2.is c.if-count-facts.true
+
+pub returns : goal.returns
+returns c =
+    polls-all c.args.clock c.in-Some.now c.args.lists.now c.args.facts.now c.from_jobs.new.lists
+    c.in_ok-count.field-0 c.in-Some-2.count c.if-now-clock.false c.in_ok-count.ensures
+    c.in-Some-2.is
+    c.if-count-facts.false
