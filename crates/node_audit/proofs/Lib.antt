@@ -1,0 +1,6 @@
+mod AnswerLemmas
+mod CourseLemmas
+mod GroupsLemmas
+mod HandledLemmas
+mod LifeLemmas
+mod WorkedLemmas

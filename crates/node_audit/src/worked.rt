@@ -1,0 +1,58 @@
+//! Whether each background job of a life of a node is worked once.
+ghost use Rattle.std.specs.Prelude.{◌≡◌, ◌++◌, ◌∷◌, [], ◌↔◌, List, IsTrue, OnOk, OnErr};
+ghost use Rattle.node_audit.specs.Worked.{AreWorked, is_new, WorkedOnce};
+ghost use Rattle.rpc_base.specs.declared.fact.Fact.{Fact};
+
+use rpc_base::{Event, Fact, NoMemory};
+use std::alloc::Global;
+use std::collections::HashSet;
+
+/// The jobs that were worked in a life of a node so far, each by its session and request.
+#[derive(Drop)]
+pub struct WorkedJobs {
+    jobs: HashSet<(u16, u64)>,
+}
+
+impl WorkedJobs {
+    /// None, at the beginning of the life.
+    pub fn new(alloc: Global) -> WorkedJobs
+        ensures { AreWorked result.jobs.keys [] }
+    {
+        WorkedJobs {
+            jobs: HashSet::new(alloc),
+        }
+    }
+
+    // Whether an event works none of the jobs that were worked.
+    fn is_new(&self, event: &Event) -> bool
+        ensures { result ≡ is_new self.now.jobs.keys event.now }
+    {
+        match event {
+            Event::Worked { session, request } => {
+                !self.jobs.contains(&(session.0, request.get()))
+            }
+            _ => true,
+        }
+    }
+
+    /// Whether no job is worked twice still, where the next fact of the life is this one.
+    pub fn keeps_once(&self, fact: &Fact) -> bool
+        ensures { (g : List Fact) → AreWorked self.now.jobs.keys g → WorkedOnce g
+            → IsTrue result ↔ WorkedOnce (g ++ fact.now ∷ []) }
+    {
+        self.is_new(&fact.event)
+    }
+
+    /// Takes note of the next fact of the life. `NoMemory` comes only where there is no memory for
+    /// one more job, and then nothing changed.
+    pub fn note(&mut self, fact: &Fact) -> Result<(), NoMemory>
+        ensures noted { OnOk result ((g : List Fact) → AreWorked self.old.jobs.keys g
+            → AreWorked self.new.jobs.keys (g ++ fact.now ∷ [])) }
+        ensures unchanged { OnErr result (self.new.jobs.keys ≡ self.old.jobs.keys) }
+    {
+        if let Event::Worked { session, request } = &fact.event {
+            self.jobs.insert((session.0, request.get()))?;
+        }
+        Ok(())
+    }
+}
