@@ -15,8 +15,16 @@ use Rattle.rpc_laws.specs.Endpoints.{Lived, told}
 use Rattle.ring_laws.specs.CalmRing.{Calm, FitsAt, is_rough, MessagesFit}
 use Rattle.call_book.proofs.EachLemmas.{each-last, each-next}
 use Rattle.call_book.specs.SoFar.{so_far_from}
-use Rattle.history_audit.proofs.WorkedLemmas.{any-next}
 use Rattle.history_audit.specs.Calm.{finds_full, IsRough}
+
+any-next : {A : Type 0} (p : A → Bool) (xs : List A) (x : A) → list_any p (xs ++ x ∷ []) ≡ (p x || list_any p xs)
+any-next p xs x = list_any-append p xs (x ∷ []) ∙ by (list_any p xs) (p x)
+  where
+    by : (a b : Bool) → (a || (b || false)) ≡ (b || a)
+    by true true = refl
+    by true false = refl
+    by false true = refl
+    by false false = refl
 
 swap : (a b c : Bool) → ((a || b) || c) ≡ (b || (a || c))
 swap true true c = refl

@@ -1,5 +1,9 @@
+mod AuditorLemmas
 mod CalmLemmas
+mod FairLemmas
+mod LifeLemmas
+mod LivesLemmas
 mod NetLemmas
+mod NodesLemmas
 mod PollLemmas
-mod VerdictLemmas
-mod WorkedLemmas
+pub mod VerdictLemmas

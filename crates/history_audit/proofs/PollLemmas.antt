@@ -73,7 +73,7 @@ among-less n m (k ∷ nodes) = less-by n m k nodes (k == m) refl (among-less n m
 abbrev pub busy_next : ℕ → Fact → Bool → Bool
 busy_next n f busy = cond (is_at n f.who) (open_after f.event busy) busy
 
-open-snoc : (n : ℕ) (busy : Bool) (h : List Fact) (f : Fact)
+pub open-snoc : (n : ℕ) (busy : Bool) (h : List Fact) (f : Fact)
     → is_open n busy (h ++ f ∷ []) ≡ busy_next n f (is_open n busy h)
 open-snoc n busy [] f = refl
 open-snoc n busy (g ∷ h) f = open-snoc n (busy_next n g busy) h f

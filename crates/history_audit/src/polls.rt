@@ -1,83 +1,19 @@
 //! Which nodes are in the midst of a poll.
 ghost use Rattle.std.specs.Prelude.{ℕ, ◌≡◌, ◌==◌, ◌||◌, ◌&&◌, not, ◌∷◌, ◌++◌, [], ◌↔◌};
-ghost use Rattle.std.specs.Prelude.{List, OnOk, IfSome, IfNone, IsTrue};
-ghost use Rattle.front_laws.specs.Whole.{IsWhole, ends_poll, is_polls};
+ghost use Rattle.std.specs.Prelude.{List, OnOk, IfSome, IfNone, IsTrue, false};
+ghost use Rattle.front_laws.specs.Whole.{IsWhole, is_open};
 ghost use Rattle.history_audit.specs.OpenPolls.{AreOpen, is_among};
 ghost use Rattle.rpc_base.specs.declared.fact.Fact.{Fact};
 ghost use Rattle.rpc_base.specs.declared.fact.Who.TheVariants.{Node, Net};
 
-use rpc_base::{Event, Fact, NoMemory, Who};
+use node_audit::{ends_poll, is_polls};
+use rpc_base::{Fact, NoMemory, NodeId, Who};
 use std::alloc::Global;
 
 /// The nodes that are in the midst of a poll, after the facts so far.
 #[derive(Debug, Drop)]
 pub struct OpenPolls {
     nodes: Vec<u8>,
-}
-
-// Whether only a poll makes such an event.
-fn is_polls(event: &Event) -> bool
-    ensures { result ≡ is_polls event.now }
-{
-    match event {
-        Event::Begun { .. }
-        | Event::Posted { .. }
-        | Event::Flushed { .. }
-        | Event::Sent { .. }
-        | Event::Unsent { .. }
-        | Event::Heard
-        | Event::Took { .. }
-        | Event::Again { .. }
-        | Event::Dropped { .. }
-        | Event::Given { .. }
-        | Event::Ran { .. }
-        | Event::Rolled { .. }
-        | Event::DoneOk { .. }
-        | Event::DoneTooSmall { .. }
-        | Event::DonePeerLost { .. }
-        | Event::Accepted { .. }
-        | Event::Declined { .. }
-        | Event::Starved { .. }
-        | Event::Connected { .. }
-        | Event::FailedNoRoom { .. }
-        | Event::FailedNoAnswer { .. }
-        | Event::ClosedHeard { .. }
-        | Event::ClosedUnheard { .. }
-        | Event::Ended { .. }
-        | Event::Broken { .. } => true,
-        Event::Made { .. }
-        | Event::Restarted { .. }
-        | Event::Opened { .. }
-        | Event::PairedClient { .. }
-        | Event::PairedServer { .. }
-        | Event::NconnectRing { .. }
-        | Event::NconnectNumbers
-        | Event::Closing { .. }
-        | Event::NcloseState { .. }
-        | Event::NcloseBusy { .. }
-        | Event::Rated { .. }
-        | Event::Nrate { .. }
-        | Event::Asked { .. }
-        | Event::NcallTooLarge { .. }
-        | Event::NcallState { .. }
-        | Event::Arrived { .. }
-        | Event::Overflowed { .. }
-        | Event::Bad { .. }
-        | Event::Worked { .. }
-        | Event::Polled { .. }
-        | Event::Missed { .. }
-        | Event::Carried { .. }
-        | Event::Lost { .. }
-        | Event::Repeated { .. }
-        | Event::Ticked { .. } => false,
-    }
-}
-
-// Whether no poll is open after it: it ends one, or a life of its node begins.
-fn ends_poll(event: &Event) -> bool
-    ensures { result ≡ ends_poll event.now }
-{
-    matches!(event, Event::Polled { .. } | Event::Restarted { .. })
 }
 
 // Whose fact it is, None where it is the network's.
@@ -142,6 +78,14 @@ impl OpenPolls {
             shut(&mut self.nodes, node);
         }
         Ok(())
+    }
+
+    /// Whether a node is in the midst of a poll.
+    pub fn is_open(&self, node: NodeId) -> bool
+        ensures { (h : List Fact) → AreOpen self.now.nodes.items h
+            → result ≡ is_open node false h }
+    {
+        is_among(node.0, self.nodes.as_slice())
     }
 
     /// Whether no node is in the midst of a poll.
