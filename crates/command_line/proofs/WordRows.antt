@@ -3,8 +3,8 @@ use Rattle.std.proofs.Common.{◌≡◌, [], ◌∷◌, Some, None, codes, refl}
 use Rattle.clap.proofs.OnLiterals.{clap_on_literals}
 use Rattle.script_grammar.specs.Numbers.{is_numeral, value_of}
 use Rattle.command_line.specs.Numbers.{number_in}
-use Rattle.command_line.specs.Tasks.{drill_in, sim_in, taken, task_of}
-use Rattle.command_line.specs.declared.task.Task.TheVariants.{Sim, Drill}
+use Rattle.command_line.specs.Tasks.{audit_in, drill_in, sim_in, taken, task_of}
+use Rattle.command_line.specs.declared.task.Task.TheVariants.{Sim, Drill, Audit}
 
 sim_is_taken : task_of (codes "sim" ∷ []) ≡ Some Sim
 unfolding clap_on_literals task_of sim_in taken
@@ -41,3 +41,11 @@ no_plus = refl
 not_so_many : task_of (codes "drill" ∷ codes "7" ∷ codes "10001" ∷ []) ≡ None
 unfolding clap_on_literals task_of drill_in taken number_in is_numeral value_of
 not_so_many = refl
+
+audit_is_taken : task_of (codes "audit" ∷ []) ≡ Some Audit
+unfolding clap_on_literals task_of audit_in taken
+audit_is_taken = refl
+
+audit_takes_no_word : task_of (codes "audit" ∷ codes "x" ∷ []) ≡ None
+unfolding clap_on_literals task_of audit_in taken
+audit_takes_no_word = refl

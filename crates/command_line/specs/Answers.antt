@@ -7,6 +7,7 @@ use Rattle.clap.specs.Words.{App, Text, found_of, rows_of}
 use Rattle.clap.specs.declared.parser.matches.ArgMatches.{ArgMatches}
 use Rattle.command_line.specs.declared.task.Task.{Task}
 use Rattle.command_line.specs.declared.task.Task.TheVariants.{Sim, Drill, Serve, Load}
+use Rattle.command_line.specs.declared.task.Task.TheVariants.{Audit}
 use Rattle.command_line.specs.declared.task.WordsError.{WordsError}
 use Rattle.command_line.specs.declared.task.WordsError.TheVariants.{Usage, NoMemory}
 use Rattle.command_line.specs.Numbers.{is_type}
@@ -57,6 +58,7 @@ pub record IsLoadInRange (words : LoadWords) : Type 0 where
 -- the numbers of a task are in their ranges
 abbrev pub IsInRange : Task → Type 0
 IsInRange Sim = Unit {0}
+IsInRange Audit = Unit {0}
 IsInRange (Drill seed calls) =
     (seed ≤ 9223372036854775807) × (1 ≤ calls) × (calls ≤ 10000)
 IsInRange (Serve words) = IsServeInRange words

@@ -32,6 +32,10 @@ flag name = record (new_rule name) { long = Some name; action = Some SetTrue }
 abbrev pub sim_row : App
 sim_row = row (codes "sim")
 
+-- `audit`
+abbrev pub audit_row : App
+audit_row = row (codes "audit")
+
 -- `drill SEED CALLS`
 abbrev pub drill_row : App
 drill_row = with_rule (with_rule (row (codes "drill")) (positional (codes "SEED")))

@@ -5,8 +5,9 @@ use Rattle.std.specs.Str.{bytes_eq}
 use Rattle.clap.specs.Words.{App, Row, Text, fault_of, first_of, matches_of}
 use Rattle.command_line.specs.declared.task.Task.{Task}
 use Rattle.command_line.specs.declared.task.Task.TheVariants.{Sim, Drill, Serve, Load}
+use Rattle.command_line.specs.declared.task.Task.TheVariants.{Audit}
 use Rattle.command_line.specs.Numbers.{idle_at, number_at, some_number_at, type_at}
-use Rattle.command_line.specs.Rows.{drill_row, load_row, serve_row, sim_row}
+use Rattle.command_line.specs.Rows.{audit_row, drill_row, load_row, serve_row, sim_row}
 
 -- the matches of a simple command, where it takes the words: no step of reading them fails
 unfoldable pub taken : App → List Text → Option (List Row)
@@ -18,6 +19,9 @@ given value said = option_and_then said value
 
 unfoldable pub sim_in : List Text → Option Task
 sim_in words = given (taken sim_row words) (λ rows. Some Sim)
+
+unfoldable pub audit_in : List Text → Option Task
+audit_in words = given (taken audit_row words) (λ rows. Some Audit)
 
 -- SEED from 0 to 2^63 - 1, and CALLS from 1 to 10,000
 abbrev pub drill_of_rows : List Row → Option Task
@@ -89,4 +93,5 @@ task_of (name ∷ words) =
     if bytes_eq name (codes "sim") then sim_in words
     else (if bytes_eq name (codes "drill") then drill_in words
     else (if bytes_eq name (codes "serve") then serve_in words
-    else (if bytes_eq name (codes "load") then load_in words else None)))
+    else (if bytes_eq name (codes "load") then load_in words
+    else (if bytes_eq name (codes "audit") then audit_in words else None))))

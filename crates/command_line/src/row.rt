@@ -4,9 +4,9 @@ ghost use Rattle.std.specs.String.{string_bytes};
 ghost use Rattle.clap.specs.Words.{app_of, is_simple_and_free, rule_of, with_rule};
 ghost use Rattle.clap.specs.declared.error.kind.ErrorKind.TheVariants.{OutOfMemory};
 ghost use Rattle.command_line.specs.Answers.{Takes};
-ghost use Rattle.command_line.specs.Rows.{drill_row, flag, load_row, named, needed, optional};
-ghost use Rattle.command_line.specs.Rows.{positional, row, serve_row, sim_row, with_call};
-ghost use Rattle.command_line.specs.Rows.{with_life, with_waiting, with_way};
+ghost use Rattle.command_line.specs.Rows.{audit_row, drill_row, flag, load_row, named, needed};
+ghost use Rattle.command_line.specs.Rows.{optional, positional, row, serve_row, sim_row};
+ghost use Rattle.command_line.specs.Rows.{with_call, with_life, with_waiting, with_way};
 
 use crate::task::WordsError;
 use clap::error::ErrorKind;
@@ -75,6 +75,18 @@ pub fn sim<'a>(alloc: Global) -> Command<'a>
         "sim",
         "erpc sim < SCRIPT > REPORT",
         "runs the script on standard input and writes the report of what happened",
+    )
+}
+
+/// `audit`.
+pub fn audit<'a>(alloc: Global) -> Command<'a>
+    ensures { app_of result ≡ audit_row }
+{
+    row(
+        alloc,
+        "audit",
+        "erpc audit < REPORT",
+        "reads the report on standard input, and says whether it is lawful, or at which line it fails",
     )
 }
 

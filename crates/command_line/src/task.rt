@@ -110,6 +110,8 @@ pub enum Task {
     Serve(ServeSpec),
     /// To ask calls of the server at an address.
     Load(LoadSpec),
+    /// To say whether the report that comes in is lawful.
+    Audit,
 }
 
 /// Why words ask for nothing.

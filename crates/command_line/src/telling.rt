@@ -1,6 +1,6 @@
 //! What a user reads where the words are not in the grammar.
 use crate::number::{Number, TYPES, request_type};
-use crate::row::{drill, load, serve, sim};
+use crate::row::{audit, drill, load, serve, sim};
 use crate::text::text_at;
 use crate::words::{
     CALLS, CALLS_OF_DRILL, FRAME, LIFE, SEED, SEED_OF_DRILL, SIZE, TIMEOUT, TURNS, WORKERS,
@@ -98,7 +98,13 @@ fn wrong_words<'a>(
 /// How each subcommand is called, and what it does, a line each.
 pub fn usage(alloc: Global) -> Result<String, AllocError> {
     let mut text = String::from_str(alloc, "usage:")?;
-    for mut command in [sim(alloc), drill(alloc)?, serve(alloc)?, load(alloc)?] {
+    for mut command in [
+        sim(alloc),
+        drill(alloc)?,
+        serve(alloc)?,
+        load(alloc)?,
+        audit(alloc),
+    ] {
         let call = how_called(alloc, &mut command)?;
         let about = command.get_about().unwrap_or("");
         write!(text, "\n  {call}\n      {about}")?;
@@ -130,8 +136,11 @@ pub fn complaint(alloc: Global, words: &[String]) -> Result<String, AllocError> 
         "drill" => wrong_words(alloc, drill(alloc)?, rest, &NUMBERS_OF_DRILL),
         "serve" => wrong_words(alloc, serve(alloc)?, rest, &NUMBERS_OF_SERVE),
         "load" => wrong_words(alloc, load(alloc)?, rest, &NUMBERS_OF_LOAD),
+        "audit" => wrong_words(alloc, audit(alloc), rest, &[]),
         other => {
-            format!(in alloc; "{other:?} is no subcommand; those are sim, drill, serve and load")
+            format!(in alloc;
+                "{other:?} is no subcommand; those are sim, drill, serve, load and audit"
+            )
         }
     }
 }

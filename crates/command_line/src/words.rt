@@ -4,11 +4,11 @@ ghost use Rattle.std.specs.String.{string_bytes};
 ghost use Rattle.clap.specs.Words.{found_of, rows_of};
 ghost use Rattle.command_line.specs.Answers.{IsFrameInRange, IsInRange, Reads};
 ghost use Rattle.command_line.specs.Numbers.{some_number_at};
-ghost use Rattle.command_line.specs.Tasks.{drill_in, load_in, serve_in, sim_in, task_of};
+ghost use Rattle.command_line.specs.Tasks.{audit_in, drill_in, load_in, serve_in, sim_in, task_of};
 
 use crate::idle::idle_of;
 use crate::number::{Number, request_type};
-use crate::row::{drill, load, serve, sim, take};
+use crate::row::{audit, drill, load, serve, sim, take};
 use crate::task::{LoadSpec, ServeSpec, Task, WordsError};
 use crate::text::{copy_at, text_at};
 use clap::ArgMatches;
@@ -97,6 +97,15 @@ fn read_sim(alloc: Global, words: &[String]) -> Result<Task, WordsError>
 {
     take(sim(alloc), words)?;
     Ok(Task::Sim)
+}
+
+#[tactic(auto, unfolding(crate::specs::Tasks::audit_in))]
+fn read_audit(alloc: Global, words: &[String]) -> Result<Task, WordsError>
+    ensures value { Reads result (audit_in (map string_bytes words.now)) }
+    ensures range { IfOk result IsInRange }
+{
+    take(audit(alloc), words)?;
+    Ok(Task::Audit)
 }
 
 #[tactic(auto, unfolding(crate::specs::Tasks::drill_in))]
@@ -190,6 +199,7 @@ pub fn read_words(alloc: Global, words: &[String]) -> Result<Task, WordsError>
         "drill" => read_drill(alloc, rest),
         "serve" => read_serve(alloc, rest),
         "load" => read_load(alloc, rest),
+        "audit" => read_audit(alloc, rest),
         _ => Err(WordsError::Usage),
     }
 }

@@ -1,6 +1,8 @@
--- The line that a run of turns writes.
-use Rattle.std.specs.Prelude.{ℕ, List, ◌++◌, codes, flat_map}
+-- The line that a run of turns writes, and that of an audit.
+use Rattle.std.specs.Prelude.{ℕ, List, [], ◌∷◌, ◌++◌, codes, flat_map}
 use Rattle.std.specs.Fmt.{decimal}
+use Rattle.count_line.specs.declared.audit.AuditLine.{AuditLine}
+use Rattle.count_line.specs.declared.audit.AuditLine.TheVariants as audit
 use Rattle.count_line.specs.declared.line.Count.{Count}
 use Rattle.count_line.specs.declared.word.Word.{Word}
 use Rattle.count_line.specs.declared.word.Word.TheVariants as word
@@ -17,6 +19,8 @@ word_text word.Small = codes " small "
 word_text word.Lost = codes " lost "
 word_text word.Wrong = codes " wrong "
 word_text word.Unasked = codes " unasked "
+word_text word.Lawful = codes "lawful "
+word_text word.Unlawful = codes "unlawful "
 
 -- each word with its count
 abbrev pub count_text : Count → List ℕ
@@ -28,3 +32,13 @@ counts_text counts = flat_map count_text counts
 -- a line of them
 abbrev pub line_text : List Count → List ℕ
 line_text counts = counts_text counts ++ codes "\n"
+
+-- a line of one count
+abbrev pub lone_text : (w : Word) → (number : ℕ) → List ℕ
+lone_text w number = line_text (record { word = w; number = number } ∷ [])
+
+-- `lawful FACTS`, `unlawful LINE` or `toolong`
+abbrev pub audit_text : AuditLine → List ℕ
+audit_text (audit.Lawful facts) = lone_text word.Lawful facts
+audit_text (audit.Unlawful line) = lone_text word.Unlawful line
+audit_text audit.TooLong = codes "toolong\n"

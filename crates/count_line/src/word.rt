@@ -2,7 +2,7 @@
 ghost use Rattle.std.specs.Prelude.{◌≡◌};
 ghost use Rattle.count_line.specs.Line.{word_text};
 
-/// What a count tells. The first two open a line.
+/// What a count tells. `Turns`, `Calls`, `Lawful` and `Unlawful` open a line.
 #[derive(Clone, Copy, Debug, PartialEq, Eq)]
 pub enum Word {
     /// Turns that were made.
@@ -27,6 +27,10 @@ pub enum Word {
     Wrong,
     /// Calls that were not asked.
     Unasked,
+    /// Facts of a lawful report.
+    Lawful,
+    /// The line at which a report fails, counted from 1.
+    Unlawful,
 }
 
 impl Word {
@@ -46,6 +50,8 @@ impl Word {
             Word::Lost => " lost ",
             Word::Wrong => " wrong ",
             Word::Unasked => " unasked ",
+            Word::Lawful => "lawful ",
+            Word::Unlawful => "unlawful ",
         }
     }
 }

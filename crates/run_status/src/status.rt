@@ -27,6 +27,10 @@ pub enum Status {
     CallsFailed,
     /// All turns of a load were made, and its session hasn't ended.
     TurnsSpent,
+    /// The report that was audited isn't lawful: it fails at this line, counted from 1.
+    NotLawful { line: u64 },
+    /// The report is longer than what is audited.
+    TooLong,
 }
 
 impl Status {
@@ -44,6 +48,8 @@ impl Status {
             Status::LinkFault => 6,
             Status::CallsFailed => 7,
             Status::TurnsSpent => 8,
+            Status::NotLawful { .. } => 9,
+            Status::TooLong => 10,
         }
     }
 }
@@ -55,12 +61,14 @@ impl fmt::Display for Status {
             Status::Done => f.write_str("done"),
             Status::Usage => f.write_str("the words are not in the grammar; erpc help tells it"),
             Status::BadScript(bad) => write!(f, "bad script: {bad}"),
-            Status::ReadFault => f.write_str("the script could not be read to its end"),
+            Status::ReadFault => f.write_str("standard input could not be read to its end"),
             Status::WriteFault => f.write_str("the output could not be written"),
             Status::NoMemory => f.write_str("out of memory"),
             Status::LinkFault => f.write_str("the network link failed"),
             Status::CallsFailed => f.write_str("not all calls ended well"),
             Status::TurnsSpent => f.write_str("all turns were made before the calls ended"),
+            Status::NotLawful { line } => write!(f, "the report fails at line {line}"),
+            Status::TooLong => f.write_str("the report has more than 67,108,864 bytes"),
         }
     }
 }
