@@ -6,6 +6,7 @@ ghost use Rattle.worker_crew.specs.Hands.{name_of};
 ghost use Rattle.worker_crew.specs.Launching.{Launched};
 
 use command_line::complaint;
+use history_audit::fault_of;
 use rpc_outside::{IoSink, IoSource, Kept, NoRecord, PlainDuty, Source, SysClock};
 use rpc_tools::{Status, run};
 use script_help::Explanation;
@@ -80,10 +81,19 @@ fn run_words<H: Wait + Drop, S: Source, P: Spawner<Hand<PlainDuty>>>(
     }
 }
 
+// One line on standard error that says why a report fails at its line.
+fn blame(rt: &HostRuntime, line: u64, report: &[u8]) {
+    let _ = match fault_of(rt.alloc(), report) {
+        Ok(fault) => eprintln!(rt; "erpc: line {line}: {fault}"),
+        Err(_) => eprintln!(rt; "erpc: {}", Status::NotLawful { line }),
+    };
+}
+
 // One line on standard error: for a bad script with what was expected in place of its bad line, for
-// a link that failed with what failed.
-fn complain(rt: &HostRuntime, ended: Ended, script: Option<&[u8]>) {
-    let _ = match (ended.status, script, ended.trouble) {
+// a report that isn't lawful with what is wrong, for a link that failed with what failed.
+fn complain(rt: &HostRuntime, ended: Ended, source: Option<&[u8]>) {
+    let _ = match (ended.status, source, ended.trouble) {
+        (Status::NotLawful { line }, Some(bytes), _) => return blame(rt, line, bytes),
         (Status::BadScript(bad), Some(bytes), _) => {
             eprintln!(rt; "erpc: {}", Explanation::of(bytes, bad))
         }

@@ -11,7 +11,7 @@ use Rattle.script_grammar.specs.declared.bad.BadScript.{BadScript as Bad}
 use Rattle.script_grammar.specs.declared.line.Line.{Line}
 use Rattle.script_grammar.specs.Script.{script_of}
 
-no-fault : (old new : ℕ) → HasRisen old new → IsQuiet old new → ⊥
+pub no-fault : (old new : ℕ) → HasRisen old new → IsQuiet old new → ⊥
 no-fault old new h q = omega (arith, h.rose, q.same, q.room)
 
 not-refused : (bytes : List ℕ) (script : List Line) (bad : Bad) → script_of bytes ≡ Ok script

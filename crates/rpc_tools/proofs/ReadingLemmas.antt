@@ -17,11 +17,11 @@ drained (Some all) (Some rest) None bytes c e d = absurd d
 drained (Some all) (Some rest) (Some last) bytes c e d =
     (c ∙ rw e (append-nil bytes), ap (λ (xs : List ℕ). Some xs) (sym d ∙ e))
 
-pub too_long : (left more : Option (List ℕ)) (bytes : List ℕ) → Consumes left more bytes
-    → 16777216 < length bytes → IfSome left (λ all. 16777216 < length all)
-too_long None more bytes c h = tt
-too_long (Some all) None bytes c h = absurd c
-too_long (Some all) (Some rest) bytes c h = omega (arith, length-append bytes rest, ap length c)
+pub too_long : (most : ℕ) (left more : Option (List ℕ)) (bytes : List ℕ) → Consumes left more bytes
+    → most < length bytes → IfSome left (λ all. most < length all)
+too_long most None more bytes c h = tt
+too_long most (Some all) None bytes c h = absurd c
+too_long most (Some all) (Some rest) bytes c h = omega (arith, length-append bytes rest, ap length c)
 
 long-refused : (n : ℕ) (rest : Result (List Line) Bad) → 16777216 < n
     → (if nat_lt 16777216 n then bad_at 0 TooLong else rest)

@@ -1,3 +1,4 @@
 pub mod Alone
+pub mod Audits
 pub mod Drills
 pub mod Outcomes

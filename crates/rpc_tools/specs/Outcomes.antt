@@ -1,5 +1,5 @@
 -- What each status of a simulation says of its source, its sink and the script.
-use Rattle.std.specs.Prelude.{ℕ, ◌≡◌, ◌<◌, Option, Some, IfSome, List, [], Ok, Err, length}
+use Rattle.std.specs.Prelude.{ℕ, ◌≡◌, ◌<◌, ◌≤◌, Option, Some, IfSome, List, [], Ok, Err, length}
 use Rattle.std.specs.Io.KnownBytes.{Keeps}
 use Rattle.rpc_base.specs.declared.fact.Fact.{Fact}
 use Rattle.report_text.specs.Text.{text}
@@ -16,7 +16,6 @@ use Rattle.lawful_history.specs.Lawful.{Lawful}
 use Rattle.script_grammar.specs.declared.bad.BadScript.{BadScript as Bad}
 use Rattle.script_grammar.specs.declared.line.Line.{Line}
 use Rattle.script_grammar.specs.Script.{script_of}
-use Rattle.script_grammar.specs.declared.reading.TheConstants.{MOST_BYTES}
 use Rattle.sim_script.specs.FollowsScript.{Follows}
 use Rattle.stall_laws.specs.NoStall.{NoStall}
 use Rattle.world_laws.specs.Laws.{EndTells}
@@ -78,14 +77,15 @@ RunsScript _ script page then_page = ⊥
 abbrev pub Drained : Option (List ℕ) → Option (List ℕ) → List ℕ → Type 0
 Drained left more bytes = IfSome left (λ all. (all ≡ bytes) × (more ≡ Some []))
 
--- what reading the source may give
-abbrev pub Gives : Input → (input then_input : Unread) → Type 0
-Gives (Whole bytes) input then_input =
+-- what reading the source may give, of which at most so many bytes are taken
+abbrev pub Gives : ℕ → Input → (input then_input : Unread) → Type 0
+Gives most (Whole bytes) input then_input =
     (then_input.faults ≡ input.faults) × Drained input.left then_input.left bytes
-Gives TooLong input then_input =
-    (then_input.faults ≡ input.faults) × IfSome input.left (λ all. MOST_BYTES < length all)
-Gives Fault input then_input = HasRisen input.faults then_input.faults
-Gives Memory input then_input = Unit {0}
+    × (length bytes ≤ most)
+Gives most TooLong input then_input =
+    (then_input.faults ≡ input.faults) × IfSome input.left (λ all. most < length all)
+Gives most Fault input then_input = HasRisen input.faults then_input.faults
+Gives most Memory input then_input = Unit {0}
 
 -- the source was read to its end, and its bytes are the script's
 abbrev pub ReadScript : List Line → Option (List ℕ) → Option (List ℕ) → Type 0

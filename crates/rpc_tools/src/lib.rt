@@ -3,6 +3,7 @@
 
 mod drill;
 mod reading;
+mod report;
 mod simulation;
 mod tools;
 

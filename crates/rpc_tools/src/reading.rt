@@ -1,9 +1,9 @@
 //! Reading the source to its end.
+ghost use Rattle.std.specs.Prelude.{◌<◌, ◌^◌};
 ghost use Rattle.rpc_tools.specs.Outcomes.{Gives};
 
 use rpc_base::Octets;
 use rpc_outside::Source;
-use script_grammar::MOST_BYTES;
 use std::alloc::Global;
 
 /// The bytes that one call of the source may give.
@@ -14,7 +14,7 @@ const CHUNK: usize = 4096;
 pub enum Input {
     /// All of its bytes.
     Whole(Octets),
-    /// More bytes than the longest script has.
+    /// More bytes than are taken.
     TooLong,
     /// The source failed.
     Fault,
@@ -22,13 +22,14 @@ pub enum Input {
     Memory,
 }
 
-/// Reads the source to its end, to a fault, or until more bytes came than the longest script has.
-pub fn read_all<S: Source>(alloc: Global, source: &mut S) -> Input
-    ensures { Gives result (S.input source.old) (S.input source.new) }
+/// Reads the source to its end, to a fault, or until more than `most` bytes came.
+pub fn read_all<S: Source>(alloc: Global, source: &mut S, most: usize) -> Input
+    requires { most < 2 ^ 32 }
+    ensures { Gives most result (S.input source.old) (S.input source.new) }
 {
     let mut bytes = Octets::from(Vec::new(alloc));
     let mut chunk = [0u8; CHUNK];
-    'chunks: for turn in 0..MOST_BYTES + 1 {
+    'chunks: for turn in 0..most + 1 {
         let count = match source.read(&mut chunk) {
             Ok(count) => count,
             Err(_) => return Input::Fault,
@@ -39,7 +40,7 @@ pub fn read_all<S: Source>(alloc: Global, source: &mut S) -> Input
         if bytes.append(&chunk[..count]).is_err() {
             return Input::Memory;
         }
-        if bytes.len() > MOST_BYTES {
+        if bytes.len() > most {
             return Input::TooLong;
         }
     }

@@ -9,6 +9,7 @@ use crate::reading::{Input, read_all};
 use rpc_outside::{Sink, Source};
 use rpc_world::World;
 use run_status::Status;
+use script_grammar::MOST_BYTES;
 use sim_script::{BadScript, BadWhy, ReadError, Script, print, read};
 use std::alloc::Global;
 
@@ -46,7 +47,7 @@ pub fn sim<S: Source, K: Sink>(alloc: Global, source: &mut S, sink: &mut K) -> S
         → result ≢ Status.NoMemory
         → Succeeds script result (S.input source.new) (K.page sink.old) (K.page sink.new) }
 {
-    match read_all(alloc, source) {
+    match read_all(alloc, source, MOST_BYTES) {
         Input::Whole(bytes) => run_bytes(alloc, bytes.bytes(), sink),
         Input::TooLong => Status::BadScript(BadScript {
             line: 0,

@@ -3,8 +3,10 @@ ghost use Rattle.std.specs.Prelude.{◌≡◌, ◌≢◌, ℕ, List, [], map, So
 ghost use Rattle.std.specs.String.{string_bytes};
 ghost use Rattle.command_line.specs.Tasks.{task_of};
 ghost use Rattle.command_line.specs.Words.{LoadWords, ServeWords};
+ghost use Rattle.count_line.specs.declared.audit.AuditLine.{AuditLine};
 ghost use Rattle.load_run.specs.Loading.{Loads};
 ghost use Rattle.rpc_tools.specs.Alone.{StartsNone, StaysAlone};
+ghost use Rattle.rpc_tools.specs.Audits.{Answers, Audits, Says};
 ghost use Rattle.rpc_outside.specs.Faults.{IsQuiet};
 ghost use Rattle.rpc_tools.specs.Drills.{Drills, Succeeds as DrillSucceeds};
 ghost use Rattle.rpc_tools.specs.Outcomes.{NothingDone, Simulates, Succeeds, Unmoved};
@@ -14,6 +16,7 @@ ghost use Rattle.script_grammar.specs.Script.{script_of};
 ghost use Rattle.serve_run.specs.Serving.{Serves};
 
 use crate::drill::drill;
+use crate::report::audit_report;
 use crate::simulation::sim;
 use command_line::{Task, WordsError, read_words};
 use load_run::load;
@@ -25,7 +28,8 @@ use std::sync::Wait;
 use worker_crew::{Hand, Spawner};
 
 /// Runs the program on the words after its name. `sim` reads a script from the source and writes
-/// the report of its history to the sink. `drill SEED CALLS` runs a script that it makes, and writes
+/// the report of its history to the sink. `audit` reads a report, and writes a line that says
+/// whether it is that of a lawful history. `drill SEED CALLS` runs a script that it makes, and writes
 /// a line that counts what happened. `serve` answers calls that come to the link, and `load` asks
 /// them: each turns by turn of the clock, its node's facts go to the recorder, and in the end it
 /// writes a line of counts. `serve` works background calls by hands that it offers to the spawner,
@@ -72,7 +76,18 @@ where
     ensures drills { (seed calls : ℕ)
         → task_of (map string_bytes words.now) ≡ Some (Task.Drill seed calls)
         → Drills result seed calls (K.page sink.old) (K.page sink.new) }
+    ensures audits { task_of (map string_bytes words.now) ≡ Some Task.Audit
+        → Audits result (S.input source.old) (S.input source.new) (K.page sink.old)
+        (K.page sink.new) }
+    ensures answers { (bytes : List ℕ) (line : AuditLine)
+        → task_of (map string_bytes words.now) ≡ Some Task.Audit
+        → (S.input source.old).left ≡ Some bytes → Says bytes line
+        → IsQuiet (S.input source.old).faults (S.input source.new).faults
+        → IsQuiet (K.page sink.old).faults (K.page sink.new).faults
+        → result ≢ Status.NoMemory
+        → Answers line result (S.input source.new) (K.page sink.old) (K.page sink.new) }
     ensures reads_nothing { task_of (map string_bytes words.now) ≢ Some Task.Sim
+        → task_of (map string_bytes words.now) ≢ Some Task.Audit
         → Unmoved (S.input source.old) (S.input source.new) }
     ensures serves { (words' : ServeWords)
         → task_of (map string_bytes words.now) ≡ Some (Task.Serve words')
@@ -96,6 +111,7 @@ where
         Ok(Task::Drill { seed, calls }) => drill(alloc, seed, calls, sink),
         Ok(Task::Serve(spec)) => serve(rt, alloc, &spec, sink, link, clock, spawner, rec),
         Ok(Task::Load(spec)) => load(rt, alloc, &spec, sink, link, clock, rec),
+        Ok(Task::Audit) => audit_report(alloc, source, sink),
         Err(WordsError::Usage) => Status::Usage,
         Err(WordsError::NoMemory) => Status::NoMemory,
     }

@@ -6,4 +6,4 @@ abbrev pub invariant-chunks : goal.invariant-chunks
 invariant-chunks g l =
     Consumes (g.S.Source.input l.initial.source).left (g.S.Source.input l.source).left l.bytes
     × ((g.S.Source.input l.source).faults ≡ (g.S.Source.input l.initial.source).faults)
-    × (l.turn ≤ length l.bytes) × (length l.bytes ≤ 16777216)
+    × (l.turn ≤ length l.bytes) × (length l.bytes ≤ l.most)
