@@ -36,7 +36,8 @@ fn run_words<H: Wait + Drop>(
     )
 }
 
-fn run_line<H: Wait + Drop>(
+/// How the program ends on a line of words.
+pub fn run_line<H: Wait + Drop>(
     rt: H,
     alloc: Global,
     line: &str,
@@ -78,7 +79,11 @@ fn written_by<H: AllocGlobal + Wait + Copy + Drop>(
     drive(rt, alloc, line, &mut outside)
 }
 
-fn run_case<H: Files + AllocGlobal + Wait + Copy + Drop>(rt: H, name: &str) -> io::Result<String> {
+/// The report of a case.
+pub fn run_case<H: Files + AllocGlobal + Wait + Copy + Drop>(
+    rt: H,
+    name: &str,
+) -> io::Result<String> {
     let path = format!(in rt.alloc(); "{name}.script")?;
     let script = fs::read(&rt, path.as_str())?;
     written_by(rt, "sim", script.as_slice())
