@@ -1,3 +1,4 @@
+pub mod AgeLemmas
 pub mod CallLemmas
 pub mod CrewLemmas
 pub mod EndLemmas

@@ -4,9 +4,11 @@ use Rattle.std.proofs.Common.{List, [], ◌∷◌, get_or, length}
 use Rattle.std.proofs.Common.{refl, sym, ap, subst, ◌∙◌, arith, length-append}
 use Rattle.std.proofs.lemmas.List.{get_or_append_left, get_or-append_right}
 use Rattle.rpc_base.specs.declared.fact.Fact.{Fact}
-use Rattle.rpc_world.specs.Answered.{Play, stage_of}
+use Rattle.rpc_world.specs.Answered.{End, Play, stage_of, told_end}
 use Rattle.rpc_world.specs.Performed.{Performed}
-use Rattle.rpc_world.specs.Before.{IsNumbered, Names}
+use Rattle.rpc_world.specs.Before.{AllCanRestart, IsNumbered, Names}
+use Rattle.rpc_world.proofs.AgeLemmas.{AllAged, does-age}
+use Rattle.rpc_world.proofs.PairLemmas.{node-of}
 use Rattle.rpc_world.proofs.StaysLemmas.{does-leaves, does-long, does-numbered, made, passed}
 use Rattle.script_grammar.specs.declared.line.Command.{Command}
 use Rattle.script_grammar.specs.declared.line.Command.TheVariants.{Node, Tick}
@@ -101,6 +103,7 @@ pub record Stands (lines : List Line) (i : ℕ) (s : Play) : Type 0 where
   pub numbered : IsNumbered s
   pub there : (is : IsScript lines) → MadeBy (length is.nodes) i (length s.ends)
   pub clock : s.clock ≤ i * MOST_TICK
+  pub aged : AllAged (i + 1) (stage_of s)
 
 pub stands-first : (lines : List Line)
     → Stands lines 0 (record { ends = []; flight = []; worked = []; clock = 0 })
@@ -108,6 +111,7 @@ stands-first lines = record {
   numbered = record { playing = record { each = λ n e h. cc; theirs = tt }; few = omega arith };
   there = λ is. (λ low. refl, λ high. omega (arith, high));
   clock = omega arith;
+  aged = λ j z is. cc;
 }
 
 pub stands-names : (lines : List Line) (is : IsScript lines) (i : ℕ) (d : Line) (s : Play)
@@ -130,6 +134,8 @@ stands-next lines is i d s t f g within h p =
           (length t.ends) c (line-is lines other i d within)
           (h.there other) (does-long c s t f g p) (order i (length other.nodes));
       clock = omega (arith, left.clock, most, h.clock);
+      aged = does-age c (length s.ends) (i + 1) (stage_of s) p.group (stage_of t)
+          (is.ranges i d within) (stands-names lines is i d s within h) (omega arith) p.does h.aged;
     }
 
 -- the clock has room for one more tick
@@ -139,11 +145,21 @@ stands-clock lines is i s within h =
     let few = rising-few 2 lines is.rising (omega arith) in
     omega (arith, h.clock, few, within)
 
+-- a node is restarted by each line once at most, so there are lives for all of them
+stands-anew : (lines : List Line) (is : IsScript lines) (i : ℕ) (s : Play) → i < length lines
+    → Stands lines i s → AllCanRestart s
+stands-anew lines is i s within h n e at =
+    let was = h.aged n (told_end e) (node-of s n e at) in
+    let early : e.timed.lists.life ≤ i + 1 = was.early in
+    let few = rising-few 2 lines is.rising (omega arith) in
+    record { life = (omega arith, omega (arith, early, few, within)); limits = was.limits }
+
 -- what a command of a script has when its turn comes
 pub record Ready (s : Play) (c : Command) : Type 0 where
   pub ranges : IsInRange c
   pub names : Names (length s.ends) c
   pub clock : s.clock + MOST_TICK < 2 ^ 64
+  pub anew : AllCanRestart s
 
 ready-at : (lines : List Line) (is : IsScript lines) (i : ℕ) (d : Line) (s : Play)
     → i < length lines → Stands lines i s → Ready s (get_or lines i d).command
@@ -151,6 +167,7 @@ ready-at lines is i d s within h = record {
   ranges = is.ranges i d within;
   names = stands-names lines is i d s within h;
   clock = stands-clock lines is i s within h;
+  anew = stands-anew lines is i s within h;
 }
 
 pub ready : (script lines : List Line) (i : ℕ) (line : Line) (s : Play) → lines ≡ script

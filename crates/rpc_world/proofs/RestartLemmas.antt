@@ -14,7 +14,7 @@ use Rattle.rpc_laws.specs.NodeLists.{limits_of, new_node}
 use Rattle.rpc_laws.specs.Working.{worked_after_all}
 use Rattle.sim_script.specs.FollowsScript.{Restarts}
 use Rattle.rpc_world.specs.Answered.{End, Plainly, Play, stage_of, told_end, totals_of}
-use Rattle.rpc_world.specs.Before.{AllPlay, IsNumbered, IsPlaying}
+use Rattle.rpc_world.specs.Before.{AllCanRestart, AllPlay, CanRestart, IsNumbered, IsPlaying}
 use Rattle.rpc_world.specs.Performed.{Performed}
 use Rattle.rpc_world.proofs.PairLemmas.{node-of}
 use Rattle.rpc_world.proofs.PlainLemmas.{plainly-served}
@@ -126,3 +126,8 @@ restarts-node n life limits z s e new f g from t view m at is_life is_limits is_
     subst (λ (u : Play). Performed (Restarts n) s u f g) same
     (restarts-at n s e there f g m.playing
     (grew ∙ ap (λ (k : ℕ). f ++ plain n (Restarted k) ∷ []) is_life))
+
+-- so can its endpoint be made anew
+pub anew-at : (z s : Play) (n : ℕ) (e : End) → z ≡ s → AllCanRestart s → slice_get z.ends n ≡ Some e
+    → CanRestart e
+anew-at z s n e view all at = all n e (ap (λ (y : Play). slice_get y.ends n) (sym view) ∙ at)

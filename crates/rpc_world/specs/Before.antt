@@ -1,9 +1,12 @@
 -- What the world has before each command of a script, and what that command may name.
-use Rattle.std.specs.Prelude.{ℕ, ◌≡◌, ◌<◌, ◌≤◌, List, None, Some, length, slice_get}
+use Rattle.std.specs.Prelude.{ℕ, ◌≡◌, ◌+◌, ◌<◌, ◌≤◌, List, None, Some, length, slice_get}
 use Rattle.std.specs.List.{AllByRecursion}
 use Rattle.endpoint_node.specs.Jobs.{staff_of}
 use Rattle.endpoint_loop.specs.Endpoints.{IsStaffed}
+use Rattle.packet_header.specs.Ranges.{Within, lives}
+use Rattle.rpc_base.specs.Limits.{Fits}
 use Rattle.rpc_laws.specs.declared.tables.WorkedJob.{WorkedJob}
+use Rattle.rpc_laws.specs.NodeLists.{limits_of}
 use Rattle.rpc_outside.specs.PlainAnswer.{background_answer}
 use Rattle.rpc_world.specs.Answered.{End, Play, told_end}
 use Rattle.script_grammar.specs.declared.line.Command.{Command}
@@ -43,6 +46,15 @@ pub record AllPlay (s : Play) : Type 0 where
 pub record IsNumbered (s : Play) : Type 0 where
   pub playing : AllPlay s
   pub few : length s.ends ≤ MOST_NODES
+
+-- an endpoint can be made anew: there is a life behind its own, and its limits are in their ranges
+pub record CanRestart (e : End) : Type 0 where
+  pub life : Within lives (e.timed.lists.life + 1)
+  pub limits : Fits (limits_of e.timed.lists)
+
+-- so can each
+abbrev pub AllCanRestart : Play → Type 0
+AllCanRestart s = (n : ℕ) (e : End) → slice_get s.ends n ≡ Some e → CanRestart e
 
 -- a `node` command while fewer than eight nodes are there, else a command among those that are
 abbrev pub Names : ℕ → Command → Type 0

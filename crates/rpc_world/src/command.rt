@@ -3,7 +3,7 @@ ghost use Rattle.std.specs.Prelude.{◌<◌, ◌+◌, ◌^◌, length, OnOk};
 ghost use Rattle.rpc_base.specs.declared.event.Event.{Event};
 ghost use Rattle.sim_script.specs.FollowsScript.{Does, OfNet, Ticks, or_missed};
 ghost use Rattle.rpc_world.specs.Performed.{Performed};
-ghost use Rattle.rpc_world.specs.Before.{IsNumbered, Names};
+ghost use Rattle.rpc_world.specs.Before.{AllCanRestart, IsNumbered, Names};
 ghost use Rattle.script_grammar.specs.Conditions.{IsInRange};
 
 use crate::calling::call_on;
@@ -68,6 +68,7 @@ pub fn execute(
     requires names { Names (length stage.old.ends) command.now }
     requires numbered { IsNumbered stage.old }
     requires clock { stage.old.clock + MOST_TICK < 2 ^ 64 }
+    requires anew { AllCanRestart stage.old }
     ensures { OnOk result
         (Performed (Does command.now) stage.old stage.new rec.old.facts.items rec.new.facts.items) }
 {

@@ -1,39 +1,24 @@
 //! `restart`: a node is made anew.
-ghost use Rattle.std.specs.Prelude.{◌≡◌, ◌+◌, ◌<◌, length, IfOk, OnOk};
-ghost use Rattle.rpc_base.specs.Limits.{Fits};
+ghost use Rattle.std.specs.Prelude.{◌≡◌, ◌+◌, ◌<◌, length, OnOk};
+ghost use Rattle.packet_header.specs.Ranges.{Within, lives};
 ghost use Rattle.sim_script.specs.FollowsScript.{Restarts};
-ghost use Rattle.rpc_world.specs.Before.{IsNumbered};
+ghost use Rattle.rpc_world.specs.Before.{AllCanRestart, IsNumbered};
 ghost use Rattle.rpc_world.specs.Performed.{Performed};
 
 use crate::landing::land;
 use crate::making::new_end;
 use crate::running::Running;
 use packet_header::Life;
-use rpc_base::{Event, Limits, NoMemory, NodeId, Who};
+use rpc_base::{Event, NoMemory, NodeId, Who};
 use rpc_outside::{MemRecorder, Recorder};
 use std::alloc::Global;
 
-// The life behind this one. That there is none ends as want of memory. No script leads there, since
-// it has at most 100,000 lines.
-fn life_behind(life: Life) -> Result<Life, NoMemory>
-    ensures { IfOk result (λ next. next ≡ life + 1) }
+// The life behind this one.
+fn life_behind(life: Life) -> Life
+    requires { Within lives (life + 1) }
+    ensures { result ≡ life + 1 }
 {
-    match life.0.checked_add(1) {
-        Some(next) => Ok(Life(next)),
-        None => Err(NoMemory),
-    }
-}
-
-// Limits of a node, which are in their ranges, as those of each node of a script are.
-fn in_range(limits: Limits) -> Result<Limits, NoMemory>
-    ensures same { IfOk result (λ l. l ≡ limits) }
-    ensures fits { IfOk result (λ l. Fits l) }
-{
-    if limits.fits() {
-        Ok(limits)
-    } else {
-        Err(NoMemory)
-    }
+    Life(life.0 + 1)
 }
 
 /// `restart A`: makes the node's endpoint anew, with its limits and in its next life, over new
@@ -46,14 +31,15 @@ pub fn restart_node(
 ) -> Result<(), NoMemory>
     requires node { node < length stage.old.ends }
     requires numbered { IsNumbered stage.old }
+    requires anew { AllCanRestart stage.old }
     ensures { OnOk result
         (Performed (Restarts node) stage.old stage.new rec.old.facts.items rec.new.facts.items) }
 {
     let before = rec.facts().len();
     let place = usize::from(node.0);
     let old = stage.nodes.at(place);
-    let life = life_behind(old.life())?;
-    let limits = in_range(old.limits())?;
+    let life = life_behind(old.life());
+    let limits = old.limits();
     rec.note(Who::Node(node), Event::Restarted { life: life.0 }, &[], &[]);
     let made = new_end(alloc, node, life, limits)?;
     stage.nodes.set(place, made);

@@ -61,6 +61,12 @@ execute-requires-clause-clock c =
     (ready _ _ _ _ _ c.lines-line-items.ensures.lines c.lines-line-items.ensures.script
     within c.line-item.is c.loop-line.invariant.2).clock
 
+pub execute-requires-clause-anew : goal.execute-requires-clause-anew
+execute-requires-clause-anew c =
+    let within : c.loop-line.line-index < length c.lines-line-items.result.now = omega arith in
+    (ready _ _ _ _ _ c.lines-line-items.ensures.lines c.lines-line-items.ensures.script
+    within c.line-item.is c.loop-line.invariant.2).anew
+
 pub execute-requires-clause-numbered : goal.execute-requires-clause-numbered
 execute-requires-clause-numbered c = c.loop-line.invariant.2.numbered
 
