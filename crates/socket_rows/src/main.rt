@@ -1,11 +1,12 @@
-//! Two links over sockets of this machine. Each line of standard input is a call of one of them, `here`
-//! or `there`: `bind ADDRESS`, `peer ADDRESS`, `send PEER TEXT`, `recv`, or `await`, which receives until
-//! a datagram is there. It is told with what it answers, a datagram by what stands behind its header.
-//! A further call costs no proof.
+//! Links over sockets of this machine. Each line of standard input is a call of one of them, `here`,
+//! `there` or `yonder`: `bind ADDRESS`, `peer ADDRESS`, `send PEER TEXT`, `connect LIFE`, which asks
+//! peer 0 to connect, `forget PEER`, `recv`, or `await`, which receives until a datagram is there. It
+//! is told with what it answers, a datagram by what stands behind its header. A further call costs
+//! no proof.
 #![tactic(auto)]
 
-use packet_header::MAGIC;
-use rpc_base::{HEAD_BYTES, Peer};
+use packet_header::{ControlHeader, ControlKind, Life, MAGIC, Packet, encode};
+use rpc_base::{HEAD_BYTES, Peer, SessionNo};
 use rpc_outside::{Failed, Got, Link, MOST_LINK_BYTES};
 use std::alloc::Global;
 use std::io;
@@ -70,12 +71,41 @@ fn send(rt: &impl Print, link: &mut impl Link, rest: &str) -> io::Result<()> {
     println!(rt; "{sent:?}")
 }
 
+// A request to connect in this life, to peer 0.
+fn connect(rt: &impl Print, link: &mut impl Link, life: &str) -> io::Result<()> {
+    let Ok(life) = life.parse::<u8>() else {
+        return println!(rt; "no such life");
+    };
+    let mut head = [0; HEAD_BYTES];
+    let request = ControlHeader {
+        kind: ControlKind::ConnectRequest,
+        client: SessionNo(0),
+        server: None,
+        credits: 1,
+        status: 0,
+        from_life: Life(u32::from(life.max(1))),
+        to_life: None,
+    };
+    encode(&Packet::Control(request), &mut head);
+    println!(rt; "{:?}", link.send(Peer(0), &head, &[]))
+}
+
+fn forget(rt: &impl Print, link: &mut impl Link, peer: &str) -> io::Result<()> {
+    let Ok(peer) = peer.parse::<u8>() else {
+        return println!(rt; "no such peer");
+    };
+    link.forget(Peer(peer));
+    println!(rt; "done")
+}
+
 fn call(rt: &impl Print, link: &mut impl Link, step: &str) -> io::Result<()> {
     let (name, rest) = step.split_once(' ').unwrap_or((step, ""));
     match name {
         "bind" => println!(rt; "{:?}", link.bind(rest)),
         "peer" => println!(rt; "{:?}", link.peer(rest)),
         "send" => send(rt, link, rest),
+        "connect" => connect(rt, link, rest),
+        "forget" => forget(rt, link, rest),
         "recv" => recv(rt, link),
         "await" => recv_one(rt, link),
         _ => println!(rt; "no such call"),
@@ -86,6 +116,7 @@ fn call_all(
     rt: &impl Print,
     here: &mut impl Link,
     there: &mut impl Link,
+    yonder: &mut impl Link,
     calls: &str,
 ) -> io::Result<()> {
     for line in calls.lines() {
@@ -93,6 +124,7 @@ fn call_all(
         match line.split_once(' ') {
             Some(("here", step)) => call(rt, here, step)?,
             Some(("there", step)) => call(rt, there, step)?,
+            Some(("yonder", step)) => call(rt, yonder, step)?,
             _ => println!(rt; "no such link")?,
         }
     }
@@ -102,7 +134,8 @@ fn call_all(
 fn drive<R: Print + Net>(rt: &R, alloc: Global, calls: &str) -> io::Result<()> {
     let mut here = UdpLink::new(alloc, rt);
     let mut there = UdpLink::new(alloc, rt);
-    call_all(rt, &mut here, &mut there, calls)
+    let mut yonder = UdpLink::new(alloc, rt);
+    call_all(rt, &mut here, &mut there, &mut yonder, calls)
 }
 
 fn main(rt: HostRuntime) -> io::Result<()> {

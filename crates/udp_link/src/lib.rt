@@ -7,6 +7,7 @@ mod arrived;
 mod buffers;
 mod fates;
 mod link;
+mod lives;
 mod peers;
 mod socket;
 mod trouble;

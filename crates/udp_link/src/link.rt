@@ -7,11 +7,12 @@ use crate::address::Address;
 use crate::arrived::Arrived;
 use crate::buffers::enlarge;
 use crate::fates::{Fate, is_lost, is_passing};
+use crate::lives::connect_life;
 use crate::peers::Peers;
 use crate::socket::{send, wait};
 use crate::trouble::Trouble;
 use packet_frames::{Frame, is_frame, next_packet};
-use packet_header::MAGIC;
+use packet_header::{FIRST_LIFE, Life, MAGIC};
 use rpc_base::{HEAD_BYTES, Peer};
 use rpc_outside::{Failed, Got, Link, MOST_LINK_BYTES, Taken};
 use std::alloc::Global;
@@ -28,7 +29,8 @@ struct Open {
 
 /// A link over a UDP socket, which is bound once and never waits but where it is told to. Addresses
 /// are numeric, of IPv4 or IPv6, with a port. Peers have numbers, up to 256 of them at a time; those
-/// that an application named keep theirs, and others until they are forgotten.
+/// that an application named keep theirs, and others until they are forgotten. A number that was
+/// forgotten goes to no peer that asks to connect in a lower life than an earlier one of it did.
 /// Packets to a peer that opens frames go several in a datagram. What there is of one is handed over
 /// where the next packet goes elsewhere or doesn't fit, where the link receives or waits, and at
 /// `flush`.
@@ -53,15 +55,16 @@ pub struct UdpLink<'a, N: Net> {
     trouble: Option<Trouble>,
 }
 
-// Whether a datagram may be of an end of this protocol: a header stands where its first packet does.
-// Who sends other ones gets no number.
-fn is_worth_a_number(datagram: &[u8]) -> bool {
-    match next_packet(datagram, 0) {
-        Some(span) => {
-            span.end - span.start >= HEAD_BYTES && datagram.get(span.start) == Some(&MAGIC)
-        }
-        None => false,
+// The life in which a datagram may be of an end of this protocol: a header stands where its first
+// packet does; its life where that asks to connect, else the first one. Who sends other datagrams
+// gets no number.
+fn life_of(datagram: &[u8]) -> Option<Life> {
+    let span = next_packet(datagram, 0)?;
+    let packet = datagram.get(span.start..span.end)?;
+    if packet.len() < HEAD_BYTES || packet.first() != Some(&MAGIC) {
+        return None;
     }
+    Some(connect_life(packet).unwrap_or(Life(FIRST_LIFE)))
 }
 
 // Who sent a datagram. Nobody can be answered at port 0, and there are no more than 256 peers.
@@ -69,11 +72,10 @@ fn sender_of(peers: &mut Peers, address: &Address, datagram: &[u8]) -> Option<Pe
     if address.port() == 0 {
         return None;
     }
-    let known = peers.known(address);
-    if known.is_none() && is_worth_a_number(datagram) {
-        return peers.add(address);
+    match peers.known(address) {
+        Some(peer) => Some(peer),
+        None => peers.add(address, life_of(datagram)?),
     }
-    known
 }
 
 impl<'a, N: Net> UdpLink<'a, N> {
@@ -229,10 +231,14 @@ impl<'a, N: Net> UdpLink<'a, N> {
         ensures busies { self.new.busies ≡ self.old.busies }
         ensures long { IfSome result (λ len. len ≤ MOST_LINK_BYTES) }
     {
-        match &mut self.open {
-            Some(open) => open.came.next(out),
-            None => None,
+        let Some(open) = &mut self.open else {
+            return None;
+        };
+        let len = open.came.next(out)?;
+        if let Some(life) = connect_life(&out[..len]) {
+            self.peers.tell(self.from, life);
         }
+        Some(len)
     }
 
     // A datagram came. It is passed over where its sender is no peer.

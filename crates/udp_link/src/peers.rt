@@ -3,6 +3,7 @@ ghost use Rattle.std.specs.Prelude.{◌≤◌, ◌<◌, length, IfSome};
 
 use crate::address::Address;
 use packet_frames::{LEAST_FRAME_BYTES, MOST_FRAME_BYTES, USUAL_FRAME_BYTES};
+use packet_header::{FIRST_LIFE, Life};
 use rpc_base::Peer;
 use std::alloc::Global;
 
@@ -29,9 +30,29 @@ struct Place {
     standing: Standing,
     /// Whether an application named it: then it keeps its number.
     is_kept: bool,
+    /// The greatest life in which a peer of this number asked to connect, 0 before. An endpoint knows
+    /// peers by their numbers, and answers none that asks in a lower life.
+    told: u32,
 }
 
-/// The peers by their numbers, and the numbers in use in order of the addresses.
+impl Place {
+    /// Nobody has the number, and nobody had it.
+    fn new() -> Place {
+        Place {
+            address: Address::none(),
+            standing: Standing::Free,
+            is_kept: false,
+            told: 0,
+        }
+    }
+
+    // Whether the number may become that of a peer that asks in this life.
+    fn is_free_for(&self, life: Life) -> bool {
+        self.standing == Standing::Free && self.told <= life.0
+    }
+}
+
+/// The peers by their numbers, and the numbers that are or were a peer's in order of the addresses.
 #[derive(Drop)]
 pub struct Peers {
     places: Vec<Place>,
@@ -125,31 +146,42 @@ impl Peers {
     }
 
     /// The number of the peer of this address, if it has one. The one whose datagram came last is
-    /// looked at first.
+    /// looked at first. One that was forgotten has none.
     pub fn known(&mut self, address: &Address) -> Option<Peer> {
         match self.place(self.last) {
             Some(place) if place.address.is(address) => return Some(self.last),
             _ => {}
         }
         let at = self.find(address).ok()?;
-        let number = *self.sorted.get(at)?;
-        self.last = Peer(number);
-        Some(self.last)
+        let peer = Peer(*self.sorted.get(at)?);
+        self.place(peer)?;
+        self.last = peer;
+        Some(peer)
     }
 
-    /// A number for the peer of this address, which has none. None comes where 256 others have one,
-    /// and where there is no memory for one more.
-    pub fn add(&mut self, address: &Address) -> Option<Peer> {
+    /// A number for the peer of this address, which has none and sends in this life: the one that it
+    /// had, where no other peer has it since; else one whose peers asked to connect in no greater
+    /// life. None comes where there is no such number, or no memory for one more.
+    pub fn add(&mut self, address: &Address, life: Life) -> Option<Peer> {
+        let number = match self.find(address) {
+            Ok(at) => *self.sorted.get(at)?,
+            Err(_) => self.take(address, life)?,
+        };
+        self.stand(Peer(number), Standing::Alone);
+        Some(Peer(number))
+    }
+
+    // A free number becomes that of this address, which had none.
+    fn take(&mut self, address: &Address, life: Life) -> Option<u8> {
+        let number = self.free_number(life)?;
+        self.sorted.retain(|other| *other != number);
         let at = self.find(address).err()?;
-        let number = self.free_number()?;
         if at > self.sorted.len() || self.sorted.insert(at, number).is_err() {
             return None;
         }
         let place = self.places.get_mut(usize::from(number))?;
         place.address = *address;
-        place.standing = Standing::Alone;
-        place.is_kept = false;
-        Some(Peer(number))
+        Some(number)
     }
 
     /// The number of the peer of this address, which keeps it. None comes where it has none, and 256
@@ -158,32 +190,47 @@ impl Peers {
         let known = self.known(address);
         let peer = match known {
             Some(peer) => peer,
-            None => self.add(address)?,
+            None => self.add(address, Life(FIRST_LIFE))?,
         };
         self.keep(peer);
         Some(peer)
     }
 
-    // The lowest number that is no peer's, with a place.
-    fn free_number(&mut self) -> Option<u8> {
-        let free = self
-            .places
-            .iter()
-            .position(|place| place.standing == Standing::Free);
-        if let Some(number) = free {
+    // Of the numbers that are free for this life the one that was told the greatest life, so that
+    // those of lower lives stay for others.
+    fn best_free(&self, life: Life) -> Option<usize> {
+        let mut best: Option<(usize, u32)> = None;
+        for (number, place) in self.places.iter().enumerate() {
+            let is_better = match best {
+                Some((_, told)) => told < place.told,
+                None => true,
+            };
+            if is_better && place.is_free_for(life) {
+                best = Some((number, place.told));
+            }
+        }
+        let (number, _told) = best?;
+        Some(number)
+    }
+
+    // A number that is no peer's and is free for this life, with a place.
+    fn free_number(&mut self, life: Life) -> Option<u8> {
+        if let Some(number) = self.best_free(life) {
             return u8::try_from(number).ok();
         }
         let next = self.places.len();
         if next >= MOST_PEERS {
             return None;
         }
-        let place = Place {
-            address: Address::none(),
-            standing: Standing::Free,
-            is_kept: false,
-        };
-        self.places.push(place).ok()?;
+        self.places.push(Place::new()).ok()?;
         u8::try_from(next).ok()
+    }
+
+    /// A peer asked to connect in this life.
+    pub fn tell(&mut self, peer: Peer, life: Life) {
+        if let Some(place) = self.places.get_mut(usize::from(peer.0)) {
+            place.told = place.told.max(life.0);
+        }
     }
 
     // A peer keeps its number, whatever comes.
@@ -201,12 +248,11 @@ impl Peers {
         }
     }
 
-    /// The number of a peer that doesn't keep it is free again.
+    /// The number of a peer that doesn't keep it is free again. It is the peer's once more where it
+    /// comes back before another peer took it.
     pub fn forget(&mut self, peer: Peer) {
-        if self.is_kept(peer) {
-            return;
+        if !self.is_kept(peer) {
+            self.stand(peer, Standing::Free);
         }
-        self.stand(peer, Standing::Free);
-        self.sorted.retain(|number| *number != peer.0);
     }
 }
