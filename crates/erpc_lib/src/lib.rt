@@ -2,15 +2,13 @@
 //! service:
 //!
 //! ```text
-//! use erpc_lib::{Credits, Outcome, RpcError, Running, SysClock, UdpLink};
+//! use erpc_lib::{Credits, Outcome, RpcError, udp_plain};
 //!
 //! fn ask<H>(waits: H, rt: &HostRuntime, addr: &str) -> Result<Outcome, RpcError>
 //! where
 //!     H: Wait + Drop,
 //! {
-//!     let link = UdpLink::new(rt.alloc(), rt);
-//!     let mut node = Running::plain(waits, rt.alloc(), link, SysClock::new(rt))?;
-//!     node.bind("127.0.0.1:0")?;
+//!     let mut node = udp_plain(waits, rt.alloc(), rt, "127.0.0.1:0")?;
 //!     let session = node.connect_within(addr, Credits::one(), 100_000)?;
 //!     node.ask(session, ECHO, b"hello", 64)?;
 //!     let done = node.wait_ended(100_000)?;
@@ -42,6 +40,6 @@ pub use rpc_turns::{
     take_turn,
 };
 pub use session_mgmt::{CloseError, ConnectError};
-pub use udp::{UdpRunning, udp_running};
+pub use udp::{UdpPlain, UdpRunning, udp_plain, udp_running};
 pub use udp_link::{Trouble, UdpLink};
 pub use worker_crew::{Crew, Hand, LocalWorkers, Spawner, Workers};

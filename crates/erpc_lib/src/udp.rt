@@ -1,12 +1,15 @@
 //! Runs over UDP.
 ghost use Rattle.std.specs.Prelude.{◌≡◌, ◌≢◌, ℕ, [], IfOk};
 ghost use Rattle.rpc_outside.specs.declared.service.Mode.TheVariants.{Background};
+ghost use Rattle.rpc_turns.specs.Plain.{Stands, limits_at};
 ghost use Rattle.rpc_turns.specs.Queue.{KeepsAll};
 
+use rpc_base::USUAL_TIMEOUT;
 use rpc_outside::{Service, SysClock};
-use rpc_turns::{InlineRunning, RpcError, Running};
+use rpc_turns::{InlineRunning, PlainRunning, RpcError, Running};
 use std::alloc::Global;
 use std::net::Net;
+use std::sync::Wait;
 use std::time;
 use udp_link::UdpLink;
 
@@ -29,6 +32,29 @@ pub fn udp_running<'a, V: Service + Drop, N: Net + time::Clock>(
 {
     let link = UdpLink::new(alloc, rt);
     let mut node = Running::inline(alloc, service, link, SysClock::new(rt))?;
+    node.bind(addr)?;
+    Ok(node)
+}
+
+/// A run over a UDP socket with the plain service, that keeps no facts. Its crew's calls wait by the
+/// handle `H`.
+pub type UdpPlain<'a, H, N> = PlainRunning<H, UdpLink<'a, N>, SysClock<'a, N>>;
+
+/// A run of a new endpoint with the plain service and usual limits at this numeric address, with a
+/// port. Its crew has no hands, and works by itself; its calls wait by the handle `waits`. It sleeps
+/// where nothing comes, and keeps no facts. `NoMemory` comes only where there is none for the
+/// endpoint, and `Link` where the link can't take the address.
+pub fn udp_plain<'a, H: Wait + Drop, N: Net + time::Clock>(
+    waits: H,
+    alloc: Global,
+    rt: &'a N,
+    addr: &str,
+) -> Result<UdpPlain<'a, H, N>, RpcError>
+    ensures stands { IfOk result (λ r. Stands (limits_at USUAL_TIMEOUT) [] r.endpoint) }
+    ensures ended { IfOk result (λ r. KeepsAll r.ended []) }
+{
+    let link = UdpLink::new(alloc, rt);
+    let mut node = Running::plain(waits, alloc, link, SysClock::new(rt))?;
     node.bind(addr)?;
     Ok(node)
 }

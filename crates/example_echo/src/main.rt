@@ -2,7 +2,7 @@
 //! and asks itself.
 #![tactic(auto)]
 
-use erpc_lib::{Credits, Done, Outcome, PlainRunning, RpcError, Running, SysClock, UdpLink};
+use erpc_lib::{Credits, Done, Outcome, RpcError, UdpPlain, udp_plain};
 use std::sync::Wait;
 use std::{env, io, str};
 
@@ -19,18 +19,7 @@ const ROOM: u32 = 64;
 /// After so many turns the client gives up.
 const TURNS: u32 = 1_000_000;
 
-type Node<'a, H> = PlainRunning<H, UdpLink<'a, HostRuntime>, SysClock<'a, HostRuntime>>;
-
-// A node at this address, whose calls may wait by a handle.
-fn node_at<'a, H>(waits: H, rt: &'a HostRuntime, addr: &str) -> Result<Node<'a, H>, RpcError>
-where
-    H: Wait + Drop,
-{
-    let link = UdpLink::new(rt.alloc(), rt);
-    let mut node = Running::plain(waits, rt.alloc(), link, SysClock::new(rt))?;
-    node.bind(addr)?;
-    Ok(node)
-}
+type Node<'a, H> = UdpPlain<'a, H, HostRuntime>;
 
 fn serve<H: Wait + Drop>(node: &mut Node<H>) -> Result<(), RpcError> {
     for _turn in 0..u32::MAX {
@@ -53,14 +42,21 @@ fn tell(rt: &HostRuntime, done: &Done) -> io::Result<()> {
     }
 }
 
+// Answers calls, or asks one and tells what came of it.
+fn run<H: Wait + Drop>(rt: &HostRuntime, node: &mut Node<H>, serves: bool) -> anyhow::Result<()> {
+    if serves {
+        serve(node)?;
+    } else {
+        tell(rt, &ask(node, "hello")?)?;
+    }
+    Ok(())
+}
+
 fn main(rt: HostRuntime) -> anyhow::Result<()> {
     let word = env::args(&rt)?.nth(1);
     let is_client = word.as_ref().is_some_and(|word| word.as_str() == "ask");
-    let mut node = node_at(rt, &rt, if is_client { CLIENT } else { SERVER })?;
-    if word.is_some() && !is_client {
-        serve(&mut node)?;
-    } else {
-        tell(&rt, &ask(&mut node, "hello")?)?;
-    }
-    Ok(())
+    let serves = word.is_some() && !is_client;
+    let addr = if is_client { CLIENT } else { SERVER };
+    let mut node = udp_plain(rt, rt.alloc(), &rt, addr)?;
+    run(&rt, &mut node, serves)
 }
