@@ -1,5 +1,5 @@
 -- What is asked, and how.
-use Rattle.std.specs.Prelude.{ℕ, ◌≤◌}
+use Rattle.std.specs.Prelude.{◌≤◌}
 use Rattle.call_load.specs.declared.aim.Aim.{Aim}
 use Rattle.call_load.specs.declared.aim.TheConstants.{MOST_CALLERS, MOST_PENDING}
 use Rattle.rpc_base.specs.declared.limits.TheConstants.{MOST_CREDITS, MOST_MESSAGE_BYTES}

@@ -1,2 +1,4 @@
 pub mod Aims
+pub mod Callers
+pub mod Counts
 pub mod Tallies

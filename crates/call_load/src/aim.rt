@@ -1,6 +1,7 @@
 //! What is asked, and how.
-ghost use Rattle.std.specs.Prelude.{◌≤◌, ◌↔◌, IsTrue};
+ghost use Rattle.std.specs.Prelude.{◌≡◌, ◌≤◌, ◌↔◌, IsTrue};
 ghost use Rattle.call_load.specs.Aims.{IsInRange};
+ghost use Rattle.call_load.specs.Callers.{answered_of, asked_of};
 
 use rpc_base::{MOST_CREDITS, MOST_MESSAGE_BYTES, MOST_TIMEOUT};
 
@@ -54,7 +55,8 @@ impl Aim {
 
     /// How many bytes a call asks.
     pub fn asked_bytes(&self) -> u32
-        ensures { result ≤ MOST_MESSAGE_BYTES }
+        ensures of { result ≡ asked_of self.now }
+        ensures most { result ≤ MOST_MESSAGE_BYTES }
     {
         match self.req_type {
             3 => TALLY_BYTES,
@@ -65,7 +67,8 @@ impl Aim {
 
     /// How many bytes an answer has.
     pub fn answer_bytes(&self) -> u32
-        ensures { result ≤ MOST_MESSAGE_BYTES }
+        ensures of { result ≡ answered_of self.now }
+        ensures most { result ≤ MOST_MESSAGE_BYTES }
     {
         match self.req_type {
             3 => TALLY_BYTES,

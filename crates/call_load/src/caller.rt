@@ -1,21 +1,27 @@
 //! A client's endpoint, its sessions and its calls.
-ghost use Rattle.std.specs.Prelude.{◌≡◌, ◌≤◌};
+ghost use Rattle.std.specs.Prelude.{◌≡◌, ◌<◌, ◌≤◌, ◌↔◌, true, IfOk, IsTrue, MatchBool, OnErr};
 ghost use Rattle.call_load.specs.Aims.{IsInRange};
+ghost use Rattle.call_load.specs.Callers.{AllConnected, AreAsked, AreOver, AsksMore, EndsSome};
+ghost use Rattle.call_load.specs.Callers.{answered_of, asked_of};
+ghost use Rattle.call_load.specs.Counts.{AsksOne, BeginsAnew, CountsNone, CountsTurn};
+ghost use Rattle.call_load.specs.declared.tally.TheConstants.{MOST_CALLS};
+ghost use Rattle.endpoint_loop.specs.declared.endpoint.poll.Turn.{Turn};
+ghost use Rattle.rpc_outside.specs.Faults.{HasCause};
 
 use crate::aim::Aim;
+use crate::counts::Counts;
 use crate::ended::Ended;
 use crate::slots::{Ready, Slots};
-use crate::tally::{Ending, Tally, Turns};
+use crate::tally::Ending;
 use crate::watch::Watch;
 use client_core::Done;
-use endpoint_loop::{Endpoint, LinkFault, Turn};
+use endpoint_loop::{Endpoint, LinkFault};
 use packet_header::{FIRST_LIFE, Life};
 use rpc_base::{
     Limits, MOST_CREDITS, NoMemory, NodeId, Peer, SessionNo, SessionState, USUAL_JOBS, USUAL_RING,
 };
 use rpc_outside::{Link, PlainDuty, PlainService};
 use std::alloc::Global;
-use time_histogram::Histogram;
 use worker_crew::LocalWorkers;
 
 /// The nanoseconds of a microsecond, in which an endpoint counts, and of a second.
@@ -48,11 +54,8 @@ pub struct Caller {
     due: u64,
     /// What the endpoint noted.
     pub watch: Watch,
-    pub tally: Tally,
-    pub turns: Turns,
-    /// How long calls took that ended, in nanoseconds, and those since it was cleared last.
-    pub times: Histogram,
-    pub newest: Histogram,
+    /// What came of the calls.
+    pub counts: Counts,
 }
 
 // Written by hand, so that whoever lets one go makes a call.
@@ -65,21 +68,8 @@ impl Drop for Caller {
             ended: _ended,
             due: _,
             watch: _,
-            tally: _,
-            turns: _,
-            times: _times,
-            newest: _newest,
+            counts: _counts,
         } = self;
-    }
-}
-
-fn no_turns() -> Turns {
-    Turns {
-        made: 0,
-        empty: 0,
-        handled: 0,
-        sent: 0,
-        busy: 0,
     }
 }
 
@@ -102,11 +92,12 @@ impl Caller {
     /// there is none.
     pub fn new(alloc: Global, aim: Aim) -> Result<Caller, NoMemory>
         requires { IsInRange aim }
+        ensures aim { IfOk result (λ c. c.aim ≡ aim) }
+        ensures counts { IfOk result (λ c. CountsNone c.counts) }
     {
         let slots = Slots::new(alloc, &aim)?;
         let ended = Ended::new(alloc, aim.pending)?;
-        let times = Histogram::new(alloc)?;
-        let newest = Histogram::new(alloc)?;
+        let counts = Counts::new(alloc)?;
         let endpoint = plain_node(alloc, aim.timeout)?;
         Ok(Caller {
             endpoint,
@@ -115,10 +106,7 @@ impl Caller {
             ended,
             due: 0,
             watch: Watch::new(),
-            tally: Tally::new(),
-            turns: no_turns(),
-            times,
-            newest,
+            counts,
         })
     }
 
@@ -127,6 +115,8 @@ impl Caller {
     pub fn connect(&mut self, peer: Peer, credits: u16) -> bool
         requires some { 1 ≤ credits }
         requires most { credits ≤ MOST_CREDITS }
+        ensures aim { self.new.aim ≡ self.old.aim }
+        ensures counts { self.new.counts ≡ self.old.counts }
     {
         let mut is_whole = true;
         'sessions: for _session in 0..self.aim.sessions {
@@ -136,48 +126,89 @@ impl Caller {
         is_whole
     }
 
-    /// How far its sessions are.
-    pub fn standing(&self) -> Standing {
-        let mut over = 0u16;
-        let mut is_open = true;
+    // Whether each session is connected.
+    fn is_open(&self) -> bool
+        ensures { result ≡ true → AllConnected self.now }
+    {
         'sessions: for number in 0..self.aim.sessions {
             match self.endpoint.state(SessionNo(number)) {
-                SessionState::Failed | SessionState::Broken => return Standing::Broken,
-                SessionState::Closed | SessionState::Closing => over = over.saturating_add(1),
                 SessionState::Connected => {}
-                _ => is_open = false,
+                _ => return false,
             }
         }
-        match over {
-            0 if is_open => Standing::Open,
-            0 => Standing::Opening,
-            _ => Standing::Over,
+        true
+    }
+
+    // Whether a session failed or lost its peer.
+    fn is_broken(&self) -> bool {
+        'sessions: for number in 0..self.aim.sessions {
+            match self.endpoint.state(SessionNo(number)) {
+                SessionState::Failed | SessionState::Broken => return true,
+                _ => {}
+            }
+        }
+        false
+    }
+
+    // Whether a session is over, or begins to close.
+    fn is_over(&self) -> bool {
+        'sessions: for number in 0..self.aim.sessions {
+            match self.endpoint.state(SessionNo(number)) {
+                SessionState::Closed | SessionState::Closing => return true,
+                _ => {}
+            }
+        }
+        false
+    }
+
+    /// How far its sessions are.
+    pub fn standing(&self) -> Standing
+        ensures { result ≡ Standing.Open → AllConnected self.now }
+    {
+        if self.is_broken() {
+            return Standing::Broken;
+        }
+        if self.is_open() {
+            return Standing::Open;
+        }
+        if self.is_over() {
+            Standing::Over
+        } else {
+            Standing::Opening
         }
     }
 
     /// Counts anew: of what was counted so far only the calls that are pending stay. Calls with set
     /// times are asked from `now` on, in nanoseconds.
-    pub fn begin(&mut self, now: u64) {
-        self.tally = self.tally.anew();
-        self.turns = no_turns();
+    pub fn begin(&mut self, now: u64)
+        ensures aim { self.new.aim ≡ self.old.aim }
+        ensures counts { BeginsAnew self.old.counts self.new.counts }
+        ensures due { self.new.due ≡ now }
+    {
+        self.counts.begin();
         self.watch = Watch::new();
-        self.times.clear();
-        self.newest.clear();
         self.due = now;
     }
 
-    // Whether all calls were asked.
-    fn is_asked(&self) -> bool {
-        self.aim.calls > 0 && self.tally.asked >= u64::from(self.aim.calls)
+    // Whether there is a number of calls, and all of them were asked.
+    fn is_asked(&self) -> bool
+        ensures { IsTrue result ↔ AreAsked self.now.aim self.now.counts.tally }
+    {
+        self.aim.calls > 0 && self.counts.tally.asked >= u64::from(self.aim.calls)
     }
 
     /// Whether there is a number of calls, and all of them are over.
-    pub fn is_done(&self) -> bool {
-        self.is_asked() && self.tally.pending == 0
+    pub fn is_done(&self) -> bool
+        ensures { IsTrue result ↔ AreOver self.now.aim self.now.counts.tally }
+    {
+        self.is_asked() && self.counts.tally.pending == 0
     }
 
     /// How many bytes a call asks, and how many it is answered with.
-    pub fn bytes_of_call(&self) -> (u32, u32) {
+    pub fn bytes_of_call(&self) -> (u32, u32)
+        ensures asked { result.0 ≡ asked_of self.now.aim }
+        ensures answered { result.1 ≡ answered_of self.now.aim }
+    {
         (self.aim.asked_bytes(), self.aim.answer_bytes())
     }
 
@@ -190,7 +221,12 @@ impl Caller {
     }
 
     // Asks this call. It comes back where it is refused.
-    fn ask(&mut self, ready: Ready, since: u64) -> bool {
+    fn ask(&mut self, ready: Ready, since: u64) -> bool
+        requires { self.old.counts.tally.asked < MOST_CALLS }
+        ensures aim { self.new.aim ≡ self.old.aim }
+        ensures asks { MatchBool result (AsksOne self.old.counts self.new.counts)
+            (self.new.counts ≡ self.old.counts) }
+    {
         let place = ready.place;
         let session = SessionNo((place % u32::from(self.aim.sessions.max(1))) as u16);
         let (tag, req_type) = (u64::from(place), self.aim.req_type);
@@ -205,9 +241,7 @@ impl Caller {
         match asked {
             Ok(_call) => {
                 self.slots.set_since(place, since);
-                if !self.tally.is_full() {
-                    self.tally.ask();
-                }
+                self.counts.ask();
                 true
             }
             Err(back) => {
@@ -222,9 +256,13 @@ impl Caller {
     }
 
     // Asks a call, if one is to be asked at `now`.
-    fn ask_next(&mut self, now: u64) -> bool {
+    fn ask_next(&mut self, now: u64) -> bool
+        ensures aim { self.new.aim ≡ self.old.aim }
+        ensures asks { MatchBool result (AsksOne self.old.counts self.new.counts)
+            (self.new.counts ≡ self.old.counts) }
+    {
         let pause = self.pause();
-        if self.tally.is_full() || self.is_asked() || (pause > 0 && self.due > now) {
+        if self.counts.tally.is_full() || self.is_asked() || (pause > 0 && self.due > now) {
             return false;
         }
         let Some(ready) = self.slots.take() else {
@@ -238,7 +276,10 @@ impl Caller {
     /// Asks the calls that are to be asked at `now`, in nanoseconds: until so many are pending as
     /// may be, or, where they have set times, those whose time has come. A call's time counts from
     /// its set time, so that waiting for an older one isn't hidden.
-    pub fn ask_all(&mut self, now: u64) {
+    pub fn ask_all(&mut self, now: u64)
+        ensures aim { self.new.aim ≡ self.old.aim }
+        ensures asks { AsksMore self.old.aim.pending self.old.counts self.new.counts }
+    {
         'calls: for _call in 0..self.aim.pending {
             if !self.ask_next(now) {
                 return;
@@ -246,62 +287,57 @@ impl Caller {
         }
     }
 
-    // Counts how long a call took.
-    fn time(&mut self, took: u64) {
-        if !self.times.is_full() {
-            self.times.add(took);
-        }
-        if !self.newest.is_full() {
-            self.newest.add(took);
-        }
-    }
-
     // A call is over.
-    fn end(&mut self, done: Done, now: u64) {
+    fn end(&mut self, done: Done, now: u64)
+        ensures aim { self.new.aim ≡ self.old.aim }
+        ensures ends { EndsSome 1 self.old.counts self.new.counts }
+    {
         let place = u32::try_from(done.tag).unwrap_or(0);
         let is_right = self.aim.is_right(done.req.bytes(), done.resp.bytes());
         let since = self.slots.since(place);
-        self.time(now.saturating_sub(since));
-        if self.tally.pending > 0 {
-            self.tally.end(Ending::of(done.outcome, is_right));
-        }
+        self.counts.time(now.saturating_sub(since));
+        self.counts.end(Ending::of(done.outcome, is_right));
         let Done { req, resp, .. } = done;
         self.slots.put(Ready { place, req, resp });
     }
 
     /// Counts the calls that were over in a turn that ended at `now`, in nanoseconds. Whether there
     /// was memory for each.
-    pub fn count(&mut self, now: u64) -> bool {
+    pub fn count(&mut self, now: u64) -> bool
+        ensures aim { self.new.aim ≡ self.old.aim }
+        ensures ends { EndsSome self.old.aim.pending self.old.counts self.new.counts }
+    {
         'calls: for _call in 0..self.aim.pending {
             let Some(done) = self.ended.take() else {
-                break;
+                return self.ended.whole;
             };
             self.end(done, now);
         }
         self.ended.whole
     }
 
-    // Counts what a turn did.
-    fn count_turn(&mut self, turn: &Turn) {
-        let turns = &mut self.turns;
-        turns.made = turns.made.saturating_add(1);
-        turns.handled = turns.handled.saturating_add(u64::from(turn.handled));
-        turns.sent = turns.sent.saturating_add(u64::from(turn.sent));
-        turns.empty = turns.empty.saturating_add(u64::from(turn.handled == 0));
-        turns.busy = turns.busy.saturating_add(u64::from(turn.busy));
-    }
-
     /// Makes a turn of the endpoint at `now`, in nanoseconds, and tells whether it handled packets.
-    pub fn turn<L: Link>(&mut self, now: u64, link: &mut L) -> Result<bool, LinkFault> {
+    /// `LinkFault` comes exactly where a fault of the link came.
+    pub fn turn<L: Link>(&mut self, now: u64, link: &mut L) -> Result<bool, LinkFault>
+        ensures aim { self.new.aim ≡ self.old.aim }
+        ensures counts { IfOk result (λ some. (turn : Turn)
+            × CountsTurn turn self.old.counts self.new.counts
+            × (IsTrue some ↔ (0 < turn.handled))) }
+        ensures fault { OnErr result (self.new.counts ≡ self.old.counts) }
+        ensures cause { HasCause (L.faults link.old) (L.faults link.new) result }
+    {
         let turn = self
             .endpoint
             .turn(now / MICROSECOND, link, &mut self.ended, &mut self.watch)?;
-        self.count_turn(&turn);
+        self.counts.turn(&turn);
         Ok(turn.handled > 0)
     }
 
     /// Begins to close the sessions that have no call.
-    pub fn close(&mut self) {
+    pub fn close(&mut self)
+        ensures aim { self.new.aim ≡ self.old.aim }
+        ensures counts { self.new.counts ≡ self.old.counts }
+    {
         'sessions: for number in 0..self.aim.sessions {
             let _closing = self.endpoint.disconnect(SessionNo(number), &mut self.watch);
         }

@@ -4,6 +4,7 @@
 
 mod aim;
 mod caller;
+mod counts;
 mod ended;
 mod slots;
 mod tally;
@@ -11,5 +12,6 @@ mod watch;
 
 pub use aim::{Aim, MOST_CALLERS, MOST_PENDING};
 pub use caller::{Caller, Standing};
+pub use counts::Counts;
 pub use tally::{Ending, Tally, Turns};
 pub use watch::{REASONS, Watch};

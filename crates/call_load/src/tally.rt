@@ -3,6 +3,7 @@ ghost use Rattle.std.specs.Prelude.{◌≡◌, ◌≢◌, ◌+◌, ◌<◌, ◌�
 ghost use Rattle.call_load.specs.declared.tally.TheConstants.{MOST_CALLS};
 
 use client_core::Outcome;
+use endpoint_loop::Turn;
 
 /// No more calls are counted.
 const MOST_CALLS: u64 = 1 << 60;
@@ -127,4 +128,32 @@ pub struct Turns {
     pub sent: u64,
     /// Those after which the link was busy.
     pub busy: u64,
+}
+
+impl Turns {
+    ghost use Rattle.call_load.specs.Counts.{no_turns, turned};
+
+    /// No turn was made.
+    pub fn none() -> Turns
+        ensures { result ≡ no_turns }
+    {
+        Turns {
+            made: 0,
+            empty: 0,
+            handled: 0,
+            sent: 0,
+            busy: 0,
+        }
+    }
+
+    /// A turn was made, which did this.
+    pub fn count(&mut self, turn: &Turn)
+        ensures { self.new ≡ turned turn.now self.old }
+    {
+        self.made = self.made.saturating_add(1);
+        self.handled = self.handled.saturating_add(u64::from(turn.handled));
+        self.sent = self.sent.saturating_add(u64::from(turn.sent));
+        self.empty = self.empty.saturating_add(u64::from(turn.handled == 0));
+        self.busy = self.busy.saturating_add(u64::from(turn.busy));
+    }
 }

@@ -1,14 +1,15 @@
 //! What an endpoint notes that a load wants to know.
-ghost use Rattle.std.specs.Prelude.{None, true};
+ghost use Rattle.std.specs.Prelude.{◌<◌, None, true};
 
 use rpc_base::{DropReason, Event, Who};
 use rpc_outside::Recorder;
 
 /// How many reasons there are for which a packet is dropped.
-pub const REASONS: usize = 14;
+pub const REASONS: usize = 15;
 
 /// Their names, in order.
 const NAMES: [&str; REASONS] = [
+    "stale_life",
     "no_session",
     "wrong_peer",
     "old",
@@ -37,7 +38,9 @@ pub struct Watch {
 }
 
 // Where a reason stands among the counts.
-fn place_of(reason: DropReason) -> usize {
+fn place_of(reason: DropReason) -> usize
+    ensures { result < REASONS }
+{
     reason as usize
 }
 
@@ -62,9 +65,8 @@ impl Watch {
     }
 
     fn drop_one(&mut self, reason: DropReason) {
-        if let Some(count) = self.dropped.get_mut(place_of(reason)) {
-            *count = count.saturating_add(1);
-        }
+        let place = place_of(reason);
+        self.dropped[place] = self.dropped[place].saturating_add(1);
     }
 }
 

@@ -142,15 +142,15 @@ pub struct Report {
 impl Report {
     /// Of the calls since the caller began, so many nanoseconds ago.
     pub fn of(caller: &Caller, nanos: u64) -> Report {
-        let tally = caller.tally;
+        let tally = caller.counts.tally;
         let calls = each_second(tally.right.saturating_add(tally.wrong), nanos);
         let (asked, answered) = caller.bytes_of_call();
         Report {
             nanos,
             tally,
-            turns: caller.turns,
+            turns: caller.counts.turns,
             watch: caller.watch,
-            times: Times::of(&caller.times),
+            times: Times::of(&caller.counts.times),
             calls,
             asked_bytes: calls.saturating_mul(u64::from(asked)),
             answer_bytes: calls.saturating_mul(u64::from(answered)),
@@ -231,8 +231,8 @@ impl Second {
     pub fn of(caller: &Caller, number: u32, nanos: u64) -> Second {
         Second {
             number,
-            calls: each_second(caller.newest.count(), nanos),
-            times: Times::of(&caller.newest),
+            calls: each_second(caller.counts.newest.count(), nanos),
+            times: Times::of(&caller.counts.newest),
         }
     }
 }

@@ -141,7 +141,7 @@ impl<'a, L: Link + Drop, S: Other<L> + Drop, T: time::Clock> Run<'a, L, S, T> {
     fn end(&mut self) -> Result<(), Fault> {
         let end = self.now.saturating_add(PATIENCE);
         for _turn in 0..u64::MAX {
-            if self.now >= end || self.caller.tally.pending == 0 {
+            if self.now >= end || self.caller.counts.tally.pending == 0 {
                 break;
             }
             self.nap()?;
@@ -159,7 +159,7 @@ impl<'a, L: Link + Drop, S: Other<L> + Drop, T: time::Clock> Run<'a, L, S, T> {
     // Counts calls until `end`, and tells of them as this second.
     fn count_second(&mut self, number: u32, end: u64) -> Result<Second, Fault> {
         let from = self.now;
-        self.caller.newest.clear();
+        self.caller.counts.newest.clear();
         self.go_until(end)?;
         Ok(Second::of(&self.caller, number, self.now.saturating_sub(from)))
     }
@@ -187,7 +187,7 @@ impl<'a, L: Link + Drop, S: Other<L> + Drop, T: time::Clock> Run<'a, L, S, T> {
     pub fn ask_all(&mut self) -> Result<Tally, Fault> {
         self.caller.begin(self.now);
         self.go_until(self.now.saturating_add(PATIENCE))?;
-        let tally = self.caller.tally;
+        let tally = self.caller.counts.tally;
         self.end()?;
         Ok(tally)
     }
