@@ -1,1 +1,1 @@
-mod StandLemmas
+pub mod StandLemmas

@@ -1,0 +1,3 @@
+pub mod GivenLemmas
+mod HearStill
+pub mod RowGives
