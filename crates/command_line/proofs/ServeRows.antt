@@ -13,6 +13,7 @@ serve_is_taken : task_of (codes "serve" ∷ codes "a:7" ∷ codes "--turns" ∷ 
       turns = 3;
       workers = 0;
       life = 1;
+      relay = None;
       timeout = 5000;
       idle = Sleep;
     }))
@@ -35,6 +36,7 @@ workers_are_taken : task_of (codes "serve" ∷ codes "--workers" ∷ codes "16" 
       turns = 3;
       workers = 16;
       life = 1;
+      relay = None;
       timeout = 5000;
       idle = Sleep;
     }))
@@ -53,6 +55,7 @@ waiting_is_taken : task_of (codes "serve" ∷ codes "a:7" ∷ codes "--spin" ∷
       turns = 3;
       workers = 0;
       life = 1;
+      relay = None;
       timeout = 1000000;
       idle = Spin;
     }))
@@ -71,6 +74,7 @@ life_is_taken : task_of (codes "serve" ∷ codes "a:7" ∷ codes "--life" ∷ co
       turns = 3;
       workers = 0;
       life = 2;
+      relay = None;
       timeout = 5000;
       idle = Sleep;
     }))
@@ -81,3 +85,27 @@ high_life : task_of (codes "serve" ∷ codes "a:7" ∷ codes "--turns" ∷ codes
     ∷ codes "--life" ∷ codes "4294967296" ∷ []) ≡ None
 unfolding clap_on_literals task_of serve_in taken number_in is_numeral value_of
 high_life = refl
+
+relay_is_taken : task_of (codes "serve" ∷ codes "a:7" ∷ codes "--relay" ∷ codes "b:8"
+    ∷ codes "--turns" ∷ codes "3" ∷ codes "--workers" ∷ codes "0" ∷ [])
+    ≡ Some (Serve (record {
+      addr = codes "a:7";
+      turns = 3;
+      workers = 0;
+      life = 1;
+      relay = Some (codes "b:8");
+      timeout = 5000;
+      idle = Sleep;
+    }))
+unfolding clap_on_literals task_of serve_in taken number_in is_numeral value_of
+relay_is_taken = refl
+
+relay_or_workers : task_of (codes "serve" ∷ codes "a:7" ∷ codes "--turns" ∷ codes "3"
+    ∷ codes "--workers" ∷ codes "1" ∷ codes "--relay" ∷ codes "b:8" ∷ []) ≡ None
+unfolding clap_on_literals task_of serve_in taken number_in is_numeral value_of
+relay_or_workers = refl
+
+relay_stands_once : task_of (codes "serve" ∷ codes "a:7" ∷ codes "--turns" ∷ codes "3"
+    ∷ codes "--relay" ∷ codes "b:8" ∷ codes "--relay" ∷ codes "b:8" ∷ []) ≡ None
+unfolding clap_on_literals task_of serve_in taken number_in is_numeral value_of
+relay_stands_once = refl

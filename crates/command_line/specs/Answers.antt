@@ -1,16 +1,16 @@
 -- What reading words may answer: what they ask for, or at any time that memory ran out.
 use Rattle.std.specs.Prelude.{◌≡◌, ◌≤◌, ℕ, true, List, Option, Some, None, IfSome, Result, Ok}
-use Rattle.std.specs.Prelude.{Err}
-use Rattle.std.specs.String.{string_bytes}
-use Rattle.std.specs.declared.string.String.{String}
-use Rattle.clap.specs.Words.{App, Text, found_of, rows_of}
+use Rattle.std.specs.Prelude.{Err, IfOk}
+use Rattle.std.specs.declared.alloc.AllocError.{AllocError}
+use Rattle.clap.specs.Words.{App, Text, app_of, found_of, rows_of}
+use Rattle.clap.specs.declared.builder.command.Command.{Command}
 use Rattle.clap.specs.declared.parser.matches.ArgMatches.{ArgMatches}
 use Rattle.command_line.specs.declared.task.Task.{Task}
 use Rattle.command_line.specs.declared.task.Task.TheVariants.{Sim, Drill, Serve, Load}
 use Rattle.command_line.specs.declared.task.Task.TheVariants.{Audit}
 use Rattle.command_line.specs.declared.task.WordsError.{WordsError}
 use Rattle.command_line.specs.declared.task.WordsError.TheVariants.{Usage, NoMemory}
-use Rattle.command_line.specs.Numbers.{is_type}
+use Rattle.command_line.specs.Numbers.{is_type, most_workers}
 use Rattle.command_line.specs.Tasks.{taken}
 use Rattle.command_line.specs.Words.{LoadWords, ServeWords}
 
@@ -24,17 +24,13 @@ abbrev pub Reads : {A : Type 0} → Result A WordsError → Option A → Type 0
 Reads (Ok value) said = said ≡ Some value
 Reads (Err error) said = IsNone error said
 
--- the same of a text, by its bytes
-abbrev pub ReadsText : {Z : Type 0} → Result (String Z) WordsError → Option Text → Type 0
-ReadsText (Ok text) said = said ≡ Some (string_bytes text)
-ReadsText (Err error) said = IsNone error said
-
--- the numbers of `serve` are in their ranges
+-- the numbers of `serve` are in their ranges, and it has no thread where it asks another server
 abbrev pub IsServeInRange : ServeWords → Type 0
 IsServeInRange words =
     (1 ≤ words.turns) × (words.turns ≤ 4294967295) × (words.workers ≤ 16)
     × (1 ≤ words.life) × (words.life ≤ 4294967295)
     × (100 ≤ words.timeout) × (words.timeout ≤ 1000000)
+    × (words.workers ≤ most_workers words.relay)
 
 -- a frame, where one is given, takes the largest packet, and fits a datagram
 abbrev pub IsFrameInRange : Option ℕ → Type 0
@@ -63,6 +59,10 @@ IsInRange (Drill seed calls) =
     (seed ≤ 9223372036854775807) × (1 ≤ calls) × (calls ≤ 10000)
 IsInRange (Serve words) = IsServeInRange words
 IsInRange (Load words) = IsLoadInRange words
+
+-- a command for which there was memory is this one
+unfoldable pub IsMade : Result Command AllocError → App → Type 0
+IsMade made app = IfOk made (λ command. app_of command ≡ app)
 
 abbrev pub Takes : Result ArgMatches WordsError → App → List Text → Type 0
 Takes (Ok found) row words = taken row words ≡ Some (rows_of (found_of found))

@@ -26,6 +26,15 @@ number_if low high (Some text) = option_map (λ number. Some number) (number_in 
 abbrev pub some_number_at : (low high : ℕ) → Text → List Row → Option (Option ℕ)
 some_number_at low high id rows = number_if low high (first_of id rows)
 
+-- no thread works jobs of which another server is asked
+abbrev pub most_workers : (relay : Option Text) → ℕ
+most_workers None = 16
+most_workers (Some addr) = 0
+
+-- how many threads work jobs: the value of `--workers`
+abbrev pub workers_at : List Row → Option ℕ
+workers_at rows = number_at 0 (most_workers (first_of (codes "relay") rows)) (codes "workers") rows
+
 -- an idle run turns on where `--spin` is given, and sleeps where it isn't
 abbrev pub idle_by : Option Text → Idle
 idle_by None = Sleep

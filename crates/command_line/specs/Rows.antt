@@ -50,12 +50,16 @@ with_waiting app = with_rule (with_rule app (optional (codes "timeout") (codes "
 abbrev pub with_life : App → App
 with_life app = with_rule app (optional (codes "life") (codes "1"))
 
--- `serve ADDR --turns T [--workers W] [--life L]`, and how it waits
+-- the options of `serve` that say who works its jobs
+abbrev pub with_workers : App → App
+with_workers app = with_rule (with_rule app (optional (codes "workers") (codes "0")))
+    (named (codes "relay"))
+
+-- `serve ADDR --turns T [--workers W] [--relay ADDR] [--life L]`, and how it waits
 abbrev pub serve_row : App
 serve_row =
     let addressed = with_rule (row (codes "serve")) (positional (codes "ADDR")) in
-    with_waiting (with_life (with_rule (with_rule addressed (needed (codes "turns")))
-    (optional (codes "workers") (codes "0"))))
+    with_waiting (with_life (with_workers (with_rule addressed (needed (codes "turns")))))
 
 -- the options of `load` that say what is asked
 abbrev pub with_call : App → App

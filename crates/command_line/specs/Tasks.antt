@@ -6,7 +6,7 @@ use Rattle.clap.specs.Words.{App, Row, Text, fault_of, first_of, matches_of}
 use Rattle.command_line.specs.declared.task.Task.{Task}
 use Rattle.command_line.specs.declared.task.Task.TheVariants.{Sim, Drill, Serve, Load}
 use Rattle.command_line.specs.declared.task.Task.TheVariants.{Audit}
-use Rattle.command_line.specs.Numbers.{idle_at, number_at, some_number_at, type_at}
+use Rattle.command_line.specs.Numbers.{idle_at, number_at, some_number_at, type_at, workers_at}
 use Rattle.command_line.specs.Rows.{audit_row, drill_row, load_row, serve_row, sim_row}
 
 -- the matches of a simple command, where it takes the words: no step of reading them fails
@@ -33,13 +33,13 @@ drill_of_rows rows =
 unfoldable pub drill_in : List Text → Option Task
 drill_in words = given (taken drill_row words) drill_of_rows
 
--- ADDR, --turns from 1 to 2^32 - 1, --workers up to 16, --life from 1 to 2^32 - 1, --timeout from
--- 100 to 1,000,000 microseconds, and --spin
+-- ADDR, --turns from 1 to 2^32 - 1, --workers up to 16, or 0 where --relay is given, --life from 1
+-- to 2^32 - 1, --timeout from 100 to 1,000,000 microseconds, and --spin
 abbrev pub serve_of_rows : List Row → Option Task
 serve_of_rows rows =
     given (first_of (codes "ADDR") rows) (λ addr.
     given (number_at 1 4294967295 (codes "turns") rows) (λ turns.
-    given (number_at 0 16 (codes "workers") rows) (λ workers.
+    given (workers_at rows) (λ workers.
     given (number_at 1 4294967295 (codes "life") rows) (λ life.
     given (number_at 100 1000000 (codes "timeout") rows) (λ timeout.
     Some (Serve (record {
@@ -47,6 +47,7 @@ serve_of_rows rows =
       turns = turns;
       workers = workers;
       life = life;
+      relay = first_of (codes "relay") rows;
       timeout = timeout;
       idle = idle_at rows;
     })))))))

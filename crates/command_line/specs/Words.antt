@@ -8,6 +8,7 @@ pub record ServeWords : Type 0 where
   pub turns : ℕ
   pub workers : ℕ
   pub life : ℕ
+  pub relay : Option Text
   pub timeout : ℕ
   pub idle : Idle
 

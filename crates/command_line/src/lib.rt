@@ -2,6 +2,7 @@
 //! for. It knows nothing of what a subcommand does.
 #![tactic(auto)]
 
+mod forms;
 mod idle;
 mod number;
 mod row;

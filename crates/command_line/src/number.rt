@@ -1,9 +1,10 @@
 //! Numbers among the words.
-ghost use Rattle.std.specs.Prelude.{◌≡◌, ◌<◌, ◌≤◌, min, true, IfSome, codes};
+ghost use Rattle.std.specs.Prelude.{◌≡◌, ◌<◌, ◌≤◌, min, true, IfSome, codes, option_map};
 ghost use Rattle.std.specs.Char.{is_ascii_digit};
 ghost use Rattle.std.specs.List.{list_all};
-ghost use Rattle.clap.specs.Words.{found_of, rows_of};
-ghost use Rattle.command_line.specs.Numbers.{is_type, number_at, number_in, type_at};
+ghost use Rattle.clap.specs.Words.{first_of, found_of, rows_of};
+ghost use Rattle.command_line.specs.Numbers.{is_type, most_workers, number_at, number_in};
+ghost use Rattle.command_line.specs.Numbers.{type_at, workers_at};
 ghost use Rattle.script_grammar.specs.Numbers.{is_numeral, value_of};
 
 use crate::text::text_at;
@@ -104,4 +105,32 @@ pub fn request_type(matches: &ArgMatches<'_>) -> Option<u8>
     } else {
         None
     }
+}
+
+/// No more threads work the jobs of `serve`.
+pub const MOST_THREADS: u8 = 16;
+
+// How many threads may work jobs, where the words give the address of another server or none.
+fn most_workers(relay: Option<&str>) -> u64
+    ensures value { result ≡ most_workers (option_map (λ addr. addr.now) relay.entry) }
+    ensures bounded { result ≤ 16 }
+{
+    match relay {
+        Some(_) => 0,
+        None => u64::from(MOST_THREADS),
+    }
+}
+
+/// How many threads the words of `serve` ask for; None where they give no number, or one that is
+/// too high.
+pub fn workers_of(matches: &ArgMatches<'_>) -> Option<u8>
+    ensures value { result ≡ workers_at (rows_of (found_of matches.now)) }
+    ensures range { IfSome result (λ workers. workers
+        ≤ most_workers (first_of (codes "relay") (rows_of (found_of matches.now)))) }
+    ensures bounded { IfSome result (λ workers. workers ≤ 16) }
+{
+    let most = most_workers(text_at(matches, "relay"));
+    let text = text_at(matches, "workers")?;
+    let workers = number_from(text.as_bytes(), 0, most)? as u8;
+    Some(workers)
 }

@@ -25,6 +25,9 @@ pub struct ServeSpec {
     pub workers: u8,
     /// The life of its node: 1 where none was written.
     pub life: Life,
+    /// The address of another server, which is asked for its background calls, as it was written;
+    /// None where none was. With one there are no hands.
+    pub relay: Option<String>,
     /// An unanswered packet is taken for lost after so many microseconds, 100 to 1,000,000; 5,000
     /// where none were written.
     pub timeout: u32,
@@ -33,6 +36,7 @@ pub struct ServeSpec {
 }
 
 impl Model for ServeSpec {
+    ghost use Rattle.std.specs.Prelude.{option_map};
     ghost use Rattle.std.specs.String.{string_bytes};
     ghost use Rattle.command_line.specs.Words.{ServeWords};
 
@@ -43,6 +47,7 @@ impl Model for ServeSpec {
       turns = spec.turns;
       workers = spec.workers;
       life = spec.life;
+      relay = option_map (λ addr. string_bytes addr) spec.relay;
       timeout = spec.timeout;
       idle = spec.idle;
     } };

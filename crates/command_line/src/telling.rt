@@ -1,11 +1,12 @@
 //! What a user reads where the words are not in the grammar.
-use crate::number::{Number, TYPES, request_type};
-use crate::row::{audit, drill, load, serve, sim};
+use crate::forms::{AUDIT, DRILL, FORMS, LOAD, SERVE, SIM};
+use crate::number::{Number, TYPES, request_type, workers_of};
+use crate::row::{Made, audit, drill, load, serve, sim};
 use crate::text::text_at;
 use crate::words::{
     CALLS, CALLS_OF_DRILL, FRAME, LIFE, SEED, SEED_OF_DRILL, SIZE, TIMEOUT, TURNS, WORKERS,
 };
-use clap::{ArgMatches, Command, Error};
+use clap::{ArgMatches, Error};
 use std::alloc::{AllocError, Global};
 
 const NUMBERS_OF_DRILL: [Number; 2] = [SEED_OF_DRILL, CALLS_OF_DRILL];
@@ -49,7 +50,27 @@ fn is_wrong(number: &Number, matches: &ArgMatches<'_>) -> bool {
     !is_left_out && number.read(matches).is_none()
 }
 
-/// Which number is none of its range, or that the request type is none of its list.
+/// What is wrong with a number.
+fn wrong_number(
+    alloc: Global,
+    matches: &ArgMatches<'_>,
+    number: &Number,
+) -> Result<String, AllocError> {
+    let text = text_at(matches, number.id).unwrap_or("");
+    let shown = number.shown;
+    let low = number.low;
+    let high = number.high;
+    format!(in alloc; "{shown} is a number from {low} to {high}, not {text:?}")
+}
+
+/// That a request type is none of its list.
+fn wrong_type(alloc: Global, text: &str) -> Result<String, AllocError> {
+    let types = known_types(alloc)?;
+    format!(in alloc; "--type is one of {types}, not {text:?}")
+}
+
+/// Which number is none of its range, that the request type is none of its list, or that threads
+/// are to work jobs of which another server is asked.
 fn wrong_value(
     alloc: Global,
     matches: &ArgMatches<'_>,
@@ -57,57 +78,49 @@ fn wrong_value(
 ) -> Result<String, AllocError> {
     for number in numbers {
         if is_wrong(number, matches) {
-            let text = text_at(matches, number.id).unwrap_or("");
-            let shown = number.shown;
-            let low = number.low;
-            let high = number.high;
-            return format!(in alloc; "{shown} is a number from {low} to {high}, not {text:?}");
+            return wrong_number(alloc, matches, number);
         }
     }
+    let has_relay = text_at(matches, "relay").is_some();
     match text_at(matches, "type") {
-        Some(text) if request_type(matches).is_none() => {
-            let types = known_types(alloc)?;
-            format!(in alloc; "--type is one of {types}, not {text:?}")
+        Some(text) if request_type(matches).is_none() => wrong_type(alloc, text),
+        None if has_relay && workers_of(matches).is_none() => {
+            String::from_str(alloc, "--workers is 0 where --relay is given")
         }
         _ => String::from_str(alloc, "out of memory"),
     }
 }
 
-/// How a subcommand is called.
-fn how_called(alloc: Global, command: &mut Command<'_>) -> Result<String, AllocError> {
-    let usage = command.render_usage()?;
-    let whole = usage.as_str();
-    String::from_str(alloc, whole.strip_prefix("Usage: ").unwrap_or(whole))
-}
-
-/// What is wrong with the words of a subcommand, and how it is called.
-fn wrong_words<'a>(
+/// What is wrong with the words of a subcommand.
+fn wrong_in<'a>(
     alloc: Global,
-    mut command: Command<'a>,
+    command: Made<'a>,
     words: &'a [String],
     numbers: &[Number],
 ) -> Result<String, AllocError> {
-    let usage = how_called(alloc, &mut command)?;
-    let wrong = match command.try_get_matches_from(words) {
-        Ok(matches) => wrong_value(alloc, &matches, numbers)?,
-        Err(error) => first_paragraph(alloc, &error)?,
-    };
-    format!(in alloc; "{wrong}; usage: {usage}")
+    match command?.try_get_matches_from(words) {
+        Ok(matches) => wrong_value(alloc, &matches, numbers),
+        Err(error) => first_paragraph(alloc, &error),
+    }
+}
+
+/// The same, and how it is called.
+fn wrong_words<'a>(
+    alloc: Global,
+    command: Made<'a>,
+    call: &str,
+    words: &'a [String],
+    numbers: &[Number],
+) -> Result<String, AllocError> {
+    let wrong = wrong_in(alloc, command, words, numbers)?;
+    format!(in alloc; "{wrong}; usage: {call}")
 }
 
 /// How each subcommand is called, and what it does, a line each.
 pub fn usage(alloc: Global) -> Result<String, AllocError> {
     let mut text = String::from_str(alloc, "usage:")?;
-    for mut command in [
-        sim(alloc),
-        drill(alloc)?,
-        serve(alloc)?,
-        load(alloc)?,
-        audit(alloc),
-    ] {
-        let call = how_called(alloc, &mut command)?;
-        let about = command.get_about().unwrap_or("");
-        write!(text, "\n  {call}\n      {about}")?;
+    for (words, does) in FORMS {
+        write!(text, "\n  {words}\n      {does}")?;
     }
     Ok(text)
 }
@@ -132,11 +145,11 @@ pub fn complaint(alloc: Global, words: &[String]) -> Result<String, AllocError> 
         return usage(alloc);
     };
     match name.as_str() {
-        "sim" => wrong_words(alloc, sim(alloc), rest, &[]),
-        "drill" => wrong_words(alloc, drill(alloc)?, rest, &NUMBERS_OF_DRILL),
-        "serve" => wrong_words(alloc, serve(alloc)?, rest, &NUMBERS_OF_SERVE),
-        "load" => wrong_words(alloc, load(alloc)?, rest, &NUMBERS_OF_LOAD),
-        "audit" => wrong_words(alloc, audit(alloc), rest, &[]),
+        "sim" => wrong_words(alloc, Ok(sim(alloc)), SIM, rest, &[]),
+        "drill" => wrong_words(alloc, drill(alloc), DRILL, rest, &NUMBERS_OF_DRILL),
+        "serve" => wrong_words(alloc, serve(alloc), SERVE, rest, &NUMBERS_OF_SERVE),
+        "load" => wrong_words(alloc, load(alloc), LOAD, rest, &NUMBERS_OF_LOAD),
+        "audit" => wrong_words(alloc, Ok(audit(alloc)), AUDIT, rest, &[]),
         other => {
             format!(in alloc;
                 "{other:?} is no subcommand; those are sim, drill, serve, load and audit"

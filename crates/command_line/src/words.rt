@@ -5,9 +5,10 @@ ghost use Rattle.clap.specs.Words.{found_of, rows_of};
 ghost use Rattle.command_line.specs.Answers.{IsFrameInRange, IsInRange, Reads};
 ghost use Rattle.command_line.specs.Numbers.{some_number_at};
 ghost use Rattle.command_line.specs.Tasks.{audit_in, drill_in, load_in, serve_in, sim_in, task_of};
+ghost use Rattle.command_line.specs.Tasks.{drill_of_rows, load_of_rows, serve_of_rows};
 
 use crate::idle::idle_of;
-use crate::number::{Number, request_type};
+use crate::number::{MOST_THREADS, Number, request_type, workers_of};
 use crate::row::{audit, drill, load, serve, sim, take};
 use crate::task::{LoadSpec, ServeSpec, Task, WordsError};
 use crate::text::{copy_at, text_at};
@@ -42,7 +43,7 @@ pub const WORKERS: Number = Number {
     id: "workers",
     shown: "--workers",
     low: 0,
-    high: 16,
+    high: MOST_THREADS as u64,
 };
 /// `--calls` of `load`.
 pub const CALLS: Number = Number {
@@ -108,15 +109,48 @@ fn read_audit(alloc: Global, words: &[String]) -> Result<Task, WordsError>
     Ok(Task::Audit)
 }
 
+// What the words of `drill` ask for.
+fn drill_of(matches: &ArgMatches<'_>) -> Result<Task, WordsError>
+    ensures value { Reads result (drill_of_rows (rows_of (found_of matches.now))) }
+    ensures range { IfOk result IsInRange }
+{
+    let seed = SEED_OF_DRILL.read(matches).ok_or(WordsError::Usage)?;
+    let calls = CALLS_OF_DRILL.read(matches).ok_or(WordsError::Usage)? as u32;
+    Ok(Task::Drill { seed, calls })
+}
+
 #[tactic(auto, unfolding(crate::specs::Tasks::drill_in))]
 fn read_drill(alloc: Global, words: &[String]) -> Result<Task, WordsError>
     ensures value { Reads result (drill_in (map string_bytes words.now)) }
     ensures range { IfOk result IsInRange }
 {
     let matches = take(drill(alloc)?, words)?;
-    let seed = SEED_OF_DRILL.read(&matches).ok_or(WordsError::Usage)?;
-    let calls = CALLS_OF_DRILL.read(&matches).ok_or(WordsError::Usage)? as u32;
-    Ok(Task::Drill { seed, calls })
+    drill_of(&matches)
+}
+
+// What the words of `serve` ask for.
+fn serve_of(alloc: Global, matches: &ArgMatches<'_>) -> Result<Task, WordsError>
+    ensures value { Reads result (serve_of_rows (rows_of (found_of matches.now))) }
+    ensures range { IfOk result IsInRange }
+{
+    let Some(addr) = text_at(matches, "ADDR") else {
+        return Err(WordsError::Usage);
+    };
+    let turns = TURNS.read(matches).ok_or(WordsError::Usage)? as u32;
+    let workers = workers_of(matches).ok_or(WordsError::Usage)?;
+    let life = LIFE.read(matches).ok_or(WordsError::Usage)? as u32;
+    let timeout = TIMEOUT.read(matches).ok_or(WordsError::Usage)? as u32;
+    let relay = copy_at(alloc, matches, "relay")?;
+    let addr = String::from_str(alloc, addr)?;
+    Ok(Task::Serve(ServeSpec {
+        addr,
+        turns,
+        workers,
+        life: Life(life),
+        relay,
+        timeout,
+        idle: idle_of(matches),
+    }))
 }
 
 #[tactic(auto, unfolding(crate::specs::Tasks::serve_in))]
@@ -125,19 +159,7 @@ fn read_serve(alloc: Global, words: &[String]) -> Result<Task, WordsError>
     ensures range { IfOk result IsInRange }
 {
     let matches = take(serve(alloc)?, words)?;
-    let addr = copy_at(alloc, &matches, "ADDR")?;
-    let turns = TURNS.read(&matches).ok_or(WordsError::Usage)? as u32;
-    let workers = WORKERS.read(&matches).ok_or(WordsError::Usage)? as u8;
-    let life = LIFE.read(&matches).ok_or(WordsError::Usage)? as u32;
-    let timeout = TIMEOUT.read(&matches).ok_or(WordsError::Usage)? as u32;
-    Ok(Task::Serve(ServeSpec {
-        addr,
-        turns,
-        workers,
-        life: Life(life),
-        timeout,
-        idle: idle_of(&matches),
-    }))
+    serve_of(alloc, &matches)
 }
 
 // The frame that the words of `load` give, none where they leave it out; None where they give one
@@ -154,22 +176,27 @@ fn frame_of(matches: &ArgMatches<'_>) -> Option<Option<u32>>
     Some(Some(bytes))
 }
 
-#[tactic(auto, unfolding(crate::specs::Tasks::load_in))]
-fn read_load(alloc: Global, words: &[String]) -> Result<Task, WordsError>
-    ensures value { Reads result (load_in (map string_bytes words.now)) }
+// What the words of `load` ask for.
+fn load_of(alloc: Global, matches: &ArgMatches<'_>) -> Result<Task, WordsError>
+    ensures value { Reads result (load_of_rows (rows_of (found_of matches.now))) }
     ensures range { IfOk result IsInRange }
 {
-    let matches = take(load(alloc)?, words)?;
-    let addr = copy_at(alloc, &matches, "ADDR")?;
-    let calls = CALLS.read(&matches).ok_or(WordsError::Usage)? as u32;
-    let req_type = request_type(&matches).ok_or(WordsError::Usage)?;
-    let size = SIZE.read(&matches).ok_or(WordsError::Usage)? as u32;
-    let seed = SEED.read(&matches).ok_or(WordsError::Usage)? as u32;
-    let turns = TURNS.read(&matches).ok_or(WordsError::Usage)? as u32;
-    let bind = copy_at(alloc, &matches, "bind")?;
-    let frame = frame_of(&matches).ok_or(WordsError::Usage)?;
-    let life = LIFE.read(&matches).ok_or(WordsError::Usage)? as u32;
-    let timeout = TIMEOUT.read(&matches).ok_or(WordsError::Usage)? as u32;
+    let Some(addr) = text_at(matches, "ADDR") else {
+        return Err(WordsError::Usage);
+    };
+    let calls = CALLS.read(matches).ok_or(WordsError::Usage)? as u32;
+    let req_type = request_type(matches).ok_or(WordsError::Usage)?;
+    let size = SIZE.read(matches).ok_or(WordsError::Usage)? as u32;
+    let seed = SEED.read(matches).ok_or(WordsError::Usage)? as u32;
+    let turns = TURNS.read(matches).ok_or(WordsError::Usage)? as u32;
+    let Some(bind) = text_at(matches, "bind") else {
+        return Err(WordsError::Usage);
+    };
+    let frame = frame_of(matches).ok_or(WordsError::Usage)?;
+    let life = LIFE.read(matches).ok_or(WordsError::Usage)? as u32;
+    let timeout = TIMEOUT.read(matches).ok_or(WordsError::Usage)? as u32;
+    let bind = String::from_str(alloc, bind)?;
+    let addr = String::from_str(alloc, addr)?;
     Ok(Task::Load(LoadSpec {
         addr,
         calls,
@@ -181,8 +208,17 @@ fn read_load(alloc: Global, words: &[String]) -> Result<Task, WordsError>
         frame,
         life: Life(life),
         timeout,
-        idle: idle_of(&matches),
+        idle: idle_of(matches),
     }))
+}
+
+#[tactic(auto, unfolding(crate::specs::Tasks::load_in))]
+fn read_load(alloc: Global, words: &[String]) -> Result<Task, WordsError>
+    ensures value { Reads result (load_in (map string_bytes words.now)) }
+    ensures range { IfOk result IsInRange }
+{
+    let matches = take(load(alloc)?, words)?;
+    load_of(alloc, &matches)
 }
 
 /// Reads the words after the program's name.
