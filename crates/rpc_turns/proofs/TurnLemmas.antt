@@ -214,14 +214,14 @@ module _ {V W L C R K : Type 0} (service : Service.Ghosts V) (workers : Workers.
   abbrev then_link : L
   then_link = new.edges.link
 
-  between-stands : (limits : Limits) → (past : List Fact)
+  pub between-stands : (limits : Limits) → (past : List Fact)
       → Stands service workers limits past old.run.endpoint
       → Stands service workers limits (past ++ first) h.turns.between
   between-stands limits past s =
       takes-stands o.log service workers h.turns.came old.run.endpoint h.turns.between
       old.edges.rec h.turns.mid h.turns.takes limits past s
 
-  polled : (limits : Limits) → (past : List Fact)
+  pub polled : (limits : Limits) → (past : List Fact)
       → Stands service workers limits (past ++ first) h.turns.between
       → Stands service workers limits ((past ++ first) ++ second) new.run.endpoint
   unfolding goes-polled
@@ -235,7 +235,7 @@ module _ {V W L C R K : Type 0} (service : Service.Ghosts V) (workers : Workers.
       record { node = me ∙ s.node; runs = runs }
 
   -- the node keeps its life
-  lives : (limits : Limits) → (past : List Fact)
+  pub lives : (limits : Limits) → (past : List Fact)
       → Stands service workers limits past old.run.endpoint
       → new.run.endpoint.timed.lists.life ≡ old.run.endpoint.timed.lists.life
   lives limits past s =
@@ -248,7 +248,7 @@ module _ {V W L C R K : Type 0} (service : Service.Ghosts V) (workers : Workers.
       ∙ takes-life o.log service workers h.turns.came old.run.endpoint h.turns.between
       old.edges.rec h.turns.mid h.turns.takes
 
-  more-told : (limits : Limits) → (past : List Fact)
+  pub more-told : (limits : Limits) → (past : List Fact)
       → Stands service workers limits past old.run.endpoint
       → TellsMore given (o.net.sent old.edges.link) (o.net.sent then_link) (first ++ second) from to
   more-told limits past s =
@@ -274,7 +274,7 @@ module _ {V W L C R K : Type 0} (service : Service.Ghosts V) (workers : Workers.
             (rests-sent o.net (is_asleep old.run.rest) old.edges.link h.ready h.rests);
       }
 
-  pub turn-tells : TellsTurn service workers o given (endpoint_at old) (endpoint_at new) from to
+  unfoldable pub turn-tells : TellsTurn service workers o given (endpoint_at old) (endpoint_at new) from to
   turn-tells = record {
     goes = record {
       noted = first ++ second;

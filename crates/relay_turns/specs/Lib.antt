@@ -1,0 +1,3 @@
+pub mod Turning
+pub mod Working
+pub mod Deferred
