@@ -17,6 +17,10 @@ pub enum Word {
     Dropped,
     /// Datagrams that found no room.
     Overflowed,
+    /// Jobs that were answered with another server's answers.
+    Relayed,
+    /// Jobs that were asked of another server, and answered here.
+    Here,
     /// Calls that ended well, with a right answer.
     Ok,
     /// Calls whose answer was larger than their room.
@@ -45,6 +49,8 @@ impl Word {
             Word::Given => " given ",
             Word::Dropped => " dropped ",
             Word::Overflowed => " overflowed ",
+            Word::Relayed => " relayed ",
+            Word::Here => " here ",
             Word::Ok => " ok ",
             Word::Small => " small ",
             Word::Lost => " lost ",

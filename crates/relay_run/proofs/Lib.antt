@@ -1,0 +1,3 @@
+mod OpenLemmas
+mod RelayLemmas
+mod StartLemmas
