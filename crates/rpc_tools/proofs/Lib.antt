@@ -1,3 +1,4 @@
 pub mod AuditLemmas
 pub mod Headline
 pub mod ReadingLemmas
+pub mod ServerLemmas

@@ -2,3 +2,4 @@ pub mod Alone
 pub mod Audits
 pub mod Drills
 pub mod Outcomes
+pub mod Servers

@@ -4,10 +4,12 @@
 mod drill;
 mod reading;
 mod report;
+mod serving;
 mod simulation;
 mod tools;
 
 pub use load_run::LoadRun;
+pub use relay_run::RelayRun;
 pub use run_status::{Going, Status};
 pub use serve_run::ServeRun;
 pub use simulation::sim;

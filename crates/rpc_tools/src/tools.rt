@@ -10,19 +10,19 @@ ghost use Rattle.rpc_tools.specs.Audits.{Answers, Audits, Says};
 ghost use Rattle.rpc_outside.specs.Faults.{IsQuiet};
 ghost use Rattle.rpc_tools.specs.Drills.{Drills, Succeeds as DrillSucceeds};
 ghost use Rattle.rpc_tools.specs.Outcomes.{NothingDone, Simulates, Succeeds, Unmoved};
+ghost use Rattle.rpc_tools.specs.Servers.{Serves};
 ghost use Rattle.rpc_turns.specs.Moments.{edges_of, outside};
 ghost use Rattle.script_grammar.specs.declared.line.Line.{Line};
 ghost use Rattle.script_grammar.specs.Script.{script_of};
-ghost use Rattle.serve_run.specs.Serving.{Serves};
 
 use crate::drill::drill;
 use crate::report::audit_report;
+use crate::serving::serve_as_told;
 use crate::simulation::sim;
 use command_line::{Task, WordsError, read_words};
 use load_run::load;
 use rpc_outside::{Clock, Link, PlainDuty, Recorder, Sink, Source};
 use run_status::Status;
-use serve_run::serve;
 use std::alloc::Global;
 use std::sync::Wait;
 use worker_crew::{Hand, Spawner};
@@ -33,8 +33,9 @@ use worker_crew::{Hand, Spawner};
 /// a line that counts what happened. `serve` answers calls that come to the link, and `load` asks
 /// them: each turns by turn of the clock, its node's facts go to the recorder, and in the end it
 /// writes a line of counts. `serve` works background calls by hands that it offers to the spawner,
-/// which has no hand out before and after; it may wait for them, by the handle `rt`. Words that are
-/// in no row of the command line are `Usage`.
+/// which has no hand out before and after; it may wait for them, by the handle `rt`. With `--relay`
+/// it offers none, and asks those calls of another server. Words that are in no row of the command
+/// line are `Usage`.
 pub fn run<H, S, K, L, C, P, R>(
     rt: H,
     alloc: Global,
@@ -109,7 +110,9 @@ where
     match read_words(alloc, words) {
         Ok(Task::Sim) => sim(alloc, source, sink),
         Ok(Task::Drill { seed, calls }) => drill(alloc, seed, calls, sink),
-        Ok(Task::Serve(spec)) => serve(rt, alloc, &spec, sink, link, clock, spawner, rec),
+        Ok(Task::Serve(spec)) => {
+            serve_as_told(rt, alloc, &spec, sink, link, clock, spawner, rec)
+        }
         Ok(Task::Load(spec)) => load(rt, alloc, &spec, sink, link, clock, rec),
         Ok(Task::Audit) => audit_report(alloc, source, sink),
         Err(WordsError::Usage) => Status::Usage,

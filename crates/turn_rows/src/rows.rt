@@ -51,7 +51,7 @@ const SHORT_LOAD: &str = "load 127.0.0.1:7000 --calls 1 --type 1 --size 64 --see
 
 const NOT_ASKED: &str = "calls 1 ok 0 small 0 lost 0 wrong 0 unasked 1\n";
 
-pub const ROWS: [Row; 13] = [
+pub const ROWS: [Row; 14] = [
     // A server that doesn't answer is asked nine times; the tenth turn ends the session.
     Row {
         name: "no answer",
@@ -117,6 +117,20 @@ pub const ROWS: [Row; 13] = [
         requests: 0,
         hands: 3,
         calls: None,
+    },
+    // A server asks another one for a session in its first turn. The link is bound, and the peer
+    // named; twice something is received, and once sent.
+    Row {
+        name: "a relay that is alone",
+        line: "serve 127.0.0.1:7000 --turns 2 --relay 127.0.0.1:7001",
+        script: "",
+        failing: Failing::Nothing,
+        step: 1_000,
+        status: Status::Done,
+        written: "turns 2 ran 0 given 0 dropped 0 overflowed 0 relayed 0 here 0\n",
+        requests: 1,
+        hands: 0,
+        calls: Some(5),
     },
     Row {
         name: "a read that fails",
