@@ -1,6 +1,6 @@
 -- The packet at the front of the ring is handled by a front of the facts exactly where they begin with its facts.
-use Rattle.std.proofs.Common.{◌≡◌, ◌<◌, ◌≤◌, ◌⊎◌, inl, inr, ℕ, Bool, true, false, cond, Some, None, List, [], ◌∷◌}
-use Rattle.std.proofs.Common.{◌++◌, Option, length, take, refl, sym, ap, ◌∙◌, subst, arith, slice_get, ◌==◌}
+use Rattle.std.proofs.Common.{◌≡◌, ◌<◌, ℕ, Bool, true, false, cond, Some, None, List, [], ◌∷◌}
+use Rattle.std.proofs.Common.{◌++◌, Option, length, take, refl, sym, ap, ◌∙◌, subst, slice_get, ◌==◌}
 use Rattle.std.specs.List.{find}
 use Rattle.std.proofs.lemmas.Bool.{eqb-true}
 use Rattle.std.proofs.lemmas.List.{length-take-le, nil_from_length}

@@ -7,6 +7,7 @@ pub mod HandleLemmas
 pub mod HearLemmas
 pub mod PollLemmas
 pub mod PostLemmas
+pub mod RestLemmas
 pub mod SendLemmas
 pub mod StepLemmas
 pub mod StopsLemmas

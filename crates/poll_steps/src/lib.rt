@@ -10,6 +10,7 @@ mod hearing;
 mod packets;
 mod polling;
 mod posting;
+mod resting;
 mod sending;
 mod timing;
 

@@ -8,6 +8,7 @@ ghost use Rattle.node_rules.specs.SingleFacts.{at_clock};
 ghost use Rattle.poll_steps.specs.Steps.{IsStep, has_next};
 
 use crate::facts::fact_at;
+use crate::resting::rests;
 use node_rules::{is_next_begun, is_next_posted, next_begun, next_posted};
 use node_tables::apply;
 use rpc_base::{Fact, NoMemory};
@@ -91,6 +92,9 @@ fn serve(
     ensures { IfOk result (IsStep (Serves i) (at_clock clock lists.old) facts.now
         (at_clock clock lists.new)) }
 {
+    if rests(lists, i) {
+        return Ok(Some(0));
+    }
     let Some(begun) = begin_calls(alloc, lists, clock, i, facts)? else {
         return Ok(None);
     };

@@ -1,9 +1,4 @@
-use Rattle.std.proofs.Common.{Option, ℕ, None, Some, subst, take}
-use Rattle.rpc_laws.specs.PollOrder.{Handles}
-use Rattle.rpc_outside.specs.PlainAnswer.{plain_mode}
 use Rattle.node_rules.specs.SingleFacts.{at_clock}
-use Rattle.poll_steps.specs.Handling.{HandlesNext}
-use Rattle.poll_steps.specs.Steps.{IsStep}
 use Rattle.poll_steps.proofs.HandleLemmas.{applied-none, applied-some, taken-whole}
 use Rattle.poll_steps.proofs.handling.handle_one.Goals as goal
 

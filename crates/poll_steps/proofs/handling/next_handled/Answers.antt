@@ -1,4 +1,4 @@
-use Rattle.std.proofs.Common.{arith, inl, inr}
+use Rattle.std.proofs.Common.{inl}
 use Rattle.poll_steps.proofs.HandleLemmas.{next-over, none-left}
 use Rattle.poll_steps.proofs.handling.next_handled.Goals as goal
 

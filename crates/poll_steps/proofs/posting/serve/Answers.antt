@@ -1,4 +1,4 @@
-use Rattle.std.proofs.Common.{ℕ, List, Option, Some, None, drop, subst}
+use Rattle.std.proofs.Common.{ℕ, List, Option, Some, None, drop, subst, sym, ◌∙◌}
 use Rattle.rpc_base.specs.declared.fact.Fact.{Fact}
 use Rattle.rpc_laws.specs.declared.tables.Timed.{Timed}
 use Rattle.rpc_laws.specs.Posting.{next_begun, next_posted}
@@ -7,7 +7,13 @@ use Rattle.front_laws.proofs.OneWayLemmas.{notes-one}
 use Rattle.node_rules.specs.SingleFacts.{at_clock}
 use Rattle.poll_steps.specs.Steps.{IsStep}
 use Rattle.poll_steps.proofs.PostLemmas.{rest-from, then-none, then-some}
+use Rattle.poll_steps.proofs.RestLemmas.{rests-in-posting}
 use Rattle.poll_steps.proofs.posting.serve.Goals as goal
+
+pub returns-then-rests : goal.returns-then-rests
+returns-then-rests c =
+    rests-in-posting c.args.i c.args.clock c.args.lists.now c.args.facts.now
+    (sym c.rests.ensures ∙ c.if-rests.true)
 
 pub returns-in_default-2 : goal.returns-in_default-2
 returns-in_default-2 c =
