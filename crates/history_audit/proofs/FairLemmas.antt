@@ -3,13 +3,12 @@ use Rattle.std.proofs.Common.{◌≡◌, ℕ, ◌+◌, Bool, true, false, cond, 
 use Rattle.std.proofs.Common.{true≢false, append_assoc, eq-eqb}
 use Rattle.std.proofs.lemmas.Bool.{eqb-false, eqb-true}
 use Rattle.std.specs.Prelude.{◌↔◌}
-use Rattle.std.specs.List.{AllByRecursion}
-use Rattle.call_book.specs.SoFar.{CallsTold, so_far}
+use Rattle.call_book.specs.SoFar.{CallsTold}
 use Rattle.end_laws.proofs.ListLemmas.{all-append}
-use Rattle.front_laws.specs.Whole.{ends_open, is_open, IsWhole, open_after}
+use Rattle.front_laws.specs.Whole.{is_open, IsWhole, open_after}
 use Rattle.history_audit.proofs.LifeLemmas.{far-life, runs-life}
 use Rattle.history_audit.proofs.NodesLemmas.{grows, stays-net, stays-other}
-use Rattle.history_audit.proofs.PollLemmas.{busy_next, open-snoc}
+use Rattle.history_audit.proofs.PollLemmas.{open-snoc}
 use Rattle.history_audit.specs.Lives.{TellsNextLife}
 use Rattle.history_audit.specs.declared.tables.Tables.{Tables}
 use Rattle.history_audit.specs.Tables.{HaveNoted, IsClaimed, IsDoomed, IsFair, IsJudged, RunsAt, RunsOutside}

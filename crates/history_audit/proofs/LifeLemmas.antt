@@ -6,8 +6,7 @@ use Rattle.call_book.proofs.EachLemmas.{far-next}
 use Rattle.call_book.specs.SoFar.{so_far, so_far_from}
 use Rattle.end_laws.proofs.ListLemmas.{all-append}
 use Rattle.front_laws.proofs.CutLemmas.{early, late, two-ways, TwoWays}
-use Rattle.node_laws.specs.NodeRun.{Group, LifeRun, lives_on, NodeRun, restarts}
-use Rattle.rpc_base.specs.declared.event.Event.{Event}
+use Rattle.node_laws.specs.NodeRun.{Group, lives_on, NodeRun, restarts}
 use Rattle.rpc_base.specs.declared.event.Event.TheVariants.{Made, Restarted}
 use Rattle.rpc_base.specs.declared.fact.Fact.{Fact}
 use Rattle.rpc_base.specs.declared.limits.Limits.{Limits}

@@ -1,6 +1,6 @@
 -- The lives of the nodes, a fact later.
 use Rattle.std.proofs.Common.{◌≡◌, ℕ, ◌+◌, ◌<◌, ◌==◌, ◌&&◌, Bool, true, false, cond, List, [], ◌∷◌, ◌++◌}
-use Rattle.std.proofs.Common.{Option, Some, None, subst, replicate, refl, sym, ap, ◌∙◌, arith}
+use Rattle.std.proofs.Common.{Option, Some, None, subst, replicate, refl, sym, ap, ◌∙◌}
 use Rattle.std.proofs.Common.{get_or, length, get_or-set_other, get_or-set_same}
 use Rattle.std.specs.Prelude.{MatchOption, slice_set}
 use Rattle.std.proofs.lemmas.Bool.{eqb-true, eqb-false}

@@ -11,6 +11,7 @@ use Rattle.history_audit.specs.declared.verdict.Verdict.TheVariants as told
 use Rattle.history_audit.specs.OpenPolls.{AreOpen}
 use Rattle.history_audit.specs.Tables.{HaveNoted, IsDoomed, IsFair}
 use Rattle.lawful_history.specs.Lawful.{Lawful}
+use Rattle.report_reader.specs.Lines.{IsReportOf}
 use Rattle.rpc_base.specs.declared.fact.Fact.{Fact}
 
 -- each shorter front is lawful, where no node is in the midst of a poll at its end
@@ -34,3 +35,7 @@ pub record HasRead (a : Auditor) (h : List Fact) : Type 0 where
 abbrev pub IsVerdict : List ℕ → Verdict → Type 0
 IsVerdict bytes (told.Lawful facts) = IsLawfulReport bytes facts
 IsVerdict bytes (told.Unlawful line) = FailsAt bytes line
+
+-- bytes are the report of no history
+abbrev pub IsNoReport : List ℕ → Type 0
+IsNoReport bytes = (h : List Fact) → IsReportOf bytes h → ⊥

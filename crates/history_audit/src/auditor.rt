@@ -1,7 +1,9 @@
 //! The auditor, a fact at a time.
-ghost use Rattle.std.specs.Prelude.{ℕ, ◌≡◌, ◌+◌, ◌<◌, ◌^◌, ◌++◌, ◌∷◌, [], List, IfOk, OnOk, length};
+ghost use Rattle.std.specs.Prelude.{ℕ, ◌≡◌, ◌≢◌, ◌+◌, ◌<◌, ◌^◌, ◌++◌, ◌∷◌, [], List, IfOk, OnOk};
+ghost use Rattle.std.specs.Prelude.{length};
 ghost use Rattle.history_audit.specs.Audit.{FrontsLawful};
 ghost use Rattle.history_audit.specs.Auditing.{Finds, FrontsBefore, HasRead, IsVerdict};
+ghost use Rattle.history_audit.specs.declared.fault.Fault.{Fault};
 ghost use Rattle.history_audit.specs.OpenPolls.{AreOpen};
 ghost use Rattle.history_audit.specs.Tables.{IsDoomed, IsFair};
 ghost use Rattle.report_reader.specs.Lines.{IsReportOf};
@@ -136,10 +138,12 @@ impl Auditor {
     }
 
     /// Why a report of the facts so far fails, where it does.
-    pub fn fault(&self) -> Fault {
-        match self.finding {
-            Finding::Fair | Finding::Doomed => Fault::Unended,
-            Finding::Unlawful { .. } => self.tables.fault(),
+    pub fn fault(&self) -> Fault
+        ensures { result ≢ Fault.Unspelled }
+    {
+        match (self.finding, self.tables.wrong()) {
+            (Finding::Unlawful { .. }, Some(wrong)) => Fault::Unlawful(wrong),
+            _ => Fault::Unended,
         }
     }
 }

@@ -2,11 +2,9 @@
 use rpc_base::NodeId;
 use std::fmt;
 
-/// Why a report fails at its line.
+/// Which claim a fact breaks, so that no history that begins so is lawful.
 #[derive(Clone, Copy, Debug, PartialEq, Eq)]
-pub enum Fault {
-    /// It is no line of a report, or not the one that is due.
-    Unspelled,
+pub enum Wrong {
     /// The network notes no such event.
     Net,
     /// What begins, runs or ends is no call, or not with the bytes of its call.
@@ -15,6 +13,36 @@ pub enum Fault {
     Ring,
     /// The facts of this node are no run of a node.
     Run(NodeId),
+}
+
+impl fmt::Display for Wrong {
+    fn fmt<W: fmt::Write>(&self, f: &mut fmt::Formatter<W>) -> fmt::Result {
+        match self {
+            Wrong::Net => f.write_str("the network notes no such event"),
+            Wrong::Call => f.write_str(
+                "what begins, runs or ends by then is no call, or not with the bytes of its call",
+            ),
+            Wrong::Ring => f.write_str(
+                "a packet of a call finds a full ring before a repeat, a rollback and a restart",
+            ),
+            Wrong::Run(node) => {
+                let number = node.0;
+                write!(
+                    f,
+                    "node {number} doesn't do that: its facts are no run of a node"
+                )
+            }
+        }
+    }
+}
+
+/// Why a report fails at its line.
+#[derive(Clone, Copy, Debug, PartialEq, Eq)]
+pub enum Fault {
+    /// It is no line of a report, or not the one that is due.
+    Unspelled,
+    /// A claim is broken there, or in a poll that ends there.
+    Unlawful(Wrong),
     /// A node is in the midst of a poll at the end.
     Unended,
 }
@@ -25,20 +53,7 @@ impl fmt::Display for Fault {
             Fault::Unspelled => f.write_str(
                 "it is no line of a report, or not the one that is due",
             ),
-            Fault::Net => f.write_str("the network notes no such event"),
-            Fault::Call => f.write_str(
-                "what begins, runs or ends by then is no call, or not with the bytes of its call",
-            ),
-            Fault::Ring => f.write_str(
-                "a packet of a call finds a full ring before a repeat, a rollback and a restart",
-            ),
-            Fault::Run(node) => {
-                let number = node.0;
-                write!(
-                    f,
-                    "node {number} doesn't do that: its facts are no run of a node"
-                )
-            }
+            Fault::Unlawful(wrong) => wrong.fmt(f),
             Fault::Unended => f.write_str("a node is in the midst of a poll at the end"),
         }
     }

@@ -15,7 +15,7 @@ mod tables;
 mod verdict;
 
 pub use calm::Roughness;
-pub use fault::Fault;
+pub use fault::{Fault, Wrong};
 pub use laws::{no_report_is_both, one_line_fails, reports_tell};
 pub use net::keeps_net;
 pub use polls::OpenPolls;

@@ -1,6 +1,7 @@
 //! The audit of a report.
-ghost use Rattle.std.specs.Prelude.{ℕ, ◌≡◌, ◌<◌, ◌^◌, List, IfOk};
-ghost use Rattle.history_audit.specs.Auditing.{HasRead, IsVerdict};
+ghost use Rattle.std.specs.Prelude.{ℕ, ◌≡◌, ◌<◌, ◌^◌, ◌↔◌, List, IfOk};
+ghost use Rattle.history_audit.specs.Auditing.{HasRead, IsNoReport, IsVerdict};
+ghost use Rattle.history_audit.specs.declared.fault.Fault.{Fault};
 ghost use Rattle.history_audit.specs.declared.verdict.Verdict.{Verdict};
 ghost use Rattle.report_reader.specs.Lines.{IsReportOf};
 ghost use Rattle.report_text.specs.Told.{AllTold};
@@ -47,9 +48,12 @@ pub fn audit(alloc: Global, bytes: &[u8]) -> Result<Verdict, NoMemory>
     }
 }
 
-/// Why bytes fail to be the report of a lawful history, for a user to read. `NoMemory` comes only
-/// where there is no memory for the facts and for what is kept of them.
-pub fn fault_of(alloc: Global, bytes: &[u8]) -> Result<Fault, NoMemory> {
+/// Why bytes fail to be the report of a lawful history, for a user to read: `Unspelled` exactly
+/// where they are the report of no history; of the other faults no clause tells which it is.
+/// `NoMemory` comes only where there is no memory for the facts and for what is kept of them.
+pub fn fault_of(alloc: Global, bytes: &[u8]) -> Result<Fault, NoMemory>
+    ensures { IfOk result (λ fault. (fault ≡ Fault.Unspelled) ↔ IsNoReport bytes.now) }
+{
     match read_report(alloc, bytes)? {
         Reading::Whole(facts) => {
             let auditor = auditor_of(alloc, facts.as_slice())?;

@@ -8,7 +8,7 @@ ghost use Rattle.report_text.specs.Told.{IsTold};
 ghost use Rattle.rpc_base.specs.declared.fact.Fact.{Fact};
 
 use crate::calm::Roughness;
-use crate::fault::Fault;
+use crate::fault::Wrong;
 use crate::lives::Lives;
 use crate::net::keeps_net;
 use crate::nodes::Nodes;
@@ -24,14 +24,14 @@ pub struct Tables {
     lives: Lives,
     rough: Roughness,
     book: Book,
-    fault: Fault,
+    wrong: Option<Wrong>,
 }
 
 // What is wrong where the facts of a fact's node are no run.
-fn broken_run(who: Who) -> Fault {
+fn broken_run(who: Who) -> Wrong {
     match who {
-        Who::Node(node) => Fault::Run(node),
-        Who::Net => Fault::Net,
+        Who::Node(node) => Wrong::Run(node),
+        Who::Net => Wrong::Net,
     }
 }
 
@@ -47,7 +47,7 @@ impl Tables {
             lives,
             rough: Roughness::new(),
             book: Book::new(alloc),
-            fault: Fault::Unended,
+            wrong: None,
         })
     }
 
@@ -67,19 +67,20 @@ impl Tables {
     }
 
     // Which claim this fact breaks, where it keeps not all of them.
-    fn broken_claim(&self, fact: &Fact) -> Fault {
+    fn broken_claim(&self, fact: &Fact) -> Wrong {
         if !keeps_net(fact) {
-            return Fault::Net;
+            return Wrong::Net;
         }
         if !self.book.keeps_own(fact, self.lives.at(fact.who)) {
-            return Fault::Call;
+            return Wrong::Call;
         }
-        Fault::Ring
+        Wrong::Ring
     }
 
-    /// Why no history that begins with the facts so far is lawful, where `note` said so.
-    pub fn fault(&self) -> Fault {
-        self.fault
+    /// Why no history that begins with the facts so far is lawful; `None` where `note` didn't say
+    /// so.
+    pub fn wrong(&self) -> Option<Wrong> {
+        self.wrong
     }
 
     // Whether a node has noted its Made and a run, if it isn't in the midst of a poll.
@@ -113,12 +114,12 @@ impl Tables {
             → IsJudged fair self.new (h ++ fact.now ∷ [])) }
     {
         if !self.keeps_claims(fact) {
-            self.fault = self.broken_claim(fact);
+            self.wrong = Some(self.broken_claim(fact));
             return Ok(false);
         }
         self.nodes.note(alloc, fact)?;
         if !self.keeps_run(fact.who, polls) {
-            self.fault = broken_run(fact.who);
+            self.wrong = Some(broken_run(fact.who));
             return Ok(false);
         }
         let life = self.lives.at(fact.who);

@@ -1,5 +1,4 @@
-use Rattle.std.proofs.Common.{ℕ, ◌≡◌, ◌<◌, ◌^◌, List, length, rules, subst, sym}
-use Rattle.report_reader.specs.declared.report.Reading.{Reading}
+use Rattle.std.proofs.Common.{◌<◌, ◌^◌, List, length, rules, subst, sym}
 use Rattle.report_reader.specs.Lines.{IsReportOf}
 use Rattle.report_reader.specs.Reading.{IsReading}
 use Rattle.rpc_base.specs.declared.fact.Fact.{Fact}

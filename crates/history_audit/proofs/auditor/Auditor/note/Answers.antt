@@ -1,4 +1,4 @@
-use Rattle.std.proofs.Common.{[], ◌∷◌, ◌++◌, ℕ, ◌+◌, List, ap, sym, ◌∙◌, subst}
+use Rattle.std.proofs.Common.{[], ◌∷◌, ◌++◌, ℕ, ◌+◌, ap, sym, ◌∙◌, subst}
 use Rattle.history_audit.proofs.AuditorLemmas.{longer}
 use Rattle.history_audit.specs.OpenPolls.{AreOpen}
 use Rattle.history_audit.specs.declared.polls.OpenPolls.{OpenPolls}

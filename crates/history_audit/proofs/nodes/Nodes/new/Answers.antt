@@ -1,4 +1,3 @@
-use Rattle.std.proofs.Common.{refl}
 use Rattle.history_audit.proofs.NodesLemmas.{keeps-none, placed-more}
 use Rattle.history_audit.proofs.nodes.Nodes.new.Goals as goal
 
