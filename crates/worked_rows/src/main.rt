@@ -1,20 +1,18 @@
 //! The worked rows: each script of the folder is run in memory, and its report compared with what
 //! stands beside it, a whole report, lines that come in this order, each as often as it stands
 //! there, or counts of lines. Drills write the line that is expected, twice the same. Each of these
-//! reports is audited, and so are others, of which one line is changed.
+//! reports is audited.
 #![tactic(auto)]
 
-mod audits;
-mod changes;
 mod outside;
 mod reports;
 mod runs;
 
 use crate::outside::Failing;
 use crate::reports::Wants;
+use std::io;
 use std::rt::Files;
 use std::sync::Wait;
-use std::{fs, io};
 
 /// The cases, and with what each report is compared.
 const CASES: [(&str, Wants); 44] = [
@@ -95,24 +93,9 @@ fn tell(rt: &impl Print, name: &str, outcome: io::Result<bool>) -> io::Result<()
 fn audit_cases<H: Files + AllocGlobal + Print + Wait + Copy + Drop>(rt: H) -> io::Result<()> {
     for (name, _) in CASES {
         let label = format!(in rt.alloc(); "audit of {name}")?;
-        tell(&rt, label.as_str(), audits::is_lawful(rt, name))?;
+        tell(&rt, label.as_str(), runs::is_lawful(rt, name))?;
     }
     Ok(())
-}
-
-// Audits reports that are changed, as the file tells that has a line for each.
-fn audit_changes<H: Files + AllocGlobal + Print + Wait + Copy + Drop>(rt: H) -> io::Result<()> {
-    let rows = fs::read_to_string(&rt, "changed.audits")?;
-    for row in rows.as_str().lines() {
-        if !row.is_empty() && !row.starts_with('#') {
-            tell(&rt, row, audits::is_judged(rt, row))?;
-        }
-    }
-    tell(
-        &rt,
-        "no report, and one that is too long",
-        audits::are_ends_judged(rt),
-    )
 }
 
 fn main(rt: HostRuntime) -> io::Result<()> {
@@ -126,6 +109,5 @@ fn main(rt: HostRuntime) -> io::Result<()> {
         tell(&rt, name, runs::fails_at_each(rt, of, calls))?;
     }
     audit_cases(rt)?;
-    audit_changes(rt)?;
     println!(rt; "{} cases", CASES.len() + DRILLS.len() + FAULTS.len())
 }

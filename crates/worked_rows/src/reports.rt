@@ -40,6 +40,25 @@ pub fn is_front(report: &str, bytes: &[u8], lines: u64) -> bool {
     report.starts_with(text) && is_whole && text.lines().count() as u64 == lines
 }
 
+/// How many facts a report has: all of its lines but the first and the last.
+pub fn facts_in(report: &str) -> usize {
+    report.lines().count().saturating_sub(2)
+}
+
+/// Whether a verdict is the line that a report of so many facts is lawful.
+pub fn is_lawful_line(verdict: &str, facts: usize) -> bool {
+    let Some(number) = verdict.strip_prefix("lawful ") else {
+        return false;
+    };
+    let Some(digits) = number.strip_suffix("\n") else {
+        return false;
+    };
+    match digits.parse::<usize>() {
+        Ok(count) => count == facts,
+        Err(_) => false,
+    }
+}
+
 fn count_of(text: &str, wanted: &str) -> usize {
     text.lines().filter(|line| *line == wanted).count()
 }

@@ -1,6 +1,6 @@
 //! The program is run over a source and a sink in memory.
 use crate::outside::{Failing, Outside};
-use crate::reports::{Wants, is_front};
+use crate::reports::{Wants, facts_in, is_front, is_lawful_line};
 use rpc_outside::{FirmLink, NoRecord, StepClock};
 use rpc_tools::{Status, run};
 use std::alloc::{AllocError, Global};
@@ -36,8 +36,8 @@ fn run_words<H: Wait + Drop>(
     )
 }
 
-/// How the program ends on a line of words.
-pub fn run_line<H: Wait + Drop>(
+// How the program ends on a line of words.
+fn run_line<H: Wait + Drop>(
     rt: H,
     alloc: Global,
     line: &str,
@@ -79,11 +79,8 @@ fn written_by<H: AllocGlobal + Wait + Copy + Drop>(
     drive(rt, alloc, line, &mut outside)
 }
 
-/// The report of a case.
-pub fn run_case<H: Files + AllocGlobal + Wait + Copy + Drop>(
-    rt: H,
-    name: &str,
-) -> io::Result<String> {
+// The report of a case.
+fn run_case<H: Files + AllocGlobal + Wait + Copy + Drop>(rt: H, name: &str) -> io::Result<String> {
     let path = format!(in rt.alloc(); "{name}.script")?;
     let script = fs::read(&rt, path.as_str())?;
     written_by(rt, "sim", script.as_slice())
@@ -103,6 +100,16 @@ pub fn is_told<H: Files + AllocGlobal + Wait + Copy + Drop>(
     let wanted = wanted(&rt, name, wants)?;
     let report = run_case(rt, name)?;
     Ok(wants.are_in(report.as_str(), wanted.as_str()))
+}
+
+/// Whether an audit of the report of a case says that it is lawful, with the number of its facts.
+pub fn is_lawful<H: Files + AllocGlobal + Wait + Copy + Drop>(
+    rt: H,
+    name: &str,
+) -> io::Result<bool> {
+    let report = run_case(rt, name)?;
+    let verdict = written_by(rt, "audit", report.as_bytes())?;
+    Ok(is_lawful_line(verdict.as_str(), facts_in(report.as_str())))
 }
 
 /// Whether a drill writes one line that begins so, and the same one again.
