@@ -1,23 +1,23 @@
 //! An endpoint with the link, the recorder and the continuation that it works with.
-ghost use Rattle.std.specs.Prelude.{◌≤◌, length};
-ghost use Rattle.message_buffer.specs.declared.block.TheConstants.{MOST_CAPACITY};
+ghost use Rattle.std.specs.Prelude.{◌≤◌, OnOk};
 ghost use Rattle.rpc_base.specs.declared.limits.TheConstants.{MOST_CREDITS};
 
-use crate::buffers::asking;
+use crate::buffers::{asking, zeros};
 use crate::differs::{Differs, expect};
 use crate::kept::Kept;
+use crate::step::Step;
 use crate::told;
-use endpoint_loop::{Delivery, Endpoint, LinkFault, Refused, Turn};
-use message_buffer::{MOST_CAPACITY, MsgBuf};
+use endpoint_loop::{AskError, Delivery, Endpoint, LinkFault, Turn};
+use message_buffer::MsgBuf;
 use packet_header::{FIRST_LIFE, Life};
 use rpc_base::{
-    CallNo, LEAST_RING, Limits, MOST_CREDITS, NoMemory, NodeId, Peer, SessionNo, SessionState,
-    USUAL_JOBS, USUAL_TIMEOUT,
+    Event, LEAST_RING, Limits, MOST_CREDITS, Peer, SessionNo, SessionState, USUAL_JOBS,
+    USUAL_TIMEOUT,
 };
-use rpc_outside::{MemLink, MemRecorder, PlainDuty, PlainService, Service};
+use rpc_outside::{MemLink, MemRecorder, Service};
 use session_mgmt::ConnectError;
 use std::alloc::Global;
-use worker_crew::{LocalWorkers, Workers};
+use worker_crew::Workers;
 
 /// The limits of each endpoint: a ring of 32 places, and what is usual else.
 pub const LIMITS: Limits = Limits {
@@ -29,184 +29,232 @@ pub const LIMITS: Limits = Limits {
 /// The life of each endpoint.
 pub const FIRST: Life = Life(FIRST_LIFE);
 
+/// A session that was never opened.
+const NEVER: SessionNo = SessionNo(7);
+
+/// The room for the answer of a call that is refused.
+const REFUSED_ROOM: u32 = 16;
+
 /// An endpoint at work.
 pub struct Bench<V: Service, W: Workers> {
-    pub alloc: Global,
-    pub endpoint: Endpoint<V, W>,
+    alloc: Global,
+    endpoint: Endpoint<V, W>,
+    // The other node.
+    peer: Peer,
     pub link: MemLink,
-    pub recorder: MemRecorder,
-    pub kept: Kept,
+    recorder: MemRecorder,
+    kept: Kept,
 }
 
-/// One with the plain service, and workers that work when they are told to.
-pub type Plain = Bench<PlainService, LocalWorkers<PlainDuty>>;
-
-fn plain(alloc: Global, node: NodeId, link: MemLink) -> Result<Plain, NoMemory> {
-    let workers = LocalWorkers::new(alloc, PlainDuty, USUAL_JOBS)?;
-    let service = PlainService::new();
-    let Ok(endpoint) = Endpoint::new(alloc, node, FIRST, LIMITS, service, workers) else {
-        return Err(NoMemory);
-    };
-    Ok(Bench::over(alloc, endpoint, link))
+// Written by hand, so that whoever lets one go makes a call, and proves nothing of its parts.
+impl<V: Service + Drop, W: Workers + Drop> Drop for Bench<V, W> {
+    fn drop(self) {
+        let Bench {
+            alloc: _,
+            endpoint: _endpoint,
+            peer: _,
+            link: _link,
+            recorder: _recorder,
+            kept: _kept,
+        } = self;
+    }
 }
 
-/// Node 0 with the plain service, over this link.
-pub fn plain_bench(alloc: Global, link: MemLink) -> Result<Plain, NoMemory> {
-    plain(alloc, NodeId(0), link)
-}
-
-/// Node 1 with the plain service, over this link.
-pub fn plain_server(alloc: Global, link: MemLink) -> Result<Plain, NoMemory> {
-    plain(alloc, NodeId(1), link)
+// Goes on where these are credits of a session.
+fn expect_credits(credits: u16) -> Result<(), Differs>
+    ensures some { OnOk result (1 ≤ credits) }
+    ensures most { OnOk result (credits ≤ MOST_CREDITS) }
+{
+    if credits == 0 || MOST_CREDITS < credits {
+        return Err(Differs::Step);
+    }
+    Ok(())
 }
 
 impl<V: Service, W: Workers> Bench<V, W> {
-    pub fn over(alloc: Global, endpoint: Endpoint<V, W>, link: MemLink) -> Bench<V, W> {
+    /// One over this link, which noted nothing so far. Its peer is the other node.
+    pub fn over(alloc: Global, endpoint: Endpoint<V, W>, peer: Peer, link: MemLink) -> Bench<V, W> {
         Bench {
             alloc,
             endpoint,
+            peer,
             link,
             recorder: MemRecorder::new(alloc),
             kept: Kept::new(alloc),
         }
     }
 
-    /// Lets all of it go.
-    pub fn close(self)
-    where
-        V: Drop,
-        W: Drop,
-    {
-        let Bench {
-            alloc: _,
-            endpoint,
-            link: _link,
-            recorder: _recorder,
-            kept: _kept,
-        } = self;
-        let _workers = endpoint.into_workers();
+    fn pair_client(
+        &mut self,
+        credits: u16,
+        answer: Result<SessionNo, ConnectError>,
+    ) -> Result<(), Differs> {
+        expect_credits(credits)?;
+        let made = self.endpoint.pair_client(
+            self.peer,
+            FIRST,
+            SessionNo(0),
+            credits,
+            &mut self.recorder,
+        );
+        expect(made == answer, Differs::Answer)
     }
 
-    /// Makes the client end of a session with this peer, whose end is number 0.
-    pub fn pair_client(&mut self, peer: Peer, credits: u16) -> Result<SessionNo, ConnectError>
-        requires some { 1 ≤ credits }
-        requires most { credits ≤ MOST_CREDITS }
-    {
-        self.endpoint
-            .pair_client(peer, FIRST, SessionNo(0), credits, &mut self.recorder)
+    fn pair_server(
+        &mut self,
+        credits: u16,
+        answer: Result<SessionNo, ConnectError>,
+    ) -> Result<(), Differs> {
+        expect_credits(credits)?;
+        let made = self.endpoint.pair_server(
+            self.peer,
+            FIRST,
+            SessionNo(0),
+            credits,
+            &mut self.recorder,
+        );
+        expect(made == answer, Differs::Answer)
     }
 
-    /// Makes the server end of a session with this peer, whose end is number 0.
-    pub fn pair_server(&mut self, peer: Peer, credits: u16) -> Result<SessionNo, ConnectError>
-        requires some { 1 ≤ credits }
-        requires most { credits ≤ MOST_CREDITS }
-    {
-        self.endpoint
-            .pair_server(peer, FIRST, SessionNo(0), credits, &mut self.recorder)
-    }
-
-    pub fn set_rate(&mut self, session: SessionNo, rate: u32) -> Result<(), SessionState> {
-        self.endpoint.set_rate(session, rate, &mut self.recorder)
-    }
-
-    pub fn ask(
+    fn set_rate(
         &mut self,
         session: SessionNo,
-        req_type: u8,
-        req: MsgBuf,
-        resp: MsgBuf,
-        tag: u64,
-    ) -> Result<CallNo, Refused> {
-        self.endpoint
-            .ask(session, req_type, req, resp, tag, &mut self.recorder)
-    }
-
-    pub fn deliver(&mut self, peer: Peer, bytes: &[u8]) -> Delivery {
-        self.endpoint.deliver(peer, bytes, &mut self.recorder)
-    }
-
-    /// Polls the endpoint at the moment 0.
-    pub fn poll(&mut self) -> Result<Turn, LinkFault> {
-        self.endpoint
-            .poll(0, &mut self.link, &mut self.kept, &mut self.recorder)
-    }
-
-    /// Takes a turn at the moment 0.
-    pub fn turn(&mut self) -> Result<Turn, LinkFault> {
-        self.endpoint
-            .turn(0, &mut self.link, &mut self.kept, &mut self.recorder)
+        rate: u32,
+        answer: Result<(), SessionState>,
+    ) -> Result<(), Differs> {
+        let set = self.endpoint.set_rate(session, rate, &mut self.recorder);
+        expect(set == answer, Differs::Answer)
     }
 
     /// Asks a call of these bytes on session 0, which has to accept it.
-    pub fn expect_call(
-        &mut self,
-        req_type: u8,
-        bytes: &[u8],
-        room: u32,
-        tag: u64,
-    ) -> Result<(), Differs>
-        requires bytes { length bytes.now ≤ MOST_CAPACITY }
-        requires room { room ≤ MOST_CAPACITY }
-    {
+    pub fn call(&mut self, req_type: u8, bytes: &[u8], room: u32, tag: u64) -> Result<(), Differs> {
         let req = asking(self.alloc, bytes)?;
-        let resp = MsgBuf::new(self.alloc, room)?;
-        let asked = self.ask(SessionNo(0), req_type, req, resp, tag);
+        let resp = zeros(self.alloc, room)?;
+        let asked = self
+            .endpoint
+            .ask(SessionNo(0), req_type, req, resp, tag, &mut self.recorder);
         expect(asked.is_ok(), Differs::Answer)
     }
 
-    /// Polls the endpoint, which has to handle and to send so many packets over a link that is
-    /// neither busy nor at fault.
-    pub fn expect_turn(&mut self, handled: u32, sent: u32) -> Result<(), Differs> {
-        let turn = Turn {
-            handled,
-            sent,
-            busy: false,
+    // The call of so many zeros is refused so, and both buffers come back.
+    fn refuse(&mut self, len: u32, why: AskError) -> Result<(), Differs> {
+        let req = zeros(self.alloc, len)?;
+        let resp = MsgBuf::new(self.alloc, REFUSED_ROOM)?;
+        let asked = self
+            .endpoint
+            .ask(NEVER, 1, req, resp, 0, &mut self.recorder);
+        let Err(refused) = asked else {
+            return Err(Differs::Answer);
         };
-        expect(self.poll() == Ok(turn), Differs::Turn)
+        let comes_back = refused.req.len() == len && refused.resp.capacity() == REFUSED_ROOM;
+        expect(refused.why == why && comes_back, Differs::Answer)
     }
 
-    /// Goes on where the facts so far are those of these lines.
-    pub fn expect_facts(&self, wanted: &str) -> Result<(), Differs> {
-        told::expect_facts(self.alloc, &self.recorder, wanted)
+    /// Delivers a datagram of the other node.
+    pub fn deliver(&mut self, bytes: &[u8], answer: Delivery) -> Result<(), Differs> {
+        let delivery = self.endpoint.deliver(self.peer, bytes, &mut self.recorder);
+        expect(delivery == answer, Differs::Answer)
     }
 
-    /// The call that ended as number `i` has to have this tag, this answer, and a buffer of this
-    /// capacity for it.
-    pub fn expect_done(&self, i: usize, tag: u64, answer: &[u8], room: u32) -> Result<(), Differs> {
-        let Some(done) = self.kept.done(i) else {
+    /// Polls the endpoint at the moment 0.
+    pub fn poll(&mut self, answer: Result<Turn, LinkFault>) -> Result<(), Differs> {
+        let polled = self
+            .endpoint
+            .poll(0, &mut self.link, &mut self.kept, &mut self.recorder);
+        expect(polled == answer, Differs::Turn)
+    }
+
+    // Takes a turn at the moment 0.
+    fn turn(&mut self, answer: Result<Turn, LinkFault>) -> Result<(), Differs> {
+        let turned = self
+            .endpoint
+            .turn(0, &mut self.link, &mut self.kept, &mut self.recorder);
+        expect(turned == answer, Differs::Turn)
+    }
+
+    fn expect_counts(&self, ran: u64, overflowed: u64) -> Result<(), Differs> {
+        let counts = self.endpoint.counts();
+        let as_wanted = counts.ran == ran && counts.overflowed == overflowed;
+        expect(as_wanted, Differs::State)
+    }
+
+    fn expect_sent(&self, n: u32, bytes: &[u8]) -> Result<(), Differs> {
+        let wanted = Some((self.peer, bytes));
+        expect(self.link.sent(n) == wanted, Differs::Sent)
+    }
+
+    fn expect_sent_facts(&self, wanted: u32) -> Result<(), Differs> {
+        let mut count = 0u32;
+        for fact in self.recorder.facts() {
+            if matches!(fact.event, Event::Sent { .. }) {
+                count = count.saturating_add(1);
+            }
+        }
+        expect(count == wanted, Differs::Sent)
+    }
+
+    fn expect_done(&self, n: usize, tag: u64, answer: &[u8], room: u32) -> Result<(), Differs> {
+        let Some(done) = self.kept.done(n) else {
             return Err(Differs::Done);
         };
         expect(done.tag == tag, Differs::Done)?;
         expect(done.resp.bytes() == answer, Differs::Done)?;
         expect(done.resp.capacity() == room, Differs::Buffer)
     }
+
+    /// Takes a step, and goes on where it comes to what it has to.
+    pub fn take(&mut self, step: &Step) -> Result<(), Differs> {
+        match step {
+            Step::PairClient { credits, answer } => self.pair_client(*credits, *answer),
+            Step::PairServer { credits, answer } => self.pair_server(*credits, *answer),
+            Step::SetRate {
+                session,
+                rate,
+                answer,
+            } => self.set_rate(*session, *rate, *answer),
+            Step::Call {
+                req_type,
+                bytes,
+                room,
+                tag,
+            } => self.call(*req_type, *bytes, *room, *tag),
+            Step::Refuse { len, why } => self.refuse(*len, *why),
+            Step::Deliver { bytes, answer } => self.deliver(*bytes, *answer),
+            Step::Poll { handled, sent } => self.poll(did(*handled, *sent)),
+            Step::PollFails => self.poll(Err(LinkFault)),
+            Step::Turn { handled, sent } => self.turn(did(*handled, *sent)),
+            Step::TurnFails => self.turn(Err(LinkFault)),
+            Step::Facts(lines) => told::expect_facts(self.alloc, &self.recorder, *lines),
+            Step::Quiet => expect(self.endpoint.quiet(), Differs::State),
+            Step::Counts { ran, overflowed } => self.expect_counts(*ran, *overflowed),
+            Step::Sent { n, bytes } => self.expect_sent(*n, *bytes),
+            Step::Unsent(n) => expect(self.link.sent(*n).is_none(), Differs::Sent),
+            Step::SentFacts(wanted) => self.expect_sent_facts(*wanted),
+            Step::Ended(count) => expect(self.kept.count() == Some(*count), Differs::Done),
+            Step::Done {
+                n,
+                tag,
+                answer,
+                room,
+            } => self.expect_done(*n, *tag, *answer, *room),
+        }
+    }
+
+    /// Takes these steps, one after another.
+    pub fn take_all(&mut self, steps: &[Step]) -> Result<(), Differs> {
+        for step in steps {
+            self.take(step)?;
+        }
+        Ok(())
+    }
 }
 
-/// Makes both ends of session 0 between two nodes, nodes being known by their numbers.
-pub fn pair<V: Service, W: Workers, X: Service, Y: Workers>(
-    client: &mut Bench<V, W>,
-    server: &mut Bench<X, Y>,
-    credits: u16,
-) -> Result<(), Differs>
-    requires some { 1 ≤ credits }
-    requires most { credits ≤ MOST_CREDITS }
-{
-    let here = client.pair_client(Peer(server.endpoint.me().0), credits);
-    expect(here == Ok(SessionNo(0)), Differs::Answer)?;
-    let there = server.pair_server(Peer(client.endpoint.me().0), credits);
-    expect(there == Ok(SessionNo(0)), Differs::Answer)
-}
-
-/// Delivers the datagram that a node sent as number `n`, from 0 on, to another, where there has to
-/// be room for it.
-pub fn carry<V: Service, W: Workers, X: Service, Y: Workers>(
-    from: &Bench<V, W>,
-    n: u32,
-    to: &mut Bench<X, Y>,
-) -> Result<(), Differs> {
-    let peer = Peer(from.endpoint.me().0);
-    let Some((_to, bytes)) = from.link.sent(n) else {
-        return Err(Differs::Sent);
-    };
-    expect(to.deliver(peer, bytes) == Delivery::Ring, Differs::Answer)
+/// What a poll answers that handled and sent so many packets over a link that is neither busy nor
+/// at fault.
+pub fn did(handled: u32, sent: u32) -> Result<Turn, LinkFault> {
+    Ok(Turn {
+        handled,
+        sent,
+        busy: false,
+    })
 }

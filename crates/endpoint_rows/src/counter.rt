@@ -9,7 +9,7 @@ use std::marker::Model;
 
 /// Answers each request with the number of those that it served before, in 8 bytes. Contracts see
 /// that number.
-#[derive(Debug, Drop)]
+#[derive(Drop)]
 pub struct Counter {
     count: u64,
 }

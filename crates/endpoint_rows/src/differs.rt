@@ -4,10 +4,12 @@ use std::alloc::{AllocError, AllocFailed};
 use std::fmt;
 
 /// The first thing of a row that isn't as expected.
-#[derive(Debug, Drop)]
+#[derive(Drop)]
 pub enum Differs {
     /// There was no memory for the row.
     Memory,
+    /// A number of a step is outside its range.
+    Step,
     /// What a poll answered.
     Turn,
     /// What a call of the endpoint answered.
@@ -28,6 +30,7 @@ impl fmt::Display for Differs {
     fn fmt<W: fmt::Write>(&self, f: &mut fmt::Formatter<W>) -> fmt::Result {
         match self {
             Differs::Memory => f.write_str("no memory"),
+            Differs::Step => f.write_str("no step"),
             Differs::Turn => f.write_str("a poll answered something else"),
             Differs::Answer => f.write_str("a call answered something else"),
             Differs::State => f.write_str("the endpoint tells something else"),

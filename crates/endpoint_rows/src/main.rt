@@ -2,24 +2,24 @@
 //! answer, note and send with what the protocol says. A line is printed for each row.
 #![tactic(auto)]
 
+mod arrivals;
 mod bench;
 mod buffers;
 mod counter;
 mod differs;
-mod idle;
+mod joint;
+mod joint_tables;
 mod kept;
 mod links;
+mod makers;
 mod newest;
-mod pairs;
-mod refusals;
-mod serving;
-mod stopping;
-mod tags;
+mod rows;
+mod step;
+mod tables;
 mod told;
-mod turning;
-mod working;
 
 use crate::differs::Differs;
+use crate::tables::{IDLE, RATES, REFUSED_CALLS, REFUSED_PAIRS};
 use std::io;
 
 fn tell(rt: &impl Print, name: &str, outcome: Result<(), Differs>) -> io::Result<()> {
@@ -31,16 +31,16 @@ fn tell(rt: &impl Print, name: &str, outcome: Result<(), Differs>) -> io::Result
 
 fn main(rt: HostRuntime) -> io::Result<()> {
     let alloc = rt.alloc();
-    tell(&rt, "an idle endpoint", idle::row(alloc))?;
-    tell(&rt, "a fault of the link", stopping::fault_row(alloc))?;
-    tell(&rt, "rates", pairs::rate_row(alloc))?;
-    tell(&rt, "refused calls", refusals::row(alloc))?;
-    tell(&rt, "refused pairs", pairs::refused_row(alloc))?;
-    tell(&rt, "busy at each send", stopping::busy_row(alloc))?;
-    tell(&rt, "failing at each call", stopping::failing_row(alloc))?;
-    tell(&rt, "a fault in receiving", turning::fault_row(alloc))?;
-    tell(&rt, "a service with state", serving::row(alloc))?;
-    tell(&rt, "tags and buffers", tags::row(alloc))?;
-    tell(&rt, "turns", turning::most_row(alloc))?;
-    tell(&rt, "workers out of order", working::row(alloc))
+    tell(&rt, "an idle endpoint", rows::plain(alloc, &IDLE))?;
+    tell(&rt, "a fault of the link", rows::fault(alloc))?;
+    tell(&rt, "rates", rows::plain(alloc, &RATES))?;
+    tell(&rt, "refused calls", rows::plain(alloc, &REFUSED_CALLS))?;
+    tell(&rt, "refused pairs", rows::plain(alloc, &REFUSED_PAIRS))?;
+    tell(&rt, "busy at each send", rows::busy(alloc))?;
+    tell(&rt, "failing at each call", rows::failing(alloc))?;
+    tell(&rt, "a fault in receiving", rows::receiving_fault(alloc))?;
+    tell(&rt, "a service with state", rows::counted(alloc))?;
+    tell(&rt, "tags and buffers", rows::tagged(alloc))?;
+    tell(&rt, "turns", rows::turns(alloc))?;
+    tell(&rt, "workers out of order", rows::newest_first(alloc))
 }

@@ -1,5 +1,5 @@
 use Rattle.rpc_outside.specs.Linking.{AreCarried}
-use Rattle.endpoint_rows.proofs.turning.requests.Given as goal
+use Rattle.endpoint_rows.proofs.arrivals.requests.Given as goal
 
 abbrev pub invariant-sessions : goal.invariant-sessions
 invariant-sessions l = AreCarried l.arrivals.items
