@@ -1,7 +1,7 @@
 //! One endpoint under datagrams that no honest peer sends. Standard input has rows: a line `# NAME`
-//! begins one, with a fresh endpoint, node 1 in life 1 with a ring of 32, and each line behind it is
-//! a step; LIFE is that of a session's other end. The name is printed, and then what each step noted,
-//! as a report has it. A further row costs no proof.
+//! begins one, with a fresh endpoint, node 1 in life 1 with a ring of 32, and each line behind it
+//! is a step; LIFE is that of a session's other end. The name is printed, and then what each step
+//! noted, as a report has it. A further row costs no proof.
 //!
 //! ```text
 //! server PEER CLIENT CREDITS LIFE   client PEER SERVER CREDITS LIFE   connect PEER CREDITS
@@ -38,9 +38,7 @@ fn row(rt: &impl Print, alloc: Global, text: &str) -> io::Result<()> {
     let (name, steps) = text.split_once('\n').unwrap_or((text, ""));
     println!(rt; "# {name}")?;
     let mut bench = Bench::new(alloc)?;
-    let outcome = drive(rt, alloc, &mut bench, steps);
-    bench.close();
-    outcome
+    drive(rt, alloc, &mut bench, steps)
 }
 
 fn main(rt: HostRuntime) -> io::Result<()> {
@@ -50,7 +48,9 @@ fn main(rt: HostRuntime) -> io::Result<()> {
     if !text.as_str().starts_with("# ") {
         return Err(Stopped::NoRow.into());
     }
-    for text in text.as_str().split("# ").skip(1) {
+    let mut rows = text.as_str().split("# ");
+    let _before = rows.next();
+    for text in rows {
         row(&rt, alloc, text)?;
     }
     Ok(())

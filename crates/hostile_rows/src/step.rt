@@ -94,18 +94,54 @@ fn connect_of(peer: &str, credits: &str) -> Option<Step> {
     })
 }
 
-fn ask_of(session: &str, req_type: &str, bytes: Vec<u8>, room: &str) -> Option<Step> {
-    Some(Step::Ask {
-        session: session_of(session)?,
-        req_type: req_type.parse::<u8>().ok()?,
-        bytes,
-        room: room.parse::<u32>().ok()?,
-    })
+// A session, a type and the room for an answer.
+fn call_of(session: &str, req_type: &str, room: &str) -> Option<(SessionNo, u8, u32)> {
+    Some((
+        session_of(session)?,
+        req_type.parse::<u8>().ok()?,
+        room.parse::<u32>().ok()?,
+    ))
 }
 
-fn deliver_of(peer: &str, bytes: Vec<u8>) -> Option<Step> {
-    let peer = peer_of(peer)?;
-    Some(Step::Deliver { peer, bytes })
+fn ask_of(
+    alloc: Global,
+    session: &str,
+    req_type: &str,
+    bytes: &str,
+    room: &str,
+) -> Result<Option<Step>, AllocError> {
+    let Some((session, req_type, room)) = call_of(session, req_type, room) else {
+        return Ok(None);
+    };
+    let Some(bytes) = bytes_of(alloc, bytes)? else {
+        return Ok(None);
+    };
+    Ok(Some(Step::Ask {
+        session,
+        req_type,
+        bytes,
+        room,
+    }))
+}
+
+fn deliver_of(alloc: Global, peer: &str, bytes: &str) -> Result<Option<Step>, AllocError> {
+    let Some(peer) = peer_of(peer) else {
+        return Ok(None);
+    };
+    let Some(bytes) = bytes_of(alloc, bytes)? else {
+        return Ok(None);
+    };
+    Ok(Some(Step::Deliver { peer, bytes }))
+}
+
+fn work_of(job: &str) -> Option<Step> {
+    let job = job.parse::<u32>().ok()?;
+    Some(Step::Work { job })
+}
+
+fn poll_of(now: &str) -> Option<Step> {
+    let now = now.parse::<u64>().ok()?;
+    Some(Step::Poll { now })
 }
 
 /// The step that a line spells, if it does. Its numbers fit their types, and may still be outside
@@ -115,20 +151,14 @@ pub fn read_step(alloc: Global, line: &str) -> Result<Option<Step>, AllocError> 
     let name = words.next().unwrap_or("");
     let (first, second) = (words.next().unwrap_or(""), words.next().unwrap_or(""));
     let (third, fourth) = (words.next().unwrap_or(""), words.next().unwrap_or(""));
-    Ok(match name {
-        "server" => server_of(first, second, third, fourth),
-        "client" => client_of(first, second, third, fourth),
-        "connect" => connect_of(first, second),
-        "ask" => match bytes_of(alloc, third)? {
-            Some(bytes) => ask_of(first, second, bytes, fourth),
-            None => None,
-        },
-        "deliver" => match bytes_of(alloc, second)? {
-            Some(bytes) => deliver_of(first, bytes),
-            None => None,
-        },
-        "work" => first.parse::<u32>().ok().map(|job| Step::Work { job }),
-        "poll" => first.parse::<u64>().ok().map(|now| Step::Poll { now }),
-        _ => None,
-    })
+    match name {
+        "server" => Ok(server_of(first, second, third, fourth)),
+        "client" => Ok(client_of(first, second, third, fourth)),
+        "connect" => Ok(connect_of(first, second)),
+        "ask" => ask_of(alloc, first, second, third, fourth),
+        "deliver" => deliver_of(alloc, first, second),
+        "work" => Ok(work_of(first)),
+        "poll" => Ok(poll_of(first)),
+        _ => Ok(None),
+    }
 }

@@ -4,7 +4,7 @@ use std::alloc::{AllocError, AllocFailed};
 use std::io;
 
 /// What stops the program.
-#[derive(Debug, Drop)]
+#[derive(Drop)]
 pub enum Stopped {
     /// Standard input doesn't begin with a row.
     NoRow,
