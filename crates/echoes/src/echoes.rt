@@ -1,5 +1,6 @@
-//! Echoes of five bytes, one after another, between two endpoints of this program: what a call costs
-//! its endpoints alone. There are no clock and no notes, and the link is a place for one datagram.
+//! Echoes of five bytes, one after another, between two endpoints of this program: what a call
+//! costs its endpoints alone. There are no clock and no notes, and the link is a place for one
+//! datagram.
 ghost use Rattle.std.specs.Prelude.{◌<◌, None};
 ghost use Rattle.rpc_base.specs.declared.limits.TheConstants.{SESSION_NUMBERS};
 
@@ -136,15 +137,11 @@ fn make_buffers(alloc: Global) -> Result<Buffers, NoMemory> {
 
 fn plain_node(alloc: Global, me: u8) -> Result<PlainNode, NoMemory> {
     let workers = LocalWorkers::new(alloc, PlainDuty, USUAL_JOBS)?;
-    Endpoint::new(
-        alloc,
-        NodeId(me),
-        FIRST,
-        Limits::usual(),
-        PlainService::new(),
-        workers,
-    )
-    .map_err(|_workers| NoMemory)
+    let (limits, service) = (Limits::usual(), PlainService::new());
+    match Endpoint::new(alloc, NodeId(me), FIRST, limits, service, workers) {
+        Ok(endpoint) => Ok(endpoint),
+        Err(_workers) => Err(NoMemory),
+    }
 }
 
 /// Two endpoints; the first asks the second.

@@ -1,6 +1,6 @@
-//! Runs echoes between two endpoints, to have their instructions counted: `echoes CALLS SESSIONS` runs
-//! so many, one after another, on the first of so many sessions, and tells how many ended well. It has
-//! endpoints of one kind, as an application has, and is compiled as one is.
+//! Runs echoes between two endpoints, to have their instructions counted: `echoes CALLS SESSIONS`
+//! runs so many, one after another, on the first of so many sessions, and tells how many ended
+//! well. It has endpoints of one kind, as an application has, and is compiled as one is.
 #![tactic(auto)]
 
 mod echoes;
@@ -16,14 +16,26 @@ const USAGE: u8 = 1;
 /// The exit code where there was no memory, or a call didn't end well.
 const UNDONE: u8 = 2;
 
+// The number that a word spells, if it is one.
+fn number_of(word: Option<String>) -> Option<u32> {
+    let word = word?;
+    word.parse::<u32>().ok()
+}
+
 // The number of calls and that of sessions, if these are the words.
 fn numbers_of(rt: &(impl Env + AllocGlobal)) -> io::Result<Option<(u32, u16)>> {
-    let mut words = env::args(rt)?.skip(1);
-    let calls = words.next().and_then(|word| word.parse::<u32>().ok());
-    let sessions = words.next().and_then(|word| word.parse::<u16>().ok());
-    match (calls, sessions, words.next()) {
-        (Some(calls), Some(sessions), None) => Ok(Some((calls, sessions))),
-        _ => Ok(None),
+    let mut words = env::args(rt)?;
+    let _program = words.next();
+    let (calls, sessions) = (number_of(words.next()), number_of(words.next()));
+    if words.next().is_some() {
+        return Ok(None);
+    }
+    let (Some(calls), Some(sessions)) = (calls, sessions) else {
+        return Ok(None);
+    };
+    match u16::try_from(sessions) {
+        Ok(sessions) => Ok(Some((calls, sessions))),
+        Err(_) => Ok(None),
     }
 }
 
