@@ -6,7 +6,6 @@ mod event;
 mod fact;
 mod limits;
 mod listed;
-mod memory;
 mod numbers;
 mod octets;
 mod owner;
@@ -21,7 +20,7 @@ pub use limits::{
     PART_BYTES, PEERS, SESSION_NUMBERS, USUAL_JOBS, USUAL_RING, USUAL_TIMEOUT,
 };
 pub use listed::Listed;
-pub use memory::NoMemory;
+pub use memory_count::NoMemory;
 pub use numbers::{CallNo, NodeId, Peer, Place, SessionNo};
 pub use octets::Octets;
 pub use owner::Owner;

@@ -4,8 +4,7 @@ ghost use Rattle.std.specs.Prelude.{IfOk, OnOk, OnErr, slice_get, slice_set};
 ghost use Rattle.std.specs.List.{remove};
 ghost use Rattle.std.specs.Borrow.{sem};
 
-use crate::memory::NoMemory;
-use std::alloc::Global;
+use std::alloc::{AllocError, Global};
 use std::marker::Model;
 
 /// A growing list. Contracts see its items, from the front, and nothing of how they are kept.
@@ -61,9 +60,9 @@ impl<T> Listed<T> {
         self.items.as_slice()
     }
 
-    /// Puts an item at the end. `NoMemory` comes only where there is no memory for it, and then
+    /// Puts an item at the end. An error comes only where there is no memory for it, and then
     /// nothing changed.
-    pub fn push(&mut self, item: T) -> Result<(), NoMemory>
+    pub fn push(&mut self, item: T) -> Result<(), AllocError>
     where
         T: Drop,
         ensures pushed { OnOk result (self.new ≡ self.old ++ item ∷ []) }

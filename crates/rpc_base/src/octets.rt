@@ -1,8 +1,7 @@
 //! Bytes that a fact or a datagram owns.
 ghost use Rattle.std.specs.Prelude.{◌≡◌, ◌==◌, ◌++◌, ℕ, List, length, IfOk, OnOk, OnErr};
 
-use crate::memory::NoMemory;
-use std::alloc::Global;
+use std::alloc::{AllocError, Global};
 use std::marker::Model;
 
 /// A list of bytes, which contracts see as the list.
@@ -18,8 +17,8 @@ impl Model for Octets {
 }
 
 impl Octets {
-    /// Copies the bytes. `NoMemory` comes only where there is no memory for them.
-    pub fn copy(alloc: Global, from: &[u8]) -> Result<Octets, NoMemory>
+    /// Copies the bytes. An error comes only where there is no memory for them.
+    pub fn copy(alloc: Global, from: &[u8]) -> Result<Octets, AllocError>
         ensures { IfOk result (λ o. o ≡ from.now) }
     {
         let items = Vec::from_slice(alloc, from)?;
@@ -39,9 +38,9 @@ impl Octets {
         self.items.is_empty()
     }
 
-    /// Puts more bytes at the end. `NoMemory` comes only where there is no memory for them, and
-    /// then nothing changed.
-    pub fn append(&mut self, more: &[u8]) -> Result<(), NoMemory>
+    /// Puts more bytes at the end. An error comes only where there is no memory for them, and then
+    /// nothing changed.
+    pub fn append(&mut self, more: &[u8]) -> Result<(), AllocError>
         ensures appended { OnOk result (self.new ≡ self.old ++ more.now) }
         ensures unchanged { OnErr result (self.new ≡ self.old) }
     {

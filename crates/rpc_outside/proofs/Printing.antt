@@ -1,7 +1,7 @@
 -- Writing one text after another.
 use Rattle.std.proofs.Common.{List, ℕ, [], ◌++◌, Result, Ok, Err, refl, sym, ap, subst, ◌∙◌, append_assoc}
 use Rattle.std.proofs.KnownBytes.{Appends-nil, Appends-trans}
-use Rattle.rpc_outside.specs.Faults.{HasRisen}
+use Rattle.memory_count.specs.Faults.{HasRisen}
 use Rattle.rpc_outside.specs.Writing.{Wrote, Written, Broke, Prints}
 
 -- no text was written yet

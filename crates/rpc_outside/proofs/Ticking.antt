@@ -1,7 +1,7 @@
 -- A clock that goes on by a step.
 use Rattle.std.proofs.Common.{◌≡◌, ℕ, ◌+◌, List, [], ◌∷◌, ◌++◌, length, suc, zero, refl, ap, subst, arith, ◌∙◌}
 use Rattle.std.specs.Prelude.{Some, min, slice_get}
-use Rattle.rpc_outside.specs.Faults.{end_of_count}
+use Rattle.memory_count.specs.Faults.{end_of_count}
 use Rattle.rpc_outside.specs.Ticking.{GoesBySteps, step_at}
 
 -- what holds of each answer, and of one more, holds of each of them all

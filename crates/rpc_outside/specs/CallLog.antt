@@ -1,6 +1,6 @@
 -- The calls of an object in memory, numbered from 0, some of which are told to fail.
 use Rattle.std.specs.Prelude.{◌≡◌, ℕ, List, Contains, Result, MatchResult}
-use Rattle.rpc_outside.specs.Faults.{one_more}
+use Rattle.memory_count.specs.Faults.{one_more}
 
 -- which calls are to fail, how many were made, and how many of those failed
 pub record CallLog : Type 0 where

@@ -1,5 +1,4 @@
 pub mod CallLog
-pub mod Faults
 pub mod Linking
 pub mod Memory
 pub mod PlainAnswer

@@ -1,6 +1,6 @@
 -- The answers of a clock.
 use Rattle.std.specs.Prelude.{◌≡◌, ℕ, ◌+◌, ◌*◌, List, [], ◌∷◌, ◌++◌, length, min, slice_get, Some}
-use Rattle.rpc_outside.specs.Faults.{end_of_count}
+use Rattle.memory_count.specs.Faults.{end_of_count}
 
 -- a clock gave one answer more: where these may have been its answers before, they may be with it now
 abbrev pub Gives : {C : Type 0} → (gave : C → List ℕ → Type 0) → (old new : C) → ℕ → Type 0

@@ -1,7 +1,7 @@
 -- What writing a text to a sink leaves there: the text, or a front of it and a fault.
 use Rattle.std.specs.Prelude.{◌≡◌, ℕ, List, ◌++◌, Option, Result, MatchResult}
 use Rattle.std.specs.Io.KnownBytes.{Appends}
-use Rattle.rpc_outside.specs.Faults.{HasRisen}
+use Rattle.memory_count.specs.Faults.{HasRisen}
 
 -- what contracts see of a sink: the bytes that were written, where the sink tells them, and how many
 -- calls failed so far

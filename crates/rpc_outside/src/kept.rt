@@ -2,7 +2,7 @@
 ghost use Rattle.std.specs.Prelude.{◌≡◌, ◌<◌, ◌≤◌, ◌++◌, [], None, Some, length, option_map, take};
 ghost use Rattle.std.specs.Prelude.{IfOk, IfSome, OnErr};
 ghost use Rattle.std.specs.Io.KnownBytes.{Consumes, IsAtEnd, Keeps};
-ghost use Rattle.rpc_outside.specs.Faults.{HasCause};
+ghost use Rattle.memory_count.specs.Faults.{HasCause};
 
 use crate::failed::Failed;
 use crate::source::Source;

@@ -1,6 +1,6 @@
 //! Where datagrams go and where they come from.
 ghost use Rattle.std.specs.Prelude.{◌≡◌, ℕ, List, [], ◌++◌, Option, IfOk, IfSome, OnOk, OnErr};
-ghost use Rattle.rpc_outside.specs.Faults.{HasCause, HasRisen};
+ghost use Rattle.memory_count.specs.Faults.{HasCause, HasRisen};
 ghost use Rattle.rpc_outside.specs.declared.link.Got.TheVariants.{Nothing};
 ghost use Rattle.rpc_outside.specs.declared.link.Taken.TheVariants.{Whole, Busy};
 ghost use Rattle.rpc_outside.specs.Linking.{Carried, Comes, IfPacket, KeepsAddresses, NoneComes};

@@ -2,7 +2,7 @@
 ghost use Rattle.std.specs.Prelude.{◌≡◌, ◌+◌, ◌<◌, ◌≤◌, ◌↔◌, ◌⊎◌, [], length, take, drop, min};
 ghost use Rattle.std.specs.Prelude.{Some, IsErr, IsOk, IfOk, OnErr};
 ghost use Rattle.std.specs.Io.KnownBytes.{Keeps, Appends, Consumes, IsAtEnd};
-ghost use Rattle.rpc_outside.specs.Faults.{HasCause};
+ghost use Rattle.memory_count.specs.Faults.{HasCause};
 ghost use Rattle.rpc_outside.specs.CallLog.{IsNamed, IsLogged, fresh};
 
 use crate::failed::Failed;
@@ -10,8 +10,7 @@ use crate::memory::calls::Calls;
 use crate::memory::copying::copy_front;
 use crate::sink::Sink;
 use crate::source::Source;
-use rpc_base::NoMemory;
-use std::alloc::Global;
+use memory_count::{Memory, NoMemory};
 use std::marker::Model;
 
 /// A source that holds its bytes. Contracts see what is left and the log of its calls.
@@ -95,17 +94,18 @@ impl Model for MemSink {
 
 impl MemSink {
     /// A sink with room for `room` bytes in all, for which it takes the memory now. `fails` names
-    /// the calls that fail, the first call having number 0. `NoMemory` comes only where there is no
-    /// memory, and never without room, as no memory is taken then.
-    pub fn new(alloc: Global, room: u32, fails: Vec<u64>) -> Result<MemSink, NoMemory>
+    /// the calls that fail, the first call having number 0. `NoMemory` comes only where memory was
+    /// refused, and never without room, as none is taken then.
+    pub fn new(memory: &mut Memory, room: u32, fails: Vec<u64>) -> Result<MemSink, NoMemory>
         ensures made { IfOk result (λ s. s ≡ record {
           written = [];
           room = room;
           log = fresh fails.items;
         }) }
         ensures succeeds { room ≡ 0 → IsOk result }
+        ensures cause { HasCause memory.old memory.new result }
     {
-        let bytes = Vec::with_capacity(alloc, room as usize)?;
+        let bytes = memory.list(room as usize)?;
         Ok(MemSink {
             bytes,
             room: room as usize,

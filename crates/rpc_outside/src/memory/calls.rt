@@ -1,7 +1,7 @@
 //! The calls of an object in memory, some of which are told to fail.
 ghost use Rattle.std.specs.Prelude.{◌≡◌, ◌↔◌, IsTrue, IsErr};
 ghost use Rattle.rpc_outside.specs.CallLog.{CallLog, IsNamed, IsLogged, fresh, passed, failed};
-ghost use Rattle.rpc_outside.specs.Faults.{HasCause, HasRisen};
+ghost use Rattle.memory_count.specs.Faults.{HasCause, HasRisen};
 
 use crate::failed::Failed;
 use std::marker::Model;

@@ -3,7 +3,7 @@ ghost use Rattle.std.specs.Prelude.{◌≡◌, ◌≢◌, ◌+◌, ◌≤◌, �
 ghost use Rattle.std.specs.Prelude.{slice_get, option_map, vec_len, vec_capacity, None, Some, Ok, IsErr};
 ghost use Rattle.std.specs.Prelude.{IsOk, IsNone, IsSome, IfOk, IfSome, OnOk, OnErr};
 ghost use Rattle.rpc_outside.specs.CallLog.{IsNamed, IsLogged, fresh, passed, failed};
-ghost use Rattle.rpc_outside.specs.Faults.{HasCause, HasRisen};
+ghost use Rattle.memory_count.specs.Faults.{HasCause, HasRisen};
 ghost use Rattle.rpc_outside.specs.Linking.{AreCarried, Comes, IfPacket};
 ghost use Rattle.rpc_outside.specs.Memory.{FailsToSend, HasNoRoom, IsBusy};
 ghost use Rattle.rpc_outside.specs.declared.link.Got.TheVariants.{Nothing};
@@ -14,8 +14,8 @@ use crate::link::{Got, Link, MOST_LINK_BYTES, Taken};
 use crate::memory::address::{Address, MOST_ADDRESS_BYTES};
 use crate::memory::arrivals::Arrivals;
 use crate::memory::calls::Calls;
-use rpc_base::{NoMemory, Octets, Peer};
-use std::alloc::Global;
+use memory_count::{Memory, NoMemory};
+use rpc_base::{Octets, Peer};
 use std::marker::Model;
 
 /// Writes these bytes over those of `room` from place `at` on.
@@ -123,10 +123,10 @@ impl MemLink {
     /// A link to which these datagrams come, each of at most 2,048 bytes, and with room for `room`
     /// datagrams to be sent, for which it takes the memory now. `fails` names the calls that fail,
     /// the first call having number 0; `busy` names the sends that are busy, the first send having
-    /// number 0. `NoMemory` comes only where there is no memory, and never without room, as no
-    /// memory is taken then.
+    /// number 0. `NoMemory` comes only where memory was refused, and never without room, as none is
+    /// taken then.
     pub fn new(
-        alloc: Global,
+        memory: &mut Memory,
         arrivals: Vec<(Peer, Octets)>,
         room: u32,
         fails: Vec<u64>,
@@ -143,8 +143,9 @@ impl MemLink {
           sends = fresh busy.items;
         }) }
         ensures succeeds { room ≡ 0 → IsOk result }
+        ensures cause { HasCause memory.old memory.new result }
     {
-        let sent = Vec::with_capacity(alloc, room as usize)?;
+        let sent = memory.list(room as usize)?;
         Ok(MemLink {
             arrivals: Arrivals::new(arrivals),
             bound: Address::none(),

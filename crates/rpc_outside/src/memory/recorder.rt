@@ -1,26 +1,28 @@
 //! A recorder that keeps facts, and one that keeps none.
-ghost use Rattle.std.specs.Prelude.{◌≡◌, true, Some, None, [], ◌∷◌, ◌++◌, OnOk};
+ghost use Rattle.std.specs.Prelude.{◌≡◌, ◌==◌, true, Some, None, [], ◌∷◌, ◌++◌, OnOk};
+ghost use Rattle.memory_count.specs.Faults.{HasCause};
 
 use crate::recorder::Recorder;
-use rpc_base::{Event, Fact, NoMemory, Octets, Who};
+use memory_count::{Memory, NoMemory};
+use rpc_base::{Event, Fact, Octets, Who};
 use std::alloc::Global;
 
-/// A recorder that keeps facts in memory.
+/// A recorder that keeps facts in memory. It is whole as long as it was refused none.
 #[derive(Debug, Drop)]
 pub struct MemRecorder {
     facts: Vec<Fact>,
-    whole: bool,
+    memory: Memory,
 }
 
 impl MemRecorder {
     /// A recorder without facts. Takes no memory yet.
     pub fn new(alloc: Global) -> MemRecorder
         ensures facts { result.facts.items ≡ [] }
-        ensures whole { result.whole ≡ true }
+        ensures whole { result.memory ≡ 0 }
     {
         MemRecorder {
             facts: Vec::new(alloc),
-            whole: true,
+            memory: Memory::new(alloc),
         }
     }
 
@@ -33,21 +35,28 @@ impl MemRecorder {
 
     /// Whether every fact was kept: there was memory for each.
     pub fn whole(&self) -> bool
-        ensures { result ≡ self.now.whole }
+        ensures { result ≡ (self.now.memory == 0) }
     {
-        self.whole
+        self.memory.refused() == 0
+    }
+
+    /// Its memory, which tells how often it was refused.
+    pub fn memory(&self) -> &Memory
+        ensures { result.now ≡ self.now.memory }
+    {
+        &self.memory
     }
 
     /// Gives the facts out.
     pub fn into_facts(self) -> Vec<Fact>
         ensures { result.items ≡ self.facts.items }
     {
-        let MemRecorder { facts, whole: _ } = self;
+        let MemRecorder { facts, memory: _ } = self;
         facts
     }
 
     fn keep(&mut self, who: Who, event: Event, first: &[u8], second: &[u8]) -> Result<(), NoMemory>
-        ensures whole { self.new.whole ≡ self.old.whole }
+        ensures cause { HasCause self.old.memory self.new.memory result }
         ensures kept { OnOk result (self.new.facts.items
             ≡ self.old.facts.items ++ record {
               who = who;
@@ -56,27 +65,26 @@ impl MemRecorder {
               second = second.now;
             } ∷ []) }
     {
-        let alloc = *self.facts.allocator();
-        let first = Octets::copy(alloc, first)?;
-        let second = Octets::copy(alloc, second)?;
-        self.facts.push(Fact {
+        let first = Octets::from(self.memory.copied(first)?);
+        let second = Octets::from(self.memory.copied(second)?);
+        let fact = Fact {
             who,
             event,
             first,
             second,
-        })?;
-        Ok(())
+        };
+        self.memory.push(&mut self.facts, fact)
     }
 }
 
 impl Recorder for MemRecorder {
-    ghost log = { λ r. record { facts = Some r.facts.items; whole = r.whole } };
+    ghost log = { λ r. record { facts = Some r.facts.items; whole = r.memory == 0 } };
 
     fn note(&mut self, who: Who, event: Event, first: &[u8], second: &[u8]) {
         // What comes after a fact that was lost is kept no more: the facts stay a front of the
         // history.
-        if self.whole && self.keep(who, event, first, second).is_err() {
-            self.whole = false;
+        if self.whole() {
+            let _kept = self.keep(who, event, first, second);
         }
     }
 }
