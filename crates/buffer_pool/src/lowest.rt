@@ -2,11 +2,12 @@
 ghost use Rattle.std.specs.Prelude.{◌≡◌, ◌<◌, ◌≤◌, ◌+◌, ◌*◌, ℕ, Bool, true, false, List, Some};
 ghost use Rattle.std.specs.Prelude.{length, replicate, take, drop, position, slice_set, IfOk, OnOk};
 ghost use Rattle.std.specs.Prelude.{◌≢◌, IfSome};
+ghost use Rattle.memory_count.specs.Faults.{HasCause};
 ghost use Rattle.buffer_pool.specs.Tree.{doubled};
 
 use crate::tree::{first_leaf, join_up, shape_for};
-use rpc_base::{MOST_REFERENCES, NoMemory};
-use std::alloc::Global;
+use memory_count::{Memory, NoMemory};
+use rpc_base::MOST_REFERENCES;
 use std::marker::Model;
 
 /// A truth value for each place: whether it is empty. Contracts see the list of these. Finding the
@@ -49,22 +50,25 @@ fn from_after(from: u32, place: u32, empty: bool) -> u32
 }
 
 impl LowestEmpty {
-    /// So many places, all empty. `NoMemory` comes only where there is no memory for them.
-    pub fn new(alloc: Global, places: u32) -> Result<LowestEmpty, NoMemory>
-        ensures { IfOk result (λ t. t ≡ replicate places true) }
+    /// So many places, all empty. `NoMemory` comes only where memory was refused.
+    pub fn new(memory: &mut Memory, places: u32) -> Result<LowestEmpty, NoMemory>
+        ensures made { IfOk result (λ t. t ≡ replicate places true) }
+        ensures cause { HasCause memory.old memory.new result }
     {
-        let mut all = LowestEmpty::none_empty(alloc, places)?;
+        let mut all = LowestEmpty::none_empty(memory, places)?;
         for place in 0..places {
             all.set(place, true);
         }
         Ok(all)
     }
 
-    fn none_empty(alloc: Global, places: u32) -> Result<LowestEmpty, NoMemory>
-        ensures { IfOk result (λ t. t ≡ replicate places false) }
+    fn none_empty(memory: &mut Memory, places: u32) -> Result<LowestEmpty, NoMemory>
+        ensures made { IfOk result (λ t. t ≡ replicate places false) }
+        ensures cause { HasCause memory.old memory.new result }
     {
         let (height, leaves) = shape_for(places);
-        let tree = vec![in alloc; false; 2 * leaves]?;
+        let alloc = memory.alloc();
+        let tree = memory.of(vec![in alloc; false; 2 * leaves])?;
         Ok(LowestEmpty {
             tree,
             leaves,

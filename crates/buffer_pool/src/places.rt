@@ -1,14 +1,15 @@
 //! What each place is used for, how many are empty, and which of these is the lowest.
 ghost use Rattle.std.specs.Prelude.{◌≡◌, ◌<◌, ◌+◌, ℕ, true, false, List, Some, length, replicate};
 ghost use Rattle.std.specs.Prelude.{position, count_by, slice_get, slice_set, IfOk};
+ghost use Rattle.memory_count.specs.Faults.{HasCause};
 ghost use Rattle.buffer_pool.specs.declared.usage.Use.{Use};
 ghost use Rattle.buffer_pool.specs.declared.usage.Use.TheVariants.{Empty};
 ghost use Rattle.buffer_pool.specs.Uses.{is_empty};
 
 use crate::lowest::LowestEmpty;
 use crate::usage::Use;
-use rpc_base::{MOST_REFERENCES, NoMemory};
-use std::alloc::Global;
+use memory_count::{Memory, NoMemory};
+use rpc_base::MOST_REFERENCES;
 use std::marker::Model;
 
 /// The uses of all places, in order. Contracts see the list of these.
@@ -32,12 +33,14 @@ impl Model for Places {
 }
 
 impl Places {
-    /// So many empty places. `NoMemory` comes only where there is no memory for them.
-    pub fn new(alloc: Global, places: u32) -> Result<Places, NoMemory>
-        ensures { IfOk result (λ p. p ≡ replicate places Empty) }
+    /// So many empty places. `NoMemory` comes only where memory was refused.
+    pub fn new(memory: &mut Memory, places: u32) -> Result<Places, NoMemory>
+        ensures made { IfOk result (λ p. p ≡ replicate places Empty) }
+        ensures cause { HasCause memory.old memory.new result }
     {
-        let uses = vec![in alloc; Use::Empty; places as usize]?;
-        let empties = LowestEmpty::new(alloc, places)?;
+        let alloc = memory.alloc();
+        let uses = memory.of(vec![in alloc; Use::Empty; places as usize])?;
+        let empties = LowestEmpty::new(memory, places)?;
         Ok(Places {
             uses,
             empties,

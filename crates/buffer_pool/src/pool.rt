@@ -1,6 +1,7 @@
 //! The pool.
 ghost use Rattle.std.specs.Prelude.{◌≡◌, ◌<◌, ℕ, List, Some, None, length, false, IfOk, IfErr, OnOk, slice_set};
 ghost use Rattle.std.specs.Borrow.{sem};
+ghost use Rattle.memory_count.specs.Faults.{HasCause};
 ghost use Rattle.buffer_pool.specs.Uses.{is_full};
 ghost use Rattle.buffer_pool.specs.Places.{IsHeld, MayHold, held_at, released_at};
 ghost use Rattle.buffer_pool.specs.Pool.{IsFull, IsLent, all_empty, buf_at, emptied, filled, held};
@@ -9,9 +10,9 @@ ghost use Rattle.buffer_pool.specs.Pool.{lent, lowest_empty, refs_of, released, 
 use crate::held::Held;
 use crate::places::Places;
 use crate::usage::Use;
+use memory_count::{Memory, NoMemory};
 use message_buffer::MsgBuf;
-use rpc_base::{MOST_REFERENCES, NoMemory, Place};
-use std::alloc::Global;
+use rpc_base::{MOST_REFERENCES, Place};
 use std::marker::Model;
 
 /// A list of places for message buffers. A buffer moves in and out whole. Contracts see the exact
@@ -35,16 +36,16 @@ impl Model for BufferPool {
 impl BufferPool {
     ghost use Rattle.buffer_pool.specs.Lending.{lends_buffer};
 
-    /// A pool of so many places, all empty. `NoMemory` comes only where there is no memory for
-    /// them.
-    pub fn new(alloc: Global, places: u32) -> Result<BufferPool, NoMemory>
-        ensures { IfOk result (λ p. p ≡ all_empty places) }
+    /// A pool of so many places, all empty. `NoMemory` comes only where memory was refused.
+    pub fn new(memory: &mut Memory, places: u32) -> Result<BufferPool, NoMemory>
+        ensures made { IfOk result (λ p. p ≡ all_empty places) }
+        ensures cause { HasCause memory.old memory.new result }
     {
-        let mut bufs = Vec::with_capacity(alloc, places as usize)?;
+        let mut bufs = memory.list(places as usize)?;
         for _place in 0..places {
-            bufs.push(None)?;
+            memory.push(&mut bufs, None)?;
         }
-        let places = Places::new(alloc, places)?;
+        let places = Places::new(memory, places)?;
         Ok(BufferPool { places, bufs })
     }
 

@@ -2,10 +2,11 @@
 ghost use Rattle.std.specs.Prelude.{◌≡◌, ◌≢◌, ◌<◌, ◌≤◌, ℕ, [], length, slice_index, IfOk};
 ghost use Rattle.std.specs.List.{Contains, insert, remove};
 ghost use Rattle.std.specs.Vec.{vec_capacity};
+ghost use Rattle.memory_count.specs.Faults.{HasCause};
 ghost use Rattle.calling_sessions.specs.Rising.{IsNext, Rises, StandsAt};
 
-use rpc_base::{MOST_SESSIONS, NoMemory};
-use std::alloc::Global;
+use memory_count::{Memory, NoMemory};
+use rpc_base::MOST_SESSIONS;
 use std::marker::Model;
 
 // Puts a number into its place: most often that is behind all others.
@@ -61,11 +62,13 @@ impl Model for CallingSessions {
 }
 
 impl CallingSessions {
-    /// No session. The memory for all numbers is taken here. `NoMemory` comes where there is none.
-    pub fn new(alloc: Global) -> Result<CallingSessions, NoMemory>
-        ensures { IfOk result (λ s. s ≡ []) }
+    /// No session. The memory for all numbers is taken here. `NoMemory` comes only where it was
+    /// refused.
+    pub fn new(memory: &mut Memory) -> Result<CallingSessions, NoMemory>
+        ensures none { IfOk result (λ s. s ≡ []) }
+        ensures cause { HasCause memory.old memory.new result }
     {
-        let numbers = Vec::with_capacity(alloc, MOST_SESSIONS)?;
+        let numbers = memory.list(MOST_SESSIONS)?;
         Ok(CallingSessions { numbers })
     }
 

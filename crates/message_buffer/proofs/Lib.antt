@@ -1,3 +1,4 @@
 pub mod BlockLemmas
 pub mod LendingLemmas
+pub mod MadeLemmas
 pub mod MessageLemmas

@@ -1,13 +1,14 @@
 //! A message's buffer.
 ghost use Rattle.std.specs.Prelude.{◌≡◌, ◌<◌, ◌≤◌, ◌+◌, ℕ, Some, length, replicate, All, IfOk, slice_get};
 ghost use Rattle.std.specs.Borrow.{sem};
+ghost use Rattle.memory_count.specs.Faults.{HasCause};
 ghost use Rattle.packet_header.specs.Parts.{packet_count, part};
 ghost use Rattle.message_buffer.specs.Buffer.{bytes_of, capacity_of, stamped, with_len, written};
 
 use crate::block::{MOST_CAPACITY, block_bytes, head_at};
+use memory_count::{Memory, NoMemory};
 use packet_header::part_len;
-use rpc_base::{HEAD_BYTES, NoMemory, PART_BYTES};
-use std::alloc::Global;
+use rpc_base::{HEAD_BYTES, PART_BYTES};
 use std::marker::Model;
 
 /// A message and the headers of its packets, in one block of memory. Contracts see its length, its
@@ -34,8 +35,8 @@ impl MsgBuf {
     ghost use Rattle.message_buffer.specs.Lending.{lends_message};
 
     /// A buffer of `capacity` bytes, at most `MOST_CAPACITY`. Its length is 0; all its bytes and
-    /// heads are zero. `NoMemory` comes only where there is no memory for its block.
-    pub fn new(alloc: Global, capacity: u32) -> Result<MsgBuf, NoMemory>
+    /// heads are zero. `NoMemory` comes only where memory was refused.
+    pub fn new(memory: &mut Memory, capacity: u32) -> Result<MsgBuf, NoMemory>
         requires { capacity ≤ MOST_CAPACITY }
         ensures empty { IfOk result (λ b. b.len ≡ 0) }
         ensures capacity { IfOk result (λ b. capacity_of b ≡ capacity) }
@@ -43,8 +44,10 @@ impl MsgBuf {
         ensures heads { IfOk result (λ b. length b.heads ≡ packet_count capacity) }
         ensures zero_heads { IfOk result (λ b. (k : ℕ) → k < packet_count capacity
             → slice_get b.heads k ≡ Some (replicate HEAD_BYTES 0)) }
+        ensures cause { HasCause memory.old memory.new result }
     {
-        let block = vec![in alloc; 0; block_bytes(capacity)]?;
+        let alloc = memory.alloc();
+        let block = memory.of(vec![in alloc; 0; block_bytes(capacity)])?;
         Ok(MsgBuf {
             block,
             capacity,
@@ -53,14 +56,15 @@ impl MsgBuf {
     }
 
     /// A buffer that holds these bytes, at most `MOST_CAPACITY` of them, as its message: its capacity
-    /// is their count. `NoMemory` comes only where there is no memory for its block.
-    pub fn of(alloc: Global, bytes: &[u8]) -> Result<MsgBuf, NoMemory>
+    /// is their count. `NoMemory` comes only where memory was refused.
+    pub fn of(memory: &mut Memory, bytes: &[u8]) -> Result<MsgBuf, NoMemory>
         requires { length bytes.now ≤ MOST_CAPACITY }
         ensures message { IfOk result (λ b. bytes_of b ≡ bytes.now) }
         ensures capacity { IfOk result (λ b. capacity_of b ≡ length bytes.now) }
+        ensures cause { HasCause memory.old memory.new result }
     {
         let len = bytes.len() as u32;
-        let mut message = MsgBuf::new(alloc, len)?;
+        let mut message = MsgBuf::new(memory, len)?;
         message.set_len(len);
         message.write(0, bytes);
         Ok(message)

@@ -3,6 +3,7 @@ ghost use Rattle.std.specs.Prelude.{◌≡◌, ◌<◌, ◌-◌, ◌+◌, ◌++�
 ghost use Rattle.std.specs.Prelude.{IfOk, IsOk, IsSome, IsTrue, Some, cond, not, set, slice_get, ◌&&◌};
 ghost use Rattle.std.specs.Prelude.{slice_index_or, vec_capacity, ℕ, ◌≤◌};
 ghost use Rattle.std.specs.List.{find};
+ghost use Rattle.memory_count.specs.Faults.{HasCause};
 ghost use Rattle.rpc_base.specs.Tables.{without_first};
 ghost use Rattle.rpc_base.specs.Least.{least_number};
 ghost use Rattle.pacing_wheel.specs.Wheel.{is_entry_of, is_of, number_of};
@@ -11,9 +12,9 @@ ghost use Rattle.pacing_wheel.specs.Chains.{table, times, with_last};
 
 use crate::choosing::smaller_of;
 use crate::pacer::Paced;
+use memory_count::{Memory, NoMemory};
 use packet_rings::Entry;
-use rpc_base::{NoMemory, Owner, Peer};
-use std::alloc::Global;
+use rpc_base::{Owner, Peer};
 use std::marker::Model;
 
 /// An entry, and the place of the one behind it in its chain.
@@ -73,15 +74,16 @@ impl Model for Chains {
 }
 
 impl Chains {
-    /// So many empty lists, with room for `size` entries in all. `NoMemory` comes only where there
-    /// is no memory for them; none of size 0 take none.
-    pub fn new(alloc: Global, places: usize, size: u32) -> Result<Chains, NoMemory>
+    /// So many empty lists, with room for `size` entries in all. `NoMemory` comes only where
+    /// memory was refused; none of size 0 take none.
+    pub fn new(memory: &mut Memory, places: usize, size: u32) -> Result<Chains, NoMemory>
         ensures made { IfOk result (λ c. c ≡ table (replicate places []) size) }
         ensures succeeds { places ≡ 0 → size ≡ 0 → IsOk result }
+        ensures cause { HasCause memory.old memory.new result }
     {
-        let links = unused_links(alloc, size)?;
-        let places = empty_lists(alloc, places)?;
-        let free = all_places(alloc, size)?;
+        let links = unused_links(memory, size)?;
+        let places = empty_lists(memory, places)?;
+        let free = all_places(memory, size)?;
         Ok(Chains {
             links,
             places,
@@ -226,11 +228,12 @@ fn number_in(item: &Paced) -> u16
 }
 
 // An array of this size.
-fn unused_links(alloc: Global, size: u32) -> Result<Vec<Link>, NoMemory>
+fn unused_links(memory: &mut Memory, size: u32) -> Result<Vec<Link>, NoMemory>
     ensures made { IfOk result (λ links. length links.items ≡ size) }
     ensures succeeds { size ≡ 0 → IsOk result }
+    ensures cause { HasCause memory.old memory.new result }
 {
-    let mut links = Vec::with_capacity(alloc, size as usize)?;
+    let mut links = memory.list(size as usize)?;
     for _k in 0..size {
         links.push_reserved(NOTHING);
     }
@@ -238,11 +241,12 @@ fn unused_links(alloc: Global, size: u32) -> Result<Vec<Link>, NoMemory>
 }
 
 // The ends of so many empty lists.
-fn empty_lists(alloc: Global, count: usize) -> Result<Vec<Ends>, NoMemory>
+fn empty_lists(memory: &mut Memory, count: usize) -> Result<Vec<Ends>, NoMemory>
     ensures made { IfOk result (λ places. places.items ≡ replicate count no_ends) }
     ensures succeeds { count ≡ 0 → IsOk result }
+    ensures cause { HasCause memory.old memory.new result }
 {
-    let mut places = Vec::with_capacity(alloc, count)?;
+    let mut places = memory.list(count)?;
     for _i in 0..count {
         places.push_reserved(NO_ENDS);
     }
@@ -250,14 +254,15 @@ fn empty_lists(alloc: Global, count: usize) -> Result<Vec<Ends>, NoMemory>
 }
 
 // Each place of an array of this size, once.
-fn all_places(alloc: Global, size: u32) -> Result<Vec<u32>, NoMemory>
+fn all_places(memory: &mut Memory, size: u32) -> Result<Vec<u32>, NoMemory>
     ensures made { IfOk result (λ free. length free.items ≡ size) }
     ensures once { IfOk result (λ free. (k : ℕ) → times k free.items ≤ 1) }
     ensures inside { IfOk result (λ free. (k : ℕ) → 0 < times k free.items → k < size) }
     ensures room { IfOk result (λ free. size ≤ vec_capacity free) }
     ensures succeeds { size ≡ 0 → IsOk result }
+    ensures cause { HasCause memory.old memory.new result }
 {
-    let mut free = Vec::with_capacity(alloc, size as usize)?;
+    let mut free = memory.list(size as usize)?;
     for k in 0..size {
         free.push_reserved(k);
     }

@@ -3,6 +3,7 @@ ghost use Rattle.std.specs.Prelude.{◌≡◌, ◌<◌, ◌≤◌, ◌↔◌, �
 ghost use Rattle.std.specs.Prelude.{option_map, slice_get, IfOk, IsOk, IsTrue, ◌==◌};
 ghost use Rattle.std.specs.List.{AllByRecursion, find, list_any};
 ghost use Rattle.std.specs.List.Sorted.{IsNonDecreasingBy};
+ghost use Rattle.memory_count.specs.Faults.{HasCause};
 ghost use Rattle.rpc_base.specs.Tables.{without_first};
 ghost use Rattle.rpc_base.specs.Least.{least, least_number};
 ghost use Rattle.pacing_wheel.specs.Chains.{list_at};
@@ -14,9 +15,9 @@ ghost use Rattle.rpc_base.proofs.LeastLemmas.{lesser};
 use crate::chains::Chains;
 use crate::choosing::{earlier, lesser};
 use crate::pacer::Paced;
+use memory_count::{Memory, NoMemory};
 use packet_rings::Entry;
-use rpc_base::{NoMemory, Owner};
-use std::alloc::Global;
+use rpc_base::Owner;
 use std::marker::Model;
 
 /// So many places of one microsecond.
@@ -46,13 +47,14 @@ impl Model for Dial {
 }
 
 impl Dial {
-    /// Empty places, for `size` entries, with the cursor at 0. `NoMemory` comes only where there is
-    /// no memory for them; those of size 0 take none.
-    pub fn new(alloc: Global, size: u32) -> Result<Dial, NoMemory>
+    /// Empty places, for `size` entries, with the cursor at 0. `NoMemory` comes only where
+    /// memory was refused; those of size 0 take none.
+    pub fn new(memory: &mut Memory, size: u32) -> Result<Dial, NoMemory>
         ensures made { IfOk result (λ d. d ≡ dial 0 [] size) }
         ensures succeeds { size ≡ 0 → IsOk result }
+        ensures cause { HasCause memory.old memory.new result }
     {
-        let chains = Chains::new(alloc, places_for(size), size)?;
+        let chains = Chains::new(memory, places_for(size), size)?;
         Ok(Dial {
             chains,
             cursor: 0,

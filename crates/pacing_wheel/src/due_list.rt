@@ -4,6 +4,7 @@ ghost use Rattle.std.specs.Prelude.{IfOk, IfSome, IsNone, IsOk, IsTrue, drop};
 ghost use Rattle.std.specs.List.{AllByRecursion, find, list_any, position};
 ghost use Rattle.std.specs.VecDeque.{deque_capacity};
 ghost use Rattle.std.specs.List.Sorted.{IsNonDecreasingBy};
+ghost use Rattle.memory_count.specs.Faults.{HasCause};
 ghost use Rattle.rpc_base.specs.Tables.{without_first};
 ghost use Rattle.rpc_base.specs.Least.{least, least_number, smaller, without_least};
 ghost use Rattle.packet_rings.specs.Entries.{option_is};
@@ -12,9 +13,9 @@ ghost use Rattle.pacing_wheel.specs.Wheel.{number_of, wheel};
 
 use crate::choosing::smaller_of;
 use crate::pacer::Paced;
+use memory_count::{Memory, NoMemory};
 use packet_rings::Entry;
-use rpc_base::{NoMemory, Owner};
-use std::alloc::Global;
+use rpc_base::Owner;
 use std::collections::VecDeque;
 use std::marker::Model;
 
@@ -42,13 +43,14 @@ impl Model for DueList {
 }
 
 impl DueList {
-    /// A pacer of `size` entries, whose memory is taken here. `NoMemory` comes only where there is
-    /// no memory for it; one of size 0 takes none.
-    pub fn new(alloc: Global, size: u32) -> Result<DueList, NoMemory>
+    /// A pacer of `size` entries, whose memory is taken here. `NoMemory` comes only where
+    /// memory was refused; one of size 0 takes none.
+    pub fn new(memory: &mut Memory, size: u32) -> Result<DueList, NoMemory>
         ensures made { IfOk result (λ p. p ≡ wheel [] size) }
         ensures succeeds { size ≡ 0 → IsOk result }
+        ensures cause { HasCause memory.old memory.new result }
     {
-        let waiting = VecDeque::with_capacity(alloc, size as usize)?;
+        let waiting = memory.queue(size as usize)?;
         Ok(DueList { waiting, size })
     }
 

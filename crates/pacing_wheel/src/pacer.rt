@@ -3,6 +3,7 @@ ghost use Rattle.std.specs.Prelude.{◌≡◌, ◌<◌, ◌≤◌, ◌↔◌, �
 ghost use Rattle.std.specs.Prelude.{IfOk, IfSome, IsNone, IsOk, IsTrue, drop};
 ghost use Rattle.std.specs.List.{AllByRecursion, find, list_any};
 ghost use Rattle.std.specs.List.Sorted.{IsNonDecreasingBy};
+ghost use Rattle.memory_count.specs.Faults.{HasCause};
 ghost use Rattle.rpc_base.specs.Tables.{without_first};
 ghost use Rattle.rpc_base.specs.Least.{least, least_number, without_least};
 ghost use Rattle.pacing_wheel.specs.Wheel.{added, due_of, entry_of, is_due, is_entry_of};
@@ -11,9 +12,9 @@ ghost use Rattle.pacing_wheel.specs.Wheel.{is_first, is_of, merged, number_of, w
 use crate::choosing::{earlier, is_first, lesser};
 use crate::dial::Dial;
 use crate::due_list::DueList;
+use memory_count::{Memory, NoMemory};
 use packet_rings::Entry;
-use rpc_base::{NoMemory, Owner};
-use std::alloc::Global;
+use rpc_base::Owner;
 use std::marker::Model;
 
 /// An entry that waits, and the time in microseconds from which on it may be sent.
@@ -46,14 +47,15 @@ impl Model for Pacer {
 }
 
 impl Pacer {
-    /// A pacer of `size` entries, whose memory is taken here. `NoMemory` comes only where there is
-    /// no memory for it; one of size 0 takes none.
-    pub fn new(alloc: Global, size: u32) -> Result<Pacer, NoMemory>
+    /// A pacer of `size` entries, whose memory is taken here. `NoMemory` comes only where
+    /// memory was refused; one of size 0 takes none.
+    pub fn new(memory: &mut Memory, size: u32) -> Result<Pacer, NoMemory>
         ensures made { IfOk result (λ p. p ≡ wheel [] size) }
         ensures succeeds { size ≡ 0 → IsOk result }
+        ensures cause { HasCause memory.old memory.new result }
     {
-        let dial = Dial::new(alloc, size)?;
-        let overflow = DueList::new(alloc, size)?;
+        let dial = Dial::new(memory, size)?;
+        let overflow = DueList::new(memory, size)?;
         Ok(Pacer {
             dial,
             overflow,

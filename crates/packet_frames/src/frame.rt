@@ -1,11 +1,11 @@
 //! The packets that go into the next datagram.
 ghost use Rattle.std.specs.Prelude.{◌≡◌, ◌+◌, ◌≤◌, ◌↔◌, [], ◌∷◌, ◌++◌, true, false, length};
 ghost use Rattle.std.specs.Prelude.{vec_len, vec_capacity, IfOk, IsTrue};
+ghost use Rattle.memory_count.specs.Faults.{HasCause};
 ghost use Rattle.packet_frames.specs.Frames.{HasNoRoom, datagram_of, item, items};
 
 use crate::sizes::{FRAME_BYTE, LENGTH_BYTES, MOST_FRAME_BYTES, MOST_PACKET_BYTES};
-use rpc_base::NoMemory;
-use std::alloc::Global;
+use memory_count::{Memory, NoMemory};
 use std::marker::Model;
 
 /// The packets that go into the next datagram. Contracts see the list of them.
@@ -33,13 +33,13 @@ impl Model for Frame {
 }
 
 impl Frame {
-    /// A frame without packets. It takes all memory that it will need now; `NoMemory` comes only
-    /// where there is none.
-    pub fn new(alloc: Global) -> Result<Frame, NoMemory>
-        ensures { IfOk result (λ f. f ≡ []) }
+    /// A frame without packets. It takes all memory that it will need now.
+    pub fn new(memory: &mut Memory) -> Result<Frame, NoMemory>
+        ensures empty { IfOk result (λ f. f ≡ []) }
+        ensures cause { HasCause memory.old memory.new result }
     {
-        let mut bytes = Vec::with_capacity(alloc, MOST_FRAME_BYTES as usize)?;
-        bytes.push(FRAME_BYTE)?;
+        let mut bytes = memory.list(MOST_FRAME_BYTES as usize)?;
+        bytes.push_reserved(FRAME_BYTE);
         Ok(Frame { bytes, count: 0 })
     }
 

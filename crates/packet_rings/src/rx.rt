@@ -1,13 +1,14 @@
 //! The receive ring.
 ghost use Rattle.std.specs.Prelude.{◌≡◌, ◌<◌, ◌≤◌, ◌↔◌, [], ◌∷◌, ◌++◌, length, drop, slice_get};
 ghost use Rattle.std.specs.Prelude.{option_copied, vec_capacity, IfOk, IsTrue};
+ghost use Rattle.memory_count.specs.Faults.{HasCause};
 ghost use Rattle.packet_rings.specs.Rings.{ring};
 ghost use Rattle.packet_rings.specs.Values.{datagram};
 
 use crate::datagram::Datagram;
 use circular_buffer::HeapCircularBuffer;
-use rpc_base::{MOST_DATAGRAM_BYTES, NoMemory, Peer};
-use std::alloc::{AllocError, Global};
+use memory_count::{Memory, NoMemory};
+use rpc_base::{MOST_DATAGRAM_BYTES, Peer};
 use std::marker::Model;
 
 /// The datagrams that arrived and wait to be handled, the oldest in front, in a ring of fixed size.
@@ -36,13 +37,14 @@ impl Model for RxRing {
 }
 
 // So many places without a datagram.
-fn empty_places(alloc: Global, count: u32) -> Result<Vec<Box<Datagram>>, AllocError>
+fn empty_places(memory: &mut Memory, count: u32) -> Result<Vec<Box<Datagram>>, NoMemory>
     ensures places { IfOk result (λ v. length v.items ≡ count) }
     ensures room { IfOk result (λ v. count ≤ vec_capacity v) }
+    ensures cause { HasCause memory.old memory.new result }
 {
-    let mut places = Vec::with_capacity(alloc, count as usize)?;
+    let mut places = memory.list(count as usize)?;
     for _i in 0..count {
-        let place = Box::new(alloc, Datagram::empty())?;
+        let place = memory.boxed(Datagram::empty())?;
         places.push_reserved(place);
     }
     Ok(places)
@@ -50,12 +52,14 @@ fn empty_places(alloc: Global, count: u32) -> Result<Vec<Box<Datagram>>, AllocEr
 
 impl RxRing {
     /// An empty ring of `size` datagrams, whose memory is taken here. A ring of size 0 is always
-    /// full. `NoMemory` comes only where there is no memory for it.
-    pub fn new(alloc: Global, size: u32) -> Result<RxRing, NoMemory>
-        ensures { IfOk result (λ r. r ≡ ring [] size) }
+    /// full. `NoMemory` comes only where memory was refused.
+    pub fn new(memory: &mut Memory, size: u32) -> Result<RxRing, NoMemory>
+        ensures made { IfOk result (λ r. r ≡ ring [] size) }
+        ensures cause { HasCause memory.old memory.new result }
     {
-        let datagrams = HeapCircularBuffer::with_capacity(alloc, size as usize)?;
-        let free = empty_places(alloc, size)?;
+        let made = HeapCircularBuffer::with_capacity(memory.alloc(), size as usize);
+        let datagrams = memory.of(made)?;
+        let free = empty_places(memory, size)?;
         Ok(RxRing { datagrams, free })
     }
 

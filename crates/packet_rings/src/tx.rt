@@ -3,6 +3,7 @@ ghost use Rattle.std.specs.Prelude.{◌≡◌, ◌<◌, ◌≤◌, ◌↔◌, []
 ghost use Rattle.std.specs.Prelude.{count_by, slice_get, option_copied, IfOk, IfSome, IfNone};
 ghost use Rattle.std.specs.Prelude.{IsNone, IsTrue};
 ghost use Rattle.std.specs.List.{list_any, filter, Contains};
+ghost use Rattle.memory_count.specs.Faults.{HasCause};
 ghost use Rattle.rpc_base.specs.Least.{least_number, least, without_least};
 ghost use Rattle.packet_rings.specs.Entries.{is_of, is_not_of, is_entry, is_reply, listed_entry};
 ghost use Rattle.packet_rings.specs.Entries.{number_of, NoneLower};
@@ -13,8 +14,8 @@ ghost use Rattle.packet_rings.specs.Rings.{ring};
 use crate::entry::Entry;
 use crate::least::{least_of, take_least};
 use circular_buffer::HeapCircularBuffer;
-use rpc_base::{NoMemory, Owner};
-use std::alloc::Global;
+use memory_count::{Memory, NoMemory};
+use rpc_base::Owner;
 use std::marker::Model;
 
 /// The packets that were posted and are neither sent nor flushed, the oldest in front, in a ring of
@@ -63,11 +64,13 @@ fn count_in(entry: &Option<Entry>) -> u32
 
 impl TxRing {
     /// An empty ring of `size` entries, whose memory is taken here. A ring of size 0 takes no
-    /// entry. `NoMemory` comes only where there is no memory for it.
-    pub fn new(alloc: Global, size: u32) -> Result<TxRing, NoMemory>
-        ensures { IfOk result (λ r. r ≡ ring [] size) }
+    /// entry. `NoMemory` comes only where memory was refused.
+    pub fn new(memory: &mut Memory, size: u32) -> Result<TxRing, NoMemory>
+        ensures made { IfOk result (λ r. r ≡ ring [] size) }
+        ensures cause { HasCause memory.old memory.new result }
     {
-        let entries = HeapCircularBuffer::with_capacity(alloc, size as usize)?;
+        let made = HeapCircularBuffer::with_capacity(memory.alloc(), size as usize);
+        let entries = memory.of(made)?;
         Ok(TxRing {
             entries,
             replies: 0,

@@ -1,12 +1,14 @@
 //! The table of a session's slots, with the calls that wait for one.
 ghost use Rattle.std.specs.Prelude.{◌≡◌, ◌<◌, ◌^◌, ◌↔◌, ◌⊎◌, [], IsNone, IfNone, IfSome, OnSome};
 ghost use Rattle.std.specs.Prelude.{◌-◌, IfErr, OnErr, OnOk, length, option_copied, slice_get};
+ghost use Rattle.memory_count.specs.Faults.{HasCause};
 ghost use Rattle.session_slots.specs.Slots.{Activates, Begins, Deactivates, IsActive, IsNewNumber};
 ghost use Rattle.session_slots.specs.Slots.{IsSound, WasGiven, active_call, all_free, drained};
 ghost use Rattle.session_slots.specs.Slots.{ended, lowest_free, waited};
 
 use crate::active::Active;
 use crate::waiting::Waiting;
+use memory_count::Memory;
 use rpc_base::{CallNo, MOST_CALLS, RequestNo};
 use std::alloc::Global;
 use std::collections::VecDeque;
@@ -44,8 +46,7 @@ impl Model for SlotTable {
 }
 
 impl SlotTable {
-    /// A table with all slots free and no waiting call. It takes no memory yet; `wait` takes its
-    /// own from `alloc`.
+    /// A table with all slots free and no waiting call. It takes no memory yet.
     pub fn new(alloc: Global) -> SlotTable
         ensures { result ≡ all_free }
     {
@@ -66,21 +67,19 @@ impl SlotTable {
     }
 
     /// The call waits behind all others. Fewer than 2^45 calls were taken before: then no turn
-    /// passes what a request number holds. Err is want of memory alone, and hands the call back.
-    pub fn wait(&mut self, w: Waiting) -> Result<(), Waiting>
+    /// passes what a request number holds. Err comes only where memory was refused, and hands the
+    /// call back.
+    pub fn wait(&mut self, memory: &mut Memory, w: Waiting) -> Result<(), Waiting>
         requires { self.old.taken < MOST_CALLS }
         ensures waits { OnOk result (self.new ≡ waited w self.old) }
         ensures unchanged { OnErr result (self.new ≡ self.old) }
         ensures handed_back { IfErr result (λ back. back ≡ w) }
+        ensures cause { HasCause memory.old memory.new result }
         ensures sound { IsSound self.new }
     {
-        match self.waiting.push_back(w) {
-            Ok(()) => {
-                self.taken += 1;
-                Ok(())
-            }
-            Err(refused) => Err(refused.value),
-        }
+        memory.push_back(&mut self.waiting, w)?;
+        self.taken += 1;
+        Ok(())
     }
 
     /// The call that was taken last, where it waits. None comes exactly where no call waits.

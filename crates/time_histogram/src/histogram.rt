@@ -1,13 +1,13 @@
 //! The times that were counted, bucket by bucket.
 ghost use Rattle.std.specs.Prelude.{◌≡◌, ◌+◌, ◌-◌, ◌*◌, ◌/◌, ◌<◌, ◌≤◌, ◌↔◌, ℕ, List, [], ◌∷◌};
 ghost use Rattle.std.specs.Prelude.{IfOk, IfSome, IsTrue, None, length, sum, take};
+ghost use Rattle.memory_count.specs.Faults.{HasCause};
 ghost use Rattle.time_histogram.specs.Buckets.{IsBucketOf};
 ghost use Rattle.time_histogram.specs.Times.{CountsAs, Holds, IsShareOf, MOST_TIMES};
 ghost use Rattle.time_histogram.specs.Times.{greatest_time, least_time, share_of};
 
 use crate::buckets::{BUCKETS, Span, bucket_of, span_of};
-use rpc_base::NoMemory;
-use std::alloc::Global;
+use memory_count::{Memory, NoMemory};
 use std::marker::Model;
 
 /// All times, in the unit of a share.
@@ -47,11 +47,12 @@ impl Model for Histogram {
 
 impl Histogram {
     /// A histogram of no times. It takes all memory that it will need.
-    pub fn new(alloc: Global) -> Result<Histogram, NoMemory>
-        ensures { IfOk result (λ h. Holds [] h) }
+    pub fn new(memory: &mut Memory) -> Result<Histogram, NoMemory>
+        ensures holds { IfOk result (λ h. Holds [] h) }
+        ensures cause { HasCause memory.old memory.new result }
     {
-        let mut counts = Vec::new(alloc);
-        counts.resize(BUCKETS, 0)?;
+        let mut counts = Vec::new(memory.alloc());
+        memory.of(counts.resize(BUCKETS, 0))?;
         Ok(Histogram {
             counts,
             count: 0,

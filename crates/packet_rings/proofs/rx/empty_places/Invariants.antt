@@ -4,3 +4,4 @@ use Rattle.packet_rings.proofs.rx.empty_places.Given as goal
 
 abbrev pub invariant-loop-i : goal.invariant-loop-i
 invariant-loop-i l = (length l.places.items ≡ l._i) × (l.count ≤ vec_capacity l.places)
+    × (l.memory ≡ l.initial.memory)
