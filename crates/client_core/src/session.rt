@@ -5,6 +5,7 @@ ghost use Rattle.std.specs.Prelude.{◌++◌, false, count_by, length, option_ma
 ghost use Rattle.std.specs.Prelude.{◌-◌, IfSome, IsNone, IsTrue, OnErr, OnOk, option_copied};
 ghost use Rattle.std.specs.Prelude.{slice_get};
 ghost use Rattle.std.specs.List.{list_any};
+ghost use Rattle.memory_count.specs.Faults.{HasCause};
 ghost use Rattle.packet_header.specs.Header.{AreBytes};
 ghost use Rattle.buffer_pool.specs.Pool.{Pool, spare_of};
 ghost use Rattle.credit_book.specs.Credits.{limit_of};
@@ -39,6 +40,7 @@ use crate::call::ActiveCall;
 use crate::calls::Calls;
 use buffer_pool::BufferPool;
 use credit_book::CreditBook;
+use memory_count::Memory;
 use packet_header::{Life, Packet, encode};
 use packet_rings::Entry;
 use rpc_base::{
@@ -91,7 +93,7 @@ impl Model for ClientSession {
 impl ClientSession {
     /// A session with no call, by its number here and at the server, each below 65,535, with a
     /// server's endpoint of this life, which isn't 0. All its `credits`, 1 to 256, are free. It
-    /// takes no memory yet; `enqueue` takes its own from `alloc`.
+    /// takes no memory yet.
     pub fn new(
         alloc: Global,
         session: SessionNo,
@@ -182,8 +184,9 @@ impl ClientSession {
     }
 
     /// The call waits behind all others. Its request has at most 1,048,576 bytes, and fewer than
-    /// 2^45 calls were taken before. Err is want of memory alone, and hands the call back.
-    pub fn enqueue(&mut self, w: Waiting) -> Result<(), Waiting>
+    /// 2^45 calls were taken before. Err comes only where memory was refused, and hands the call
+    /// back.
+    pub fn enqueue(&mut self, memory: &mut Memory, w: Waiting) -> Result<(), Waiting>
         requires message { w.req.len ≤ MOST_MESSAGE_BYTES }
         requires turns { self.old.slots.taken < MOST_CALLS }
         ensures waits { OnOk result (self.new ≡ enqueued w self.old) }
@@ -193,8 +196,9 @@ impl ClientSession {
             → handed_of pool self.new ≡ handed_of pool self.old ++ handed_waiting w ∷ []) }
         ensures unchanged { OnErr result (self.new ≡ self.old) }
         ensures handed_back { IfErr result (λ back. back ≡ w) }
+        ensures cause { HasCause memory.old memory.new result }
     {
-        self.slots.wait(w)?;
+        self.slots.wait(memory, w)?;
         self.waiting += 1;
         Ok(())
     }

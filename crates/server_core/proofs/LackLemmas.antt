@@ -1,8 +1,11 @@
--- Where memory is wanting, the drop is that of the server rule.
+-- Where memory is wanting, the drop is that of the server rule, and a refusal was counted.
 use Rattle.std.proofs.Common.{◌≡◌, ◌≢◌, ℕ, Bool, true, false, not, ◌&&◌, ◌||◌, cond, ltb, Option, Some, None, refl}
 use Rattle.std.specs.Prelude.{◌==◌, option_map}
 use Rattle.std.specs.List.{find}
+use Rattle.memory_count.specs.Faults.{HasRisenBy}
+use Rattle.memory_count.proofs.Risen.{none-risen}
 use Rattle.packet_header.specs.declared.packet.MessageHeader.{MessageHeader}
+use Rattle.rpc_base.specs.declared.state.DropReason.{DropReason}
 use Rattle.rpc_base.specs.declared.state.DropReason.TheVariants.{Ahead, Beyond, JobsFull, Mismatch}
 use Rattle.rpc_base.specs.declared.state.DropReason.TheVariants.{NoMemory, NotFirst, Old, Unserved}
 use Rattle.rpc_base.specs.declared.state.DropReason.TheVariants.{Working, WrongPeer}
@@ -15,6 +18,7 @@ use Rattle.rpc_laws.specs.ServerTable.{is_worked_on, makes_job, new_row, newest_
 use Rattle.rpc_laws.specs.ServerTable.{own_row, server_row, slot_row}
 use Rattle.rpc_laws.specs.Service.{is_handled}
 use Rattle.rpc_outside.specs.declared.service.Mode.{Mode}
+use Rattle.server_core.specs.Lacks.{lacks_for}
 use Rattle.server_core.specs.declared.step.Step.{Step}
 use Rattle.server_core.specs.declared.step.Step.TheVariants.{Took, Again, Ran, Give, Dropped}
 use Rattle.server_core.specs.Steps.{IsStepOf}
@@ -144,3 +148,11 @@ pub row-has : (mode : Mode) (full : Bool) (o : Option Newest) (h : MessageHeader
 row-has mode full None h =
     new-has (is_rfr h.kind || not (h.number == 0)) false (not (is_handled mode)) (makes_job mode h && full)
 row-has mode full (Some n) h = has-cases mode full n h (ltb h.request n.number) (ltb n.number h.request)
+
+-- a drop for another reason tells no refusal
+no-lack : (why : DropReason) → why ≢ NoMemory → lacks_for why ≡ 0
+no-lack NoMemory other = absurd (other refl)
+no-lack why other = refl
+
+pub drop-risen : (why : DropReason) (n : ℕ) → why ≢ NoMemory → HasRisenBy (lacks_for why) n n
+drop-risen why n other = rw (no-lack why other) (none-risen n)

@@ -6,6 +6,7 @@ pub mod Handling
 pub mod Homes
 pub mod Keeping
 pub mod KeepsPool
+pub mod Lacks
 pub mod Noting
 pub mod Replies
 pub mod Reusing

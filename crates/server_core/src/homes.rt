@@ -1,11 +1,12 @@
 //! The slots' own buffers.
 ghost use Rattle.std.specs.Prelude.{◌≡◌, ◌<◌, [], true, length, slice_set, IfOk, None, Some};
+ghost use Rattle.memory_count.specs.Faults.{HasCause};
 ghost use Rattle.message_buffer.specs.Buffer.{Buffer, capacity_of};
 ghost use Rattle.server_core.specs.Homes.{AreHome, HasOwn, brought, home_of};
 
+use memory_count::{Memory, NoMemory};
 use message_buffer::MsgBuf;
-use rpc_base::{NoMemory, PART_BYTES};
-use std::alloc::Global;
+use rpc_base::PART_BYTES;
 use std::marker::Model;
 
 const SLOTS: usize = 8;
@@ -28,12 +29,14 @@ impl Model for Homes {
 
 impl Homes {
     /// All of them, at home. `NoMemory` comes only where there is no memory for them.
-    pub fn new(alloc: Global) -> Result<Homes, NoMemory>
-        ensures { IfOk result (λ homes. AreHome homes []) }
+    pub fn new(memory: &mut Memory) -> Result<Homes, NoMemory>
+        ensures home { IfOk result (λ homes. AreHome homes []) }
+        ensures cause { HasCause memory.old memory.new result }
     {
-        let mut buffers = Vec::with_capacity(alloc, SLOTS)?;
+        let mut buffers = memory.list(SLOTS)?;
         for _slot in 0..SLOTS {
-            buffers.push(Some(MsgBuf::new(alloc, PART_BYTES)?))?;
+            let buffer = MsgBuf::new(memory, PART_BYTES)?;
+            memory.push(&mut buffers, Some(buffer))?;
         }
         Ok(Homes { buffers })
     }

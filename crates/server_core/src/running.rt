@@ -5,6 +5,7 @@ ghost use Rattle.std.specs.Prelude.{IsTrue, ◌↔◌, true};
 ghost use Rattle.buffer_pool.specs.Pool.{IsFull, buf_at, refs_of};
 ghost use Rattle.message_buffer.specs.Buffer.{bytes_of, capacity_of};
 ghost use Rattle.message_buffer.specs.Messages.{message_in};
+ghost use Rattle.memory_count.specs.Faults.{HasCause};
 ghost use Rattle.rpc_outside.specs.declared.service.Mode.TheVariants.{Inline, Unserved};
 ghost use Rattle.rpc_outside.specs.Served.{Served, StandsForSome};
 ghost use Rattle.server_core.specs.Homes.{HasOwn};
@@ -14,18 +15,19 @@ ghost use Rattle.server_core.specs.Serving.{IsFirstPart};
 ghost use Rattle.packet_header.specs.Parts.{IsMessage};
 
 use buffer_pool::BufferPool;
+use memory_count::{Memory, NoMemory};
 use message_buffer::MsgBuf;
-use rpc_base::{MOST_MESSAGE_BYTES, NoMemory, PART_BYTES, Place};
+use rpc_base::{MOST_MESSAGE_BYTES, PART_BYTES, Place};
 use rpc_outside::Service;
-use std::alloc::Global;
 
 /// A buffer for a message of this size, which begins with these bytes.
-pub(crate) fn make_message(alloc: Global, size: u32, first: &[u8]) -> Result<MsgBuf, NoMemory>
+pub(crate) fn make_message(memory: &mut Memory, size: u32, first: &[u8]) -> Result<MsgBuf, NoMemory>
     requires size { IsMessage size }
     requires first { length first.now ≤ size }
-    ensures { IfOk result (IsFirstPart size first.now) }
+    ensures message { IfOk result (IsFirstPart size first.now) }
+    ensures cause { HasCause memory.old memory.new result }
 {
-    let mut message = MsgBuf::new(alloc, size)?;
+    let mut message = MsgBuf::new(memory, size)?;
     message.set_len(size);
     message.write(0, first);
     Ok(message)
@@ -33,7 +35,7 @@ pub(crate) fn make_message(alloc: Global, size: u32, first: &[u8]) -> Result<Msg
 
 /// A buffer as long as the answer of a type that is served.
 pub(crate) fn make_room<V: Service>(
-    alloc: Global,
+    memory: &mut Memory,
     service: &V,
     req_type: u8,
     ask: &[u8],
@@ -43,8 +45,9 @@ pub(crate) fn make_room<V: Service>(
     ensures message { IfOk result (λ b. IsMessage b.len × (b.len ≤ capacity_of b)) }
     ensures room { IfOk result (λ b. (served : Served) → V.stands service.now served →
         length (V.answer served req_type ask.now) ≡ b.len) }
+    ensures cause { HasCause memory.old memory.new result }
 {
-    make_answer(alloc, service.room(req_type, ask))
+    make_answer(memory, service.room(req_type, ask))
 }
 
 /// Where the answer to a request that is handled inline is written.
@@ -59,16 +62,17 @@ pub enum Room {
 impl Room {
     /// The room for an answer of this size. `NoMemory` comes only where it is longer than a part
     /// and there is no memory for it.
-    pub fn of(alloc: Global, size: u32) -> Result<Room, NoMemory>
+    pub fn of(memory: &mut Memory, size: u32) -> Result<Room, NoMemory>
         requires { IsMessage size }
         ensures room { IfOk result IsRoom }
         ensures size { IfOk result (λ room. size_in room ≡ size) }
         ensures long { OnErr result (PART_BYTES < size) }
+        ensures cause { HasCause memory.old memory.new result }
     {
         if size <= PART_BYTES {
             return Ok(Room::Own(size));
         }
-        let answer = make_answer(alloc, size)?;
+        let answer = make_answer(memory, size)?;
         Ok(Room::Made(answer))
     }
 
@@ -91,11 +95,12 @@ impl Room {
 }
 
 /// A buffer for an answer of this size.
-pub(crate) fn make_answer(alloc: Global, size: u32) -> Result<MsgBuf, NoMemory>
+pub(crate) fn make_answer(memory: &mut Memory, size: u32) -> Result<MsgBuf, NoMemory>
     requires { IsMessage size }
-    ensures { IfOk result (λ b. (b.len ≡ size) × (size ≤ capacity_of b)) }
+    ensures room { IfOk result (λ b. (b.len ≡ size) × (size ≤ capacity_of b)) }
+    ensures cause { HasCause memory.old memory.new result }
 {
-    let mut answer = MsgBuf::new(alloc, size)?;
+    let mut answer = MsgBuf::new(memory, size)?;
     answer.set_len(size);
     Ok(answer)
 }

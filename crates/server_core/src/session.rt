@@ -1,6 +1,7 @@
 //! A server session.
 ghost use Rattle.std.specs.Prelude.{◌≡◌, ◌<◌, ◌≤◌, [], ◌∷◌, IfOk};
 ghost use Rattle.buffer_pool.specs.Pool.{Pool};
+ghost use Rattle.memory_count.specs.Faults.{HasCause};
 ghost use Rattle.server_core.specs.Counting.{CountsQueued};
 ghost use Rattle.server_core.specs.Flushing.{HoldsAll};
 ghost use Rattle.server_core.specs.KeepsPool.{KeepsPool};
@@ -21,9 +22,9 @@ mod taking;
 
 use crate::slot::SlotRequest;
 use crate::slots::Slots;
+use memory_count::{Memory, NoMemory};
 use packet_header::Life;
-use rpc_base::{MOST_CREDITS, NoMemory, Owner, Peer, RequestNo, SESSION_NUMBERS, SessionNo};
-use std::alloc::Global;
+use rpc_base::{MOST_CREDITS, Owner, Peer, RequestNo, SESSION_NUMBERS, SessionNo};
 use std::marker::Model;
 
 /// The newest requests of one server session. Contracts see its numbers, the client's life and its
@@ -67,7 +68,7 @@ impl ServerSession {
     /// 65,535, with the client's life, its peer and 1 to 256 credits. `NoMemory` comes only where
     /// there is no memory for the slots' own buffers.
     pub fn new(
-        alloc: Global,
+        memory: &mut Memory,
         session: SessionNo,
         client: SessionNo,
         life: Life,
@@ -85,8 +86,9 @@ impl ServerSession {
         ensures queued { IfOk result (λ s. CountsQueued s []) }
         ensures step { IfOk result (λ s. (pool : Pool)
             → paired session client peer credits life ≡ shown pool s ∷ []) }
+        ensures cause { HasCause memory.old memory.new result }
     {
-        let slots = Slots::new(alloc)?;
+        let slots = Slots::new(memory)?;
         Ok(ServerSession {
             number: session,
             client,

@@ -5,6 +5,7 @@ ghost use Rattle.std.specs.Prelude.{IfOk, IfSome, Some, true};
 ghost use Rattle.std.specs.List.{AllByRecursion, find, remove};
 ghost use Rattle.rpc_base.specs.Tables.{at_first, without_first};
 ghost use Rattle.buffer_pool.specs.Pool.{lowest_empty, spare_of};
+ghost use Rattle.memory_count.specs.Faults.{HasCause};
 ghost use Rattle.rpc_base.specs.declared.limits.TheConstants.{MOST_REFERENCES, PART_BYTES};
 ghost use Rattle.server_core.specs.Homes.{is_lent};
 ghost use Rattle.server_core.specs.KeepsPool.{KeepsPool};
@@ -19,8 +20,8 @@ use crate::homes::Homes;
 use crate::slot::{SlotRequest, Stored};
 use arrayvec::ArrayVec;
 use buffer_pool::BufferPool;
-use rpc_base::{MOST_REFERENCES, NoMemory, Owner, PART_BYTES, Place, SessionNo};
-use std::alloc::Global;
+use memory_count::{Memory, NoMemory};
+use rpc_base::{MOST_REFERENCES, Owner, PART_BYTES, Place, SessionNo};
 use std::marker::Model;
 
 /// The newest request of each slot in which one began, at most eight, which lie in the session
@@ -47,10 +48,11 @@ impl Model for Slots {
 impl Slots {
     /// No request: each slot's own buffer is at home. `NoMemory` comes only where there is no
     /// memory for these.
-    pub fn new(alloc: Global) -> Result<Slots, NoMemory>
-        ensures { IfOk result (λ slots. slots ≡ []) }
+    pub fn new(memory: &mut Memory) -> Result<Slots, NoMemory>
+        ensures empty { IfOk result (λ slots. slots ≡ []) }
+        ensures cause { HasCause memory.old memory.new result }
     {
-        let homes = Homes::new(alloc)?;
+        let homes = Homes::new(memory)?;
         Ok(Slots {
             items: ArrayVec::new(),
             homes,

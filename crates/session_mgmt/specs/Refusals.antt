@@ -1,5 +1,5 @@
 -- What a node notes of a session that it refuses, or doesn't close.
-use Rattle.std.specs.Prelude.{ℕ, Option, Some, None}
+use Rattle.std.specs.Prelude.{ℕ, Option, Some, None, Result, Ok, Err}
 use Rattle.rpc_base.specs.declared.event.Event.{Event}
 use Rattle.rpc_base.specs.declared.event.Event.TheVariants.{NcloseBusy, NcloseState}
 use Rattle.rpc_base.specs.declared.event.Event.TheVariants.{NconnectNumbers, NconnectRing}
@@ -14,6 +14,16 @@ abbrev pub refused : ConnectError → Option Event
 refused NumbersSpent = Some NconnectNumbers
 refused (RingFull shares credits ring) = Some (NconnectRing shares credits ring)
 refused NoMemory = None
+
+-- how many refusals of memory one tells
+abbrev pub lacks_for : ConnectError → ℕ
+lacks_for NoMemory = 1
+lacks_for why = 0
+
+-- and how many the answer to a call that makes a session does
+abbrev pub lacks : Result ℕ ConnectError → ℕ
+lacks (Ok session) = 0
+lacks (Err why) = lacks_for why
 
 -- of a session that it doesn't close
 abbrev pub closing : ℕ → CloseError → Event

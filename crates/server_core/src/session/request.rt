@@ -1,6 +1,7 @@
 //! The server table: what a Request or RFR does to the session that it is for.
 ghost use Rattle.std.specs.Prelude.{◌≡◌, ℕ, false, [], ◌∷◌, Some, length};
 ghost use Rattle.buffer_pool.specs.Pool.{Pool};
+ghost use Rattle.memory_count.specs.Faults.{HasRisenBy};
 ghost use Rattle.rpc_laws.specs.Service.{is_handled};
 ghost use Rattle.rpc_laws.specs.ServerTable.{new_row, server_row};
 ghost use Rattle.rpc_outside.specs.Served.{StandsForSome};
@@ -8,6 +9,7 @@ ghost use Rattle.rpc_outside.specs.declared.service.Mode.{Mode};
 ghost use Rattle.server_core.specs.Counting.{repeated};
 ghost use Rattle.server_core.specs.Handling.{Handles, IsReady};
 ghost use Rattle.server_core.specs.KeepsPool.{KeepsPool};
+ghost use Rattle.server_core.specs.Lacks.{lacks_of};
 ghost use Rattle.server_core.specs.Noting.{packet_facts};
 ghost use Rattle.server_core.specs.Rows.{row_of};
 ghost use Rattle.server_core.specs.Scene.{at_desk, incoming};
@@ -21,12 +23,12 @@ use super::ServerSession;
 use crate::slot::{SlotRequest, makes_job};
 use crate::step::Step;
 use buffer_pool::BufferPool;
+use memory_count::Memory;
 use packet_header::MessageHeader;
 use packet_rings::{Entry, TxRing};
 use rpc_base::{DropReason, Who};
 use rpc_laws::ServerRow;
 use rpc_outside::{Mode, Recorder, Service};
-use std::alloc::Global;
 
 impl ServerSession {
     /// Handles a Request or RFR of this session, by the server table. `jobs_full` tells whether the
@@ -37,7 +39,7 @@ impl ServerSession {
     /// a drop, after which the packet may come again.
     pub fn on_packet<V: Service, R: Recorder>(
         &mut self,
-        alloc: Global,
+        memory: &mut Memory,
         pool: &mut BufferPool,
         tx: &mut TxRing,
         service: &mut V,
@@ -53,15 +55,17 @@ impl ServerSession {
         // All packets of a session are handled by services of one type.
         requires all_served { AreServed V.mode_of self.old.slots }
         requires founded { StandsForSome (V.stands service.old) }
-        ensures { Handles V.Service R.log packet_facts who (incoming head.now body.now jobs_full)
-            result (at_desk self.old pool.old tx.old service.old rec.old)
+        ensures handles { Handles V.Service R.log packet_facts who
+            (incoming head.now body.now jobs_full) result
+            (at_desk self.old pool.old tx.old service.old rec.old)
             (at_desk self.new pool.new tx.new service.new rec.new) }
+        ensures cause { HasRisenBy (lacks_of result) memory.old memory.new }
     {
         let mode = service.mode(head.req_type);
         let step = match self.row(head, mode, jobs_full) {
             ServerRow::Drops(reason) => Step::Dropped(reason),
-            ServerRow::Begins => self.begin(alloc, pool, tx, service, mode, head, body, &who, rec),
-            ServerRow::Takes => self.take(alloc, pool, service, mode, head, body, &who, rec),
+            ServerRow::Begins => self.begin(memory, pool, tx, service, mode, head, body, &who, rec),
+            ServerRow::Takes => self.take(memory, pool, service, mode, head, body, &who, rec),
             ServerRow::Repeats => {
                 let reply = self.repeat(pool, head);
                 Step::Again { reply }

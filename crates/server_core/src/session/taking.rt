@@ -3,6 +3,7 @@
 ghost use Rattle.std.specs.Prelude.{◌≡◌, ◌≢◌, ◌<◌, ◌≤◌, List, [], ◌++◌, length};
 ghost use Rattle.std.specs.Prelude.{IfSome, None, Some, true};
 ghost use Rattle.packet_header.specs.Parts.{packet_count, part_size};
+ghost use Rattle.memory_count.specs.Faults.{HasRisenBy};
 ghost use Rattle.message_buffer.specs.Buffer.{bytes_of, capacity_of};
 ghost use Rattle.packet_rings.specs.Rings.{ring};
 ghost use Rattle.packet_rings.specs.Values.{EntryValue};
@@ -11,6 +12,7 @@ ghost use Rattle.rpc_laws.specs.ServerTable.{is_last, makes_job};
 ghost use Rattle.rpc_outside.specs.declared.service.Mode.{Mode};
 ghost use Rattle.rpc_outside.specs.declared.service.Mode.TheVariants.{Unserved};
 ghost use Rattle.server_core.specs.Flushing.{replies_of, ring_after};
+ghost use Rattle.server_core.specs.Lacks.{lacks_of};
 ghost use Rattle.server_core.specs.Noting.{early_facts, first_facts};
 ghost use Rattle.server_core.specs.Replies.{CanHold};
 ghost use Rattle.server_core.specs.Serving.{next_taken};
@@ -32,12 +34,12 @@ use crate::running::{Room, make_answer, make_message, make_room};
 use crate::slot::{SlotRequest, SlotState, is_background};
 use crate::step::Step;
 use buffer_pool::BufferPool;
+use memory_count::Memory;
 use message_buffer::MsgBuf;
 use packet_header::{MessageHeader, count};
 use packet_rings::{Entry, TxRing};
 use rpc_base::{DropReason, PART_BYTES, Place, Who};
 use rpc_outside::{Mode, Recorder, Service};
-use std::alloc::Global;
 use worker_board::Parcel;
 
 impl ServerSession {
@@ -46,7 +48,7 @@ impl ServerSession {
     // slot are flushed. None is made for a short answer of a type that is handled inline.
     pub(super) fn begin<V: Service, R: Recorder>(
         &mut self,
-        alloc: Global,
+        memory: &mut Memory,
         pool: &mut BufferPool,
         tx: &mut TxRing,
         service: &mut V,
@@ -72,9 +74,10 @@ impl ServerSession {
             self.new pool.old pool.new }
         ensures short { NeedsNoMemory mode V.answer (V.stands service.old) head.now
             (whole_with head.now body.now (shown pool.old self.old)) result }
+        ensures cause { HasRisenBy (lacks_of result) memory.old memory.new }
     {
         if count(head.size) > 1 {
-            let Ok(ask) = make_message(alloc, head.size, body) else {
+            let Ok(ask) = make_message(memory, head.size, body) else {
                 return Step::Dropped(DropReason::NoMemory);
             };
             self.flush_older(pool, tx, head.request, who, rec);
@@ -82,17 +85,17 @@ impl ServerSession {
             return Step::Took { reply: Some(reply) };
         }
         if is_background(mode) {
-            let Ok(room) = make_room(alloc, service, head.req_type, body) else {
+            let Ok(room) = make_room(memory, service, head.req_type, body) else {
                 return Step::Dropped(DropReason::NoMemory);
             };
-            let Ok(ask) = make_message(alloc, head.size, body) else {
+            let Ok(ask) = make_message(memory, head.size, body) else {
                 return Step::Dropped(DropReason::NoMemory);
             };
             self.flush_older(pool, tx, head.request, who, rec);
             self.begin_working(pool, head);
             return Step::Give(self.parcel(head, ask, room));
         }
-        let Ok(room) = Room::of(alloc, service.room(head.req_type, body)) else {
+        let Ok(room) = Room::of(memory, service.room(head.req_type, body)) else {
             return Step::Dropped(DropReason::NoMemory);
         };
         self.flush_older(pool, tx, head.request, who, rec);
@@ -125,7 +128,7 @@ impl ServerSession {
     // is handled inline.
     pub(super) fn take<V: Service, R: Recorder>(
         &mut self,
-        alloc: Global,
+        memory: &mut Memory,
         pool: &mut BufferPool,
         service: &mut V,
         mode: Mode,
@@ -148,6 +151,7 @@ impl ServerSession {
             (entries ++ replies_of result) self.old self.new pool.old pool.new }
         ensures short { NeedsNoMemory mode V.answer (V.stands service.old) head.now
             (whole_with head.now body.now (shown pool.old self.old)) result }
+        ensures cause { HasRisenBy (lacks_of result) memory.old memory.new }
     {
         let Some(request) = self.newest(head.request) else {
             unreachable!()
@@ -167,13 +171,13 @@ impl ServerSession {
         let whole = pool.get(place).bytes();
         let size = service.room(head.req_type, whole);
         if is_background(mode) {
-            let Ok(room) = make_answer(alloc, size) else {
+            let Ok(room) = make_answer(memory, size) else {
                 return Step::Dropped(DropReason::NoMemory);
             };
             let ask = self.take_working(pool, request, place);
             return Step::Give(self.parcel(head, ask, room));
         }
-        let Ok(room) = Room::of(alloc, size) else {
+        let Ok(room) = Room::of(memory, size) else {
             return Step::Dropped(DropReason::NoMemory);
         };
         let ask = self.take_working(pool, request, place);

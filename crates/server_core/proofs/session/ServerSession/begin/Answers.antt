@@ -26,7 +26,7 @@ returns-then-count-gt1-clause-leaves g c =
         answer = [];
         steps = took-begun v c.args.head.now c.args.body.now none
             ∙ ap (λ x. begun_with x v ∷ []) (first-took c.args.head.now c.args.body.now c.in-Ok.ask
-            c.in-Ok.ensures c.requires.ready.beginning.long)
+            c.in-Ok.ensures.message c.requires.ready.beginning.long)
             ∙ ap (λ w. w ∷ []) (sym (c.begin_first-reply.ensures.shown
             ∙ ap (begun_with _) c.flush_older.ensures.shown));
         by_service = tt;
@@ -63,7 +63,7 @@ returns-then-is_background-clause-leaves g c =
       packet_count_above c.args.head.now.size,
     ) in
     let own = whole-first c.args.head.now.size c.args.body.now c.in-Ok-make_message.ask
-    c.in-Ok-make_message.ensures c.requires.ready.beginning.long one in
+    c.in-Ok-make_message.ensures.message c.requires.ready.beginning.long one in
     record {
       handled = record {
         answer = [];

@@ -10,9 +10,10 @@ use Rattle.server_core.specs.Session.{newest}
 use Rattle.server_core.specs.Shown.{shown}
 use Rattle.server_core.specs.declared.step.Step.TheVariants.{Again, Dropped}
 use Rattle.server_core.specs.Steps.{asked_with}
+use Rattle.memory_count.proofs.Risen.{none-risen}
 use Rattle.server_core.proofs.FlushLemmas.{grew-none}
 use Rattle.server_core.proofs.HandlingLemmas.{dropped-leaves, handles-by, handles-noted}
-use Rattle.server_core.proofs.LackLemmas.{row-has}
+use Rattle.server_core.proofs.LackLemmas.{drop-risen, row-has}
 use Rattle.server_core.proofs.StaysLemmas.{replies-still, same-places, same-replies}
 use Rattle.server_core.proofs.TableLemmas.{row-begins}
 use Rattle.server_core.proofs.session.ServerSession.on_packet.Goals as goal
@@ -32,8 +33,8 @@ begin-step-requires-clause-ready g c =
           c.requires.asking (sym c.in-Begins.ensures.row)).0;
     }
 
-pub returns : goal.returns
-returns g c =
+pub returns-clause-handles : goal.returns-clause-handles
+returns-clause-handles g c =
     let v = g.V.Service in
     let log = g.R.Recorder.log in
     let who = c.args.who in
@@ -106,3 +107,16 @@ returns g c =
           (r.ensures.replies.stays.replies tx.items) (λ inline last fits same. cc)))
     ] in
     handles-noted v log who packet m.step before after did c.note.new.rec c.note.ensures
+
+pub returns-clause-cause : goal.returns-clause-cause
+returns-clause-cause g c =
+    let h = c.args.head.now in
+    elim c.match-row.branch [
+      | in-Drops w ↦ (rw (w.memory-is, w.step-is) (drop-risen w.in-Drops.reason c.args.memory.now
+          (λ why. row-has c.mode-mode.result c.args.jobs_full
+          (option_map as_newest (newest h.request c.args.self.now)) h
+          (sym w.in-Drops.ensures.row ∙ ap Drops why))))
+      | in-Begins w ↦ (rw (w.memory-is, w.step-is) w.begin-step.ensures.cause)
+      | in-Takes w ↦ (rw (w.memory-is, w.step-is) w.take-step.ensures.cause)
+      | in-Repeats w ↦ (rw (w.memory-is, w.step-is) (none-risen c.args.memory.now))
+    ]

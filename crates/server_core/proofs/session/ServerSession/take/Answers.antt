@@ -289,9 +289,9 @@ returns-then-is_background-clause-leaves g c =
         request = refl;
         req_type = refl;
         ask = own ∙ sym asked;
-        room = λ served stands. rw (own, ← ask_is, c.in-Ok.ensures.0)
+        room = λ served stands. rw (own, ← ask_is, c.in-Ok.ensures.room.0)
             (c.room-size.ensures.length served stands);
-        most = rw c.in-Ok.ensures.0 c.room-size.ensures.most;
+        most = rw c.in-Ok.ensures.room.0 c.room-size.ensures.most;
       });
       no_bytes = tt;
       service = refl;
