@@ -2,6 +2,7 @@
 ghost use Rattle.std.specs.Prelude.{◌≡◌, ◌<◌, length, slice_get, IfSome};
 ghost use Rattle.std.specs.List.{AllByRecursion, position};
 ghost use Rattle.rpc_outside.specs.Served.{StandsForSome};
+ghost use Rattle.memory_count.specs.Faults.{HasRisenBy};
 ghost use Rattle.buffer_pool.specs.Pool.{spare_of};
 ghost use Rattle.client_core.specs.KeepsPool.{IsHeld};
 ghost use Rattle.message_buffer.specs.Buffer.{bytes_of};
@@ -16,18 +17,19 @@ ghost use Rattle.session_store.specs.Sides.{Rises, has_number, numbers_in};
 ghost use Rattle.server_core.specs.Flushing.{replies_of};
 ghost use Rattle.server_core.specs.Serving.{IsUnheld};
 ghost use Rattle.server_core.specs.Handling.{Handles};
+ghost use Rattle.server_core.specs.Lacks.{lacks_of};
 ghost use Rattle.server_core.specs.Noting.{packet_facts};
 ghost use Rattle.server_core.specs.Scene.{at_desk, incoming};
 ghost use Rattle.server_core.specs.Session.{IsSession};
 ghost use Rattle.server_core.specs.Steps.{IsAsking};
 
 use buffer_pool::BufferPool;
+use memory_count::Memory;
 use packet_header::{Life, MessageHeader};
 use packet_rings::{Entry, TxRing};
 use rpc_base::{HEAD_BYTES, Peer, SessionNo, Who};
 use rpc_outside::{Recorder, Service};
 use server_core::{ServerSession, Step};
-use std::alloc::Global;
 use worker_board::Parcel;
 
 /// What never changes of a server session.
@@ -163,9 +165,9 @@ pub fn end_at(servers: &mut Vec<ServerSession>, i: usize, pool: &mut BufferPool)
 
 /// The server session at place `i` handles a Request or RFR. Its reply is to be put into the ring.
 pub fn asked_at<V: Service, R: Recorder>(
+    memory: &mut Memory,
     servers: &mut Vec<ServerSession>,
     i: usize,
-    alloc: Global,
     pool: &mut BufferPool,
     tx: &mut TxRing,
     service: &mut V,
@@ -189,9 +191,10 @@ pub fn asked_at<V: Service, R: Recorder>(
         (at_desk v pool.old tx.old service.old rec.old)
         (at_desk w pool.new tx.new service.new rec.new)) servers.old.items servers.new.items }
     ensures sound { IfSome (slice_get servers.new.items i) IsSession }
+    ensures cause { HasRisenBy (lacks_of result) memory.old memory.new }
 {
     let server = &mut servers[i];
-    let step = server.on_packet(alloc, pool, tx, service, head, body, jobs_full, who, rec);
+    let step = server.on_packet(memory, pool, tx, service, head, body, jobs_full, who, rec);
     server.sound();
     step
 }

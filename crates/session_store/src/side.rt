@@ -2,6 +2,7 @@
 ghost use Rattle.std.specs.Prelude.{◌≡◌, ◌<◌, ◌≤◌, length, slice_get, IfErr, IfSome, IsSome, OnErr};
 ghost use Rattle.std.specs.Prelude.{OnOk};
 ghost use Rattle.std.specs.List.{AllByRecursion};
+ghost use Rattle.memory_count.specs.Faults.{HasCause};
 ghost use Rattle.buffer_pool.specs.Pool.{spare_of};
 ghost use Rattle.client_core.specs.KeepsPool.{IsHeld};
 ghost use Rattle.client_core.specs.Replies.{IsUnheld, NextIsUnheld, call_as};
@@ -17,6 +18,7 @@ ghost use Rattle.session_store.specs.Sides.{IsOfSide, MayPost, SideKept, life_at
 use crate::stage::Stage;
 use buffer_pool::BufferPool;
 use client_core::{ClientSession, Done, Reply, Timer};
+use memory_count::Memory;
 use packet_header::{Life, MessageHeader};
 use packet_rings::Entry;
 use rpc_base::{
@@ -136,8 +138,13 @@ pub fn flushed_at(sides: &mut Vec<Side>, i: usize, pool: &mut BufferPool, entry:
     side.session.flushed(pool, entry);
 }
 
-/// A call waits on session `i`. Err is want of memory, with the call back.
-pub fn enqueue_at(sides: &mut Vec<Side>, i: usize, waiting: Waiting) -> Result<(), Waiting>
+/// A call waits on session `i`. Err comes only where memory was refused, and hands the call back.
+pub fn enqueue_at(
+    memory: &mut Memory,
+    sides: &mut Vec<Side>,
+    i: usize,
+    waiting: Waiting,
+) -> Result<(), Waiting>
     requires known { i < length sides.old.items }
     requires message { waiting.req.len ≤ MOST_MESSAGE_BYTES }
     requires turns { IfSome (slice_get sides.old.items i)
@@ -145,9 +152,10 @@ pub fn enqueue_at(sides: &mut Vec<Side>, i: usize, waiting: Waiting) -> Result<(
     ensures waits { OnOk result (SideWaits i waiting sides.old.items sides.new.items) }
     ensures unchanged { OnErr result (sides.new.items ≡ sides.old.items) }
     ensures handed_back { IfErr result (λ back. back ≡ waiting) }
+    ensures cause { HasCause memory.old memory.new result }
 {
     let side = &mut sides[i];
-    side.session.enqueue(waiting)
+    side.session.enqueue(memory, waiting)
 }
 
 /// Session `i` handles a reply to one of its calls at `now`. `is_waiting` tells whether the call's

@@ -1,5 +1,6 @@
 //! The sessions of an endpoint, with the pool, the ring and the pacer that they share.
 ghost use Rattle.std.specs.Prelude.{◌≡◌, ◌<◌, ◌*◌, IfOk};
+ghost use Rattle.memory_count.specs.Faults.{HasCause};
 ghost use Rattle.session_store.specs.Sides.{no_sessions};
 
 mod clients;
@@ -13,11 +14,11 @@ mod timers;
 use crate::side::Side;
 use buffer_pool::BufferPool;
 pub use control::OwnRequests;
+use memory_count::{Memory, NoMemory};
 use pacing_wheel::Pacer;
 use packet_rings::TxRing;
-use rpc_base::{MOST_REFERENCES, NoMemory};
+use rpc_base::MOST_REFERENCES;
 use server_core::ServerSession;
-use std::alloc::Global;
 use std::marker::Model;
 
 /// All sessions, one pool for the buffers of their calls and requests, and one queue for their
@@ -35,8 +36,6 @@ pub struct Store {
     shares: u32,
     // The codes of the server sessions, in rising order.
     ends: Vec<u128>,
-    // What a server session is made by.
-    alloc: Global,
 }
 
 impl Model for Store {
@@ -59,24 +58,24 @@ impl Model for Store {
 
 impl Store {
     /// A store with no session, whose ring has room for twice `ring` packets, fewer than 2^32 - 1,
-    /// and whose pacer for `ring`; its pool has so many places. `NoMemory` comes where there is no
-    /// memory for them.
-    pub fn new(alloc: Global, ring: u32, places: u32) -> Result<Store, NoMemory>
+    /// and whose pacer for `ring`; its pool has so many places. `NoMemory` comes only where
+    /// memory was refused.
+    pub fn new(memory: &mut Memory, ring: u32, places: u32) -> Result<Store, NoMemory>
         requires few { 2 * ring < MOST_REFERENCES }
-        ensures { IfOk result (λ s. s ≡ no_sessions (2 * ring) places) }
+        ensures made { IfOk result (λ s. s ≡ no_sessions (2 * ring) places) }
+        ensures cause { HasCause memory.old memory.new result }
     {
-        let pool = BufferPool::new(alloc, places)?;
-        let tx = TxRing::new(alloc, 2 * ring)?;
-        let pacer = Pacer::new(alloc, ring)?;
+        let pool = BufferPool::new(memory, places)?;
+        let tx = TxRing::new(memory, 2 * ring)?;
+        let pacer = Pacer::new(memory, ring)?;
         Ok(Store {
             pool,
             tx,
             pacer,
-            sides: Vec::new(alloc),
-            servers: Vec::new(alloc),
+            sides: Vec::new(memory.alloc()),
+            servers: Vec::new(memory.alloc()),
             shares: 0,
-            ends: Vec::new(alloc),
-            alloc,
+            ends: Vec::new(memory.alloc()),
         })
     }
 }

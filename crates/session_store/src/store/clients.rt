@@ -3,6 +3,7 @@ ghost use Rattle.std.specs.Prelude.{◌≡◌, ◌<◌, ◌≤◌, ◌+◌, ◌*
 ghost use Rattle.std.specs.Prelude.{option_and_then, option_map, slice_get, IfErr, IfSome, OnErr};
 ghost use Rattle.std.specs.Prelude.{IsSome, List, OnOk};
 ghost use Rattle.std.specs.List.{AllByRecursion, list_any};
+ghost use Rattle.memory_count.specs.Faults.{HasCause};
 ghost use Rattle.rpc_base.specs.declared.owner.Owner.TheVariants.{Ask};
 ghost use Rattle.rpc_base.specs.declared.state.SessionState.TheVariants.{Connected};
 ghost use Rattle.rpc_laws.specs.Groups.{state_of, told_state};
@@ -32,15 +33,15 @@ use crate::line::{holds_in, put_in};
 use crate::side::{Side, begin_at, enqueue_at, heard_at, post_at};
 use crate::stage::Stage;
 use client_core::{Active, ClientSession, Reply};
+use memory_count::{Memory, NoMemory};
 use packet_header::{Life, MessageHeader};
 use packet_rings::Entry;
 use rpc_base::{
     CallNo, DropReason, HEAD_BYTES, MOST_CALLS, MOST_CREDITS, MOST_DATAGRAM_BYTES,
-    MOST_MESSAGE_BYTES, MOST_SESSIONS, NoMemory, Owner, PART_BYTES, Peer, RequestNo,
-    SESSION_NUMBERS, SessionNo, SessionState,
+    MOST_MESSAGE_BYTES, MOST_SESSIONS, Owner, PART_BYTES, Peer, RequestNo, SESSION_NUMBERS,
+    SessionNo, SessionState,
 };
 use session_slots::Waiting;
-use std::alloc::Global;
 
 // The state of a session at this stage, on which so many calls were asked.
 fn state_at(stage: &Stage, asked: u64) -> SessionState
@@ -93,10 +94,10 @@ impl Store {
 
     /// A client session is made that is connected from the start, with 1 to 256 credits; its number
     /// is its place, the server's is below 65,535, and the life of the server's endpoint isn't 0.
-    /// `NoMemory` comes where there is no memory for it.
+    /// `NoMemory` comes only where memory was refused.
     pub fn pair_client(
         &mut self,
-        alloc: Global,
+        memory: &mut Memory,
         peer: Peer,
         life: Life,
         server: SessionNo,
@@ -107,18 +108,19 @@ impl Store {
         requires server { server < SESSION_NUMBERS }
         requires some { 1 ≤ credits }
         requires most { credits ≤ MOST_CREDITS }
-        ensures { MakesClient (client_end (length self.old.clients) peer server credits life) result
-            self.old self.new }
+        ensures made { MakesClient (client_end (length self.old.clients) peer server credits life)
+            result self.old self.new }
+        ensures cause { HasCause memory.old memory.new result }
     {
         let shares = self.shares_with(credits);
         let number = SessionNo(self.sides.len() as u16);
-        let session = ClientSession::new(alloc, number, server, life, credits);
+        let session = ClientSession::new(memory.alloc(), number, server, life, credits);
         let side = Side {
             peer,
             stage: Stage::Connected,
             session,
         };
-        self.sides.push(side)?;
+        memory.push(&mut self.sides, side)?;
         self.shares = shares;
         Ok(())
     }
@@ -164,9 +166,9 @@ impl Store {
     }
 
     /// A call is asked on session `i`, which is Connected: it waits behind the session's others,
-    /// whose numbers are lower. Its request has at most 1,048,576 bytes. Err is want of memory,
-    /// with the call back.
-    pub fn ask(&mut self, i: usize, waiting: Waiting) -> Result<(), Waiting>
+    /// whose numbers are lower. Its request has at most 1,048,576 bytes. Err comes only where
+    /// memory was refused, and hands the call back.
+    pub fn ask(&mut self, memory: &mut Memory, i: usize, waiting: Waiting) -> Result<(), Waiting>
         requires known { i < length self.old.clients }
         requires message { waiting.req.len ≤ MOST_MESSAGE_BYTES }
         requires connected { state_of (slice_get self.old.clients i) ≡ Connected }
@@ -176,8 +178,9 @@ impl Store {
             (HandsInAt i (handed_waiting waiting)) self.old self.new) }
         ensures unchanged { OnErr result (self.new ≡ self.old) }
         ensures handed_back { IfErr result (λ back. back ≡ waiting) }
+        ensures cause { HasCause memory.old memory.new result }
     {
-        enqueue_at(&mut self.sides, i, waiting)
+        enqueue_at(memory, &mut self.sides, i, waiting)
     }
 
     /// How long the datagram of this packet of an active call of session `i` is, in bytes.

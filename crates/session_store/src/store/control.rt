@@ -1,6 +1,7 @@
 //! Client sessions are opened, connected and closed.
 ghost use Rattle.std.specs.Prelude.{◌≡◌, ◌<◌, ◌≤◌, ◌+◌, ◌^◌, ◌++◌, [], ◌∷◌, length, slice_get};
 ghost use Rattle.std.specs.Prelude.{IfSome};
+ghost use Rattle.memory_count.specs.Faults.{HasCause};
 ghost use Rattle.rpc_base.specs.declared.state.SessionState.TheVariants.{Closed, Closing};
 ghost use Rattle.rpc_base.specs.declared.state.SessionState.TheVariants.{Connecting, Failed};
 ghost use Rattle.rpc_laws.specs.Sessions.{comes_to, connects, opened_end};
@@ -14,9 +15,9 @@ use super::Store;
 use crate::side::{ClientEnd, Side};
 use crate::stage::Stage;
 use client_core::ClientSession;
+use memory_count::{Memory, NoMemory};
 use packet_header::{FIRST_LIFE, Life};
-use rpc_base::{MOST_CREDITS, NoMemory, Peer, SESSION_NUMBERS, SessionNo};
-use std::alloc::Global;
+use rpc_base::{MOST_CREDITS, Peer, SESSION_NUMBERS, SessionNo};
 
 /// The requests of its own that a client session sent.
 #[derive(Clone, Copy, Debug)]
@@ -28,18 +29,25 @@ pub struct OwnRequests {
 
 impl Store {
     /// A client session is opened to a peer, with 1 to 256 credits: it is Connecting, and its
-    /// number is its place. `NoMemory` comes where there is no memory for it.
-    pub fn open(&mut self, alloc: Global, peer: Peer, credits: u16) -> Result<(), NoMemory>
+    /// number is its place. `NoMemory` comes only where memory was refused.
+    pub fn open(&mut self, memory: &mut Memory, peer: Peer, credits: u16) -> Result<(), NoMemory>
         requires numbers { length self.old.clients < SESSION_NUMBERS }
         requires some { 1 ≤ credits }
         requires most { credits ≤ MOST_CREDITS }
-        ensures { MakesClient (opened_end (length self.old.clients) peer credits) result self.old
-            self.new }
+        ensures made { MakesClient (opened_end (length self.old.clients) peer credits) result
+            self.old self.new }
+        ensures cause { HasCause memory.old memory.new result }
     {
         let shares = self.shares_with(credits);
         let number = SessionNo(self.sides.len() as u16);
         // The server's number and its life aren't known yet, and aren't shown.
-        let session = ClientSession::new(alloc, number, SessionNo(0), Life(FIRST_LIFE), credits);
+        let session = ClientSession::new(
+            memory.alloc(),
+            number,
+            SessionNo(0),
+            Life(FIRST_LIFE),
+            credits,
+        );
         let side = Side {
             peer,
             stage: Stage::Connecting {
@@ -48,7 +56,7 @@ impl Store {
             },
             session,
         };
-        self.sides.push(side)?;
+        memory.push(&mut self.sides, side)?;
         self.shares = shares;
         Ok(())
     }

@@ -2,11 +2,13 @@
 ghost use Rattle.std.specs.Prelude.{◌≡◌, ◌<◌, ◌≤◌, ◌+◌, ◌*◌, ◌++◌, [], ◌∷◌, None, length, slice_get};
 ghost use Rattle.std.specs.Prelude.{IfSome};
 ghost use Rattle.std.specs.List.{AllByRecursion, position};
+ghost use Rattle.memory_count.specs.Faults.{HasCause, HasRisenBy};
 ghost use Rattle.rpc_outside.specs.Served.{StandsForSome};
 ghost use Rattle.message_buffer.specs.Buffer.{bytes_of};
 ghost use Rattle.packet_header.specs.Parts.{IsMessage};
 ghost use Rattle.rpc_laws.specs.ControlTable.{is_end_of, is_older};
 ghost use Rattle.rpc_laws.specs.Requests.{is_server, server_end};
+ghost use Rattle.server_core.specs.Lacks.{lacks_of};
 ghost use Rattle.server_core.specs.Steps.{IsAsking, UnlessRan};
 ghost use Rattle.session_store.specs.Serving.{AreServedAt, HandlesAt};
 ghost use Rattle.session_store.specs.Changes.{IsEnd};
@@ -16,12 +18,12 @@ ghost use Rattle.session_store.specs.Leaving.{FinishesServer, MakesServer};
 use super::Store;
 use crate::ends::{code_at, end_in, older_in, place_in};
 use crate::server::{ServerEnd, asked_at, finished_at, place_of, reply_of};
+use memory_count::{Memory, NoMemory};
 use packet_header::{Life, MessageHeader};
 use packet_rings::Entry;
-use rpc_base::{MOST_CREDITS, NoMemory, NodeId, Peer, SESSION_NUMBERS, SessionNo, Who};
+use rpc_base::{MOST_CREDITS, NodeId, Peer, SESSION_NUMBERS, SessionNo, Who};
 use rpc_outside::{Recorder, Service};
 use server_core::{ServerSession, Step};
-use std::alloc::Global;
 use worker_board::Parcel;
 
 impl Store {
@@ -80,9 +82,10 @@ impl Store {
 
     /// A server session is made that is connected from the start, with 1 to 256 credits. Its number
     /// is above those of the others, the client's is below 65,535, and the life of the client's
-    /// endpoint isn't 0. `NoMemory` comes where there is no memory for it.
+    /// endpoint isn't 0. `NoMemory` comes only where memory was refused.
     pub fn pair_server(
         &mut self,
+        memory: &mut Memory,
         number: SessionNo,
         client: SessionNo,
         peer: Peer,
@@ -95,16 +98,18 @@ impl Store {
         requires alive { 1 ≤ life }
         requires some { 1 ≤ credits }
         requires most { credits ≤ MOST_CREDITS }
-        ensures { MakesServer (server_end number peer client credits life) result self.old
+        ensures made { MakesServer (server_end number peer client credits life) result self.old
             self.new }
+        ensures cause { HasCause memory.old memory.new result }
     {
         let shares = self.shares_with(credits);
-        let session = ServerSession::new(self.alloc, number, client, life, peer, credits)?;
-        // There is room for the session before anything changes.
-        self.servers.reserve(1)?;
+        let session = ServerSession::new(memory, number, client, life, peer, credits)?;
         let code = code_at(peer, life, client, number);
         let place = place_in(&self.ends, code);
-        self.ends.insert(place, code)?;
+        // There is room for the session before anything changes.
+        memory.of(self.servers.reserve(1))?;
+        memory.of(self.ends.reserve(1))?;
+        self.ends.insert(place, code).unwrap();
         self.servers.push(session).unwrap();
         self.shares = shares;
         Ok(())
@@ -117,7 +122,7 @@ impl Store {
     /// which the packet may come again.
     pub fn on_packet<V: Service, R: Recorder>(
         &mut self,
-        alloc: Global,
+        memory: &mut Memory,
         i: usize,
         service: &mut V,
         head: &MessageHeader,
@@ -143,11 +148,12 @@ impl Store {
         ensures places { self.new.places ≡ self.old.places }
         ensures service { UnlessRan result (service.new ≡ service.old) }
         ensures all_served { AreServedAt V.mode_of i self.new.servers }
+        ensures cause { HasRisenBy (lacks_of result) memory.old memory.new }
     {
         let step = asked_at(
+            memory,
             &mut self.servers,
             i,
-            alloc,
             &mut self.pool,
             &mut self.tx,
             service,

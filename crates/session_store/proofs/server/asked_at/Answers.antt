@@ -40,7 +40,7 @@ returns-clause-handles g c =
       server = x;
       at = get-there c.args.servers.now.items c.args.i x c.requires.known c.index_mut-server.ensures.value;
       later = c.on_packet-step.new.self;
-      step = c.on_packet-step.ensures;
+      step = c.on_packet-step.ensures.handles;
       changed = refl;
     }
 
