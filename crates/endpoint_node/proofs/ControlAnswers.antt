@@ -50,9 +50,10 @@ use Rattle.node_laws.proofs.FlushLemmas.{no-more-same, slots-flushed}
 use Rattle.node_laws.proofs.ControlLemmas.{unless-disowns}
 use Rattle.rpc_outside.specs.declared.service.Mode.{Mode}
 use Rattle.endpoint_node.specs.Fits.{HasCredit, IsCredit}
+use Rattle.endpoint_node.specs.Lacks.{is_lack, lacks_in}
 use Rattle.endpoint_node.specs.Requests.{AllServed, SlotsServed}
 use Rattle.endpoint_node.proofs.NoteStill.{AllStill, still-append}
-use Rattle.endpoint_node.proofs.NoteCounts.{flushes-none}
+use Rattle.endpoint_node.proofs.NoteCounts.{flushes-none, many-none}
 
 -- each slot of a session
 abbrev slots : List ℕ
@@ -69,14 +70,15 @@ pub record IsSilent (q : Event → Bool) : Type 0 where
   pub failed : (client : ℕ) → q (FailedNoRoom client) ≡ false
   pub closed : (client : ℕ) → q (ClosedHeard client) ≡ false
 
-module _ (q : Event → Bool) (silent : IsSilent q) where
+module _ (q : Event → Bool) (flushed : (o : Owner) (k : ℕ) → q (Flushed o k) ≡ false)
+    (ended : (t : ℕ) → q (Ended t) ≡ false) where
   slots-still : (me : ℕ) (queued : List Queued) (v : Server) (ns : List ℕ)
       → AllStill q (flat_map (λ n. flushes me queued v.way.number (find (in_slot_of n) v.slots)) ns)
   slots-still me queued v [] = tt
   slots-still me queued v (n ∷ ns) =
       still-append q (flushes me queued v.way.number (find (in_slot_of n) v.slots))
       (flat_map (λ m. flushes me queued v.way.number (find (in_slot_of m) v.slots)) ns)
-      (flushes-none q silent.flushed me queued v.way.number (find (in_slot_of n) v.slots))
+      (flushes-none q flushed me queued v.way.number (find (in_slot_of n) v.slots))
       (slots-still me queued v ns)
 
   pub end-still : (me : ℕ) (queued : List Queued) (o : Option Server)
@@ -84,8 +86,9 @@ module _ (q : Event → Bool) (silent : IsSilent q) where
   end-still me queued None = tt
   end-still me queued (Some v) =
       still-append q (session_flushes me queued v) (plain me (Ended v.way.number) ∷ [])
-      (slots-still me queued v slots) (silent.ended v.way.number, tt)
+      (slots-still me queued v slots) (ended v.way.number, tt)
 
+module _ (q : Event → Bool) (silent : IsSilent q) where
   pub row-still : (s : Lists) (peer : ℕ) (h : ControlHeader) (row : ControlRow)
       → AllStill q (control_facts s peer h row)
   row-still s peer h Ignores = tt
@@ -94,12 +97,35 @@ module _ (q : Event → Bool) (silent : IsSilent q) where
   row-still s peer h Starves = (silent.starved peer h.client h.credits, tt)
   row-still s peer h (Accepts t) = (silent.accepted t peer h.client h.credits h.from_life, tt)
   row-still s peer h Ends =
-      end-still s.me s.queued (named_end peer h.client h.from_life h.server s.servers)
+      end-still q silent.flushed silent.ended s.me s.queued
+      (named_end peer h.client h.from_life h.server s.servers)
   row-still s peer h Misses = tt
   row-still s peer h (Connects t) = (silent.connected h.client t h.from_life, tt)
   row-still s peer h Disowns = tt
   row-still s peer h Fails = (silent.failed h.client, tt)
   row-still s peer h Closes = (silent.closed h.client, tt)
+
+-- how many refusals of memory a row tells
+abbrev pub row_lacks : ControlRow → ℕ
+row_lacks Starves = 1
+row_lacks row = 0
+
+pub lacks-row : (s : Lists) (peer : ℕ) (h : ControlHeader) (row : ControlRow)
+    → lacks_in (control_facts s peer h row) ≡ row_lacks row
+lacks-row s peer h Ignores = refl
+lacks-row s peer h (Confirms t credits) = refl
+lacks-row s peer h Declines = refl
+lacks-row s peer h Starves = refl
+lacks-row s peer h (Accepts t) = refl
+lacks-row s peer h Ends =
+    let end = named_end peer h.client h.from_life h.server s.servers in
+    many-none is_lack (session_end s.me s.queued end)
+    (end-still is_lack (λ o k. refl) (λ t. refl) s.me s.queued end)
+lacks-row s peer h Misses = refl
+lacks-row s peer h (Connects t) = refl
+lacks-row s peer h Disowns = refl
+lacks-row s peer h Fails = refl
+lacks-row s peer h Closes = refl
 
 -- the receive ring stays, and so do the requests of the server sessions that are left
 pub record StaysBut (s t : Lists) : Type 0 where

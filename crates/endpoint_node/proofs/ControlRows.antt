@@ -1,6 +1,6 @@
 -- What a row of the control rule does at a node.
 use Rattle.std.proofs.Common.{◌≡◌, ℕ, ◌<◌, Bool, true, false, not, ◌||◌, Option, Some, None}
-use Rattle.std.proofs.Common.{[], ◌∷◌, length, refl, sym, ap, ◌∙◌, arith}
+use Rattle.std.proofs.Common.{[], ◌∷◌, length, refl, sym, ap, subst, ◌∙◌, arith}
 use Rattle.std.specs.Prelude.{option_map, slice_get}
 use Rattle.std.proofs.lemmas.Option.{slice_get_within}
 use Rattle.rpc_base.specs.declared.event.Event.{Event}
@@ -26,20 +26,25 @@ use Rattle.rpc_laws.specs.ControlTable.{named_end, outdated, outdated_by, sessio
 use Rattle.rpc_laws.specs.Facts.{plain}
 use Rattle.rpc_laws.specs.Groups.{has_no_room, server_refusal, servers_spent, told_state}
 use Rattle.rpc_laws.specs.Steps.{Goes, NotesNext}
+use Rattle.memory_count.specs.Faults.{HasRisenBy}
+use Rattle.memory_count.proofs.Risen.{none-risen}
 use Rattle.rpc_outside.specs.Recording.{Grew, Log}
 use Rattle.node_laws.specs.Valid.{NumberedFrom, client_no}
 use Rattle.server_core.proofs.FlushLemmas.{grew-none}
 use Rattle.session_mgmt.specs.Control.{ChangesOwn, accepts, found_in, own_end}
 use Rattle.session_mgmt.specs.declared.control.OwnEnd.{OwnEnd}
 use Rattle.session_store.specs.Changes.{IsInState}
+use Rattle.endpoint_node.specs.Changes.{Change}
 use Rattle.endpoint_node.specs.ControlRows.{Acts, Controls}
 use Rattle.endpoint_node.specs.Ends.{ending}
 use Rattle.endpoint_node.specs.Fits.{IsCredit}
+use Rattle.endpoint_node.specs.Lacks.{lacks_in}
 use Rattle.endpoint_node.specs.Notes.{Makes}
 use Rattle.endpoint_node.specs.Seen.{Asks, asking}
 use Rattle.endpoint_node.specs.Timers.{Notes}
 use Rattle.endpoint_node.proofs.CallSteps.{client-by}
 use Rattle.endpoint_node.proofs.CallStates.{told-closing, told-connecting}
+use Rattle.endpoint_node.proofs.ControlAnswers.{lacks-row, row_lacks}
 use Rattle.endpoint_node.proofs.ControlRemoval.{server-there}
 
 -- a row that is done is a step of the control rule, whatever the jobs that are out ask
@@ -53,10 +58,11 @@ module _ {R : Type 0} (log : R → Log) (before now : R) (peer : ℕ) (h : Contr
   row-by lacks asks DisconnectRequest = refl
   row-by lacks asks DisconnectReply = refl
 
-  pub acts-controls : (lacks : Bool) → control_row lacks peer h s.lists ≡ row
+  pub acts-controls : (memory : Change ℕ) (lacks : Bool) → control_row lacks peer h s.lists ≡ row
+      → HasRisenBy (row_lacks row) memory.old memory.new
       → Makes log (Acts row peer h) s t before now
-      → Makes log (Controls peer h (control_reply s.lists.life h row)) s t before now
-  acts-controls lacks is made = record {
+      → Makes log (Controls peer h (control_reply s.lists.life h row) memory) s t before now
+  acts-controls memory lacks is risen made = record {
     noted = made.noted;
     grew = made.grew;
     step = λ asks.
@@ -70,6 +76,8 @@ module _ {R : Type 0} (log : R → Log) (before now : R) (peer : ℕ) (h : Contr
             answer = refl;
             goes = step.goes;
           });
+          wants = subst (λ (n : ℕ). HasRisenBy n memory.old memory.new)
+              (sym (ap lacks_in step.facts ∙ lacks-row (asking asks s).lists peer h row)) risen;
         };
   }
 
@@ -92,6 +100,12 @@ module _ {R : Type 0} (log : R → Log) (before now : R) (peer : ℕ) (h : Contr
     where
       some-same : (a b : Event) → Some a ≡ Some b → a ≡ b
       some-same a b e = cc
+
+-- a row that wants no memory
+pub wants-none : (n : ℕ) (row is : ControlRow) → row ≡ is → row_lacks is ≡ 0
+    → HasRisenBy (row_lacks row) n n
+wants-none n row is same none =
+    subst (λ (k : ℕ). HasRisenBy k n n) (sym (ap row_lacks same ∙ none)) (none-risen n)
 
 -- an event is noted by which nothing changes
 pub acts-told : {R : Type 0} (log : R → Log) (before now : R) (peer : ℕ) (h : ControlHeader)

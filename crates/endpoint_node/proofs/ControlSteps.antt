@@ -12,7 +12,7 @@ use Rattle.packet_header.proofs.Readings.{spells-decoded}
 use Rattle.rpc_base.specs.Owners.{same_owner}
 use Rattle.rpc_base.specs.Tables.{without_first}
 use Rattle.rpc_base.specs.declared.event.Event.{Event}
-use Rattle.rpc_base.specs.declared.event.Event.TheVariants.{Heard}
+use Rattle.rpc_base.specs.declared.event.Event.TheVariants.{Ended, Flushed, Heard}
 use Rattle.rpc_base.specs.declared.fact.Fact.{Fact}
 use Rattle.rpc_base.specs.declared.limits.TheConstants.{SESSION_NUMBERS}
 use Rattle.rpc_base.specs.declared.owner.Owner.{Owner}
@@ -35,17 +35,20 @@ use Rattle.rpc_laws.specs.Sessions.{clients_told}
 use Rattle.rpc_laws.specs.Steps.{Chain, Goes, Rel, Then, Until, more, none}
 use Rattle.rpc_laws.proofs.RunLemmas.{after_all-append, me-after_all}
 use Rattle.node_laws.specs.Valid.{to_come}
-use Rattle.rpc_outside.specs.Faults.{HasCause, HasRisen}
+use Rattle.memory_count.specs.Faults.{HasCause, HasRisen, HasRisenBy}
+use Rattle.memory_count.proofs.Risen.{both-risen, none-risen}
 use Rattle.rpc_outside.specs.Linking.{Carried}
 use Rattle.rpc_outside.specs.Recording.{Grew, Log}
 use Rattle.rpc_outside.specs.declared.service.Mode.{Mode}
 use Rattle.rpc_outside.specs.declared.link.Link as Link
 use Rattle.server_core.proofs.FlushLemmas.{grew-none, grew-then}
+use Rattle.endpoint_node.specs.Changes.{◌⟶◌, Change}
 use Rattle.endpoint_node.specs.ControlRows.{Controls, Spoke, was_taken}
 use Rattle.endpoint_node.specs.Counts.{is_handled, is_sent}
 use Rattle.endpoint_node.specs.Fits.{Fits, HasCredit, IsSendable, is_of_call}
 use Rattle.endpoint_node.specs.Inbox.{IsFront}
 use Rattle.endpoint_node.specs.Control.{Handles, Listens, told_of}
+use Rattle.endpoint_node.specs.Lacks.{is_lack, lacks_in}
 use Rattle.endpoint_node.specs.Notes.{Makes, sent_of}
 use Rattle.endpoint_node.specs.Seen.{Asks, asking}
 use Rattle.endpoint_node.specs.Requests.{AllServed}
@@ -142,7 +145,7 @@ unsaid-silent = record {
   closed = λ a. refl;
 }
 
-module _ (peer : ℕ) (h : ControlHeader) (reply : Option ControlHeader) where
+module _ (peer : ℕ) (h : ControlHeader) (reply : Option ControlHeader) (memory : Change ℕ) where
   takes-leave : AllLeave TakesControl
   takes-leave s x t k =
       leaves-goes s t x _ k.goes k.facts (record { ring = refl; served = λ mode all. all })
@@ -152,27 +155,32 @@ module _ (peer : ℕ) (h : ControlHeader) (reply : Option ControlHeader) where
       leaves-chain (EndsOutdated peer h) (λ a y b e. leaves-goes a b y _ e.goes e.facts
       (end-stays a.clock a.lists a.lists.me (Some e.server))) s x t k.steps
 
-  controls-leave : AllLeave (Controls peer h reply)
+  controls-leave : AllLeave (Controls peer h reply memory)
   controls-leave s x t k =
       leaves-goes s t x _ k.by.goes k.by.facts
       (row-stays s.clock s.lists peer h (control_row k.lacks peer h s.lists))
 
-  handles-leave : AllLeave (Handles peer h reply)
-  handles-leave = leaves-then TakesControl (Then (EndsAllOutdated peer h) (Controls peer h reply))
-      takes-leave (leaves-then (EndsAllOutdated peer h) (Controls peer h reply) ends-leave
+  handles-leave : AllLeave (Handles peer h reply memory)
+  handles-leave =
+      leaves-then TakesControl (Then (EndsAllOutdated peer h) (Controls peer h reply memory))
+      takes-leave (leaves-then (EndsAllOutdated peer h) (Controls peer h reply memory) ends-leave
       controls-leave)
 
   -- an event that none of its steps notes after the Heard
+  ends-still : (q : Event → Bool) → ((o : Owner) (k : ℕ) → q (Flushed o k) ≡ false)
+      → ((t : ℕ) → q (Ended t) ≡ false) → Stills q (EndsAllOutdated peer h)
+  ends-still q flushed ended s x t k =
+      still-chain q (EndsOutdated peer h) (λ a y b e. rw e.facts (end-still q flushed ended
+      a.lists.me a.lists.queued (Some e.server))) s x t k.steps
+
   rest-still : (q : Event → Bool) → IsSilent q
-      → Stills q (Then (EndsAllOutdated peer h) (Controls peer h reply))
-  rest-still q silent = still-then q (EndsAllOutdated peer h) (Controls peer h reply)
-      (λ s x t k. still-chain q (EndsOutdated peer h)
-      (λ a y b e. rw e.facts (end-still q silent a.lists.me a.lists.queued (Some e.server)))
-      s x t k.steps)
+      → Stills q (Then (EndsAllOutdated peer h) (Controls peer h reply memory))
+  rest-still q silent = still-then q (EndsAllOutdated peer h) (Controls peer h reply memory)
+      (ends-still q silent.flushed silent.ended)
       (λ s x t k. rw k.by.facts (row-still q silent s.lists peer h
       (control_row k.lacks peer h s.lists)))
 
-  module _ (s t : Timed) (x : List Fact) (p : Handles peer h reply s x t) where
+  module _ (s t : Timed) (x : List Fact) (p : Handles peer h reply memory s x t) where
     parts : x ≡ plain s.lists.me Heard ∷ p.back
     parts = p.joined ∙ ap (λ (y : List Fact). y ++ p.back) p.first.facts
 
@@ -207,6 +215,21 @@ module _ (peer : ℕ) (h : ControlHeader) (reply : Option ControlHeader) where
         ap unsent_in parts
         ∙ many-append is_unsent (plain s.lists.me Heard ∷ []) p.back
         ∙ ap (λ n. 0 + n) (many-none is_unsent p.back (back-still is_unsent unsaid-silent))
+
+    -- a session that isn't made for want of memory has a refusal
+    pub handled-lacks : HasRisenBy (lacks_in x) memory.old memory.new
+    handled-lacks =
+        let ends = p.second.front in
+        let back = p.second.back in
+        let first : lacks_in x ≡ 0 + lacks_in p.back =
+        ap lacks_in parts ∙ many-append is_lack (plain s.lists.me Heard ∷ []) p.back in
+        let rest : lacks_in p.back ≡ lacks_in ends + lacks_in back =
+        ap lacks_in p.second.joined ∙ many-append is_lack ends back in
+        let none : lacks_in ends ≡ 0 =
+        many-none is_lack ends (ends-still is_lack (λ o k. refl) (λ n. refl) p.between ends
+        p.second.between p.second.first) in
+        let same : lacks_in x ≡ lacks_in back = omega (arith, first, rest, none) in
+        subst (λ (n : ℕ). HasRisenBy n memory.old memory.new) (sym same) p.second.second.wants
 
     pub handled-took : (y : List Fact) → sent_of (x ++ y) ≡ sent_of y
     handled-took y = sent-after x y sent-still
@@ -249,9 +272,10 @@ said-same clock me peer head l true sendable told =
 -- the last step of a packet that is heard, behind the others
 heard-by : (s t u : Timed) (x z : List Fact) (front : Arrival) (h : ControlHeader)
     → slice_get s.lists.inbox 0 ≡ Some front → control_of front.bytes ≡ Some h
-    → (reply : Option ControlHeader) → (p : Handles front.peer h reply s x t)
+    → (reply : Option ControlHeader) (memory : Change ℕ)
+    → (p : Handles front.peer h reply memory s x t)
     → AnswersControl front.peer h p.second.between (p.second.back ++ z) u → Hears s (x ++ z) u
-heard-by s t u x z front h is_front reads reply p answers = record {
+heard-by s t u x z front h is_front reads reply memory p answers = record {
   front = front;
   is_front = is_front;
   header = h;
@@ -276,100 +300,100 @@ heard-by s t u x z front h is_front reads reply p answers = record {
 
 module _ (h : ControlHeader) (s t : Timed) (x : List Fact) (front : Arrival)
     (is_front : slice_get s.lists.inbox 0 ≡ Some front) (reads : control_of front.bytes ≡ Some h)
-  where
-    -- there is no answer
-    silent-at : Handles front.peer h None s x t → Hears s x t
-    silent-at p =
-        let last = p.second.second in
+    (memory : Change ℕ) where
+  -- there is no answer
+  silent-at : Handles front.peer h None memory s x t → Hears s x t
+  silent-at p =
+      let last = p.second.second in
+      let u = p.second.between in
+      let back = p.second.back in
+      subst (λ (y : List Fact). Hears s y t) (append-nil x)
+      (heard-by s t t x [] front h is_front reads None memory p (record {
+        lacks = last.lacks;
+        said = [];
+        speaks = subst (λ (o : Option ControlHeader). SpeaksIf u.lists.me front.peer o [])
+            last.by.answer refl;
+        facts = ap (λ (y : List Fact). y ++ []) last.by.facts;
+        goes = subst (λ (y : List Fact). Goes u y t) (sym (append-nil back)) last.by.goes;
+      }))
+
+  -- there is one
+  module _ (r : ControlHeader) (head : List ℕ) (taken : Bool) (bytes : AreBytes head)
+      (spells : Spells (ControlPacket r) head)
+      (sendable : AllByRecursion IsSendable t.lists.queued) where
+    abbrev fact : Fact
+    fact = control_fact taken s.lists.me front.peer head
+
+    header : control_of head ≡ Some r
+    header = ap control_in (spells-decoded (ControlPacket r) head spells)
+
+    abbrev then_known : Timed
+    then_known = with-known (raised_by front.peer (life_in (Some r)) t.lists.known) t
+
+    answers : (u : Timed) (z : List Fact) → u.lists.me ≡ s.lists.me
+        → Controls front.peer h (Some r) memory u z t
+        → AnswersControl front.peer h u (z ++ fact ∷ []) then_known
+    answers u z me k =
+        let peer = front.peer in
+        let row = control_row k.lacks peer h u.lists in
+        let lists : t.lists ≡ after_all u.clock u.lists (control_facts u.lists peer h row) =
+        ap (λ (v : Timed). v.lists) k.by.goes ∙ ap (after_all u.clock u.lists) k.by.facts in
+        let told : clients_told u.clock (control_of head) t.lists.clients ≡ t.lists.clients =
+        rw (header, lists) (row-told u.clock k.lacks peer u.lists.life h r u.lists k.by.answer) in
+        let said : after u.clock t.lists fact
+        ≡ record t.lists { known = raised_by peer (life_in (Some r)) t.lists.known } =
+        said-same u.clock s.lists.me peer head t.lists taken sendable told
+        ∙ ap (λ (o : Option ControlHeader). record t.lists {
+          known = raised_by peer (life_in o) t.lists.known;
+        }) header in
+        let now : after_all u.clock u.lists (z ++ fact ∷ [])
+        ≡ record t.lists { known = raised_by peer (life_in (Some r)) t.lists.known } =
+        after_all-append u.clock u.lists z (fact ∷ [])
+        ∙ ap (λ (v : Timed). after u.clock v.lists fact) (sym k.by.goes) ∙ said in
+        let clock : t.clock ≡ u.clock = ap (λ (v : Timed). v.clock) k.by.goes in
+        record {
+          lacks = k.lacks;
+          said = fact ∷ [];
+          speaks = subst (λ (o : Option ControlHeader). SpeaksIf u.lists.me peer o (fact ∷ []))
+              k.by.answer (record {
+                taken = taken;
+                head = head;
+                bytes = bytes;
+                spells = spells;
+                facts = ap (λ n. control_fact taken n peer head ∷ []) (sym me);
+              });
+          facts = ap (λ (y : List Fact). y ++ fact ∷ []) k.by.facts;
+          goes = ap (λ (n : ℕ). record { lists = then_known.lists; clock = n }) clock
+              ∙ ap (λ (l : Lists). record { lists = l; clock = u.clock }) (sym now);
+        }
+
+    said-at : Handles front.peer h (Some r) memory s x t → Hears s (x ++ fact ∷ []) then_known
+    said-at p =
         let u = p.second.between in
-        let back = p.second.back in
-        subst (λ (y : List Fact). Hears s y t) (append-nil x)
-        (heard-by s t t x [] front h is_front reads None p (record {
-          lacks = last.lacks;
-          said = [];
-          speaks = subst (λ (o : Option ControlHeader). SpeaksIf u.lists.me front.peer o [])
-              last.by.answer refl;
-          facts = ap (λ (y : List Fact). y ++ []) last.by.facts;
-          goes = subst (λ (y : List Fact). Goes u y t) (sym (append-nil back)) last.by.goes;
-        }))
-
-    -- there is one
-    module _ (r : ControlHeader) (head : List ℕ) (taken : Bool) (bytes : AreBytes head)
-        (spells : Spells (ControlPacket r) head)
-        (sendable : AllByRecursion IsSendable t.lists.queued) where
-      abbrev fact : Fact
-      fact = control_fact taken s.lists.me front.peer head
-
-      header : control_of head ≡ Some r
-      header = ap control_in (spells-decoded (ControlPacket r) head spells)
-
-      abbrev then_known : Timed
-      then_known = with-known (raised_by front.peer (life_in (Some r)) t.lists.known) t
-
-      answers : (u : Timed) (z : List Fact) → u.lists.me ≡ s.lists.me
-          → Controls front.peer h (Some r) u z t
-          → AnswersControl front.peer h u (z ++ fact ∷ []) then_known
-      answers u z me k =
-          let peer = front.peer in
-          let row = control_row k.lacks peer h u.lists in
-          let lists : t.lists ≡ after_all u.clock u.lists (control_facts u.lists peer h row) =
-          ap (λ (v : Timed). v.lists) k.by.goes ∙ ap (after_all u.clock u.lists) k.by.facts in
-          let told : clients_told u.clock (control_of head) t.lists.clients ≡ t.lists.clients =
-          rw (header, lists) (row-told u.clock k.lacks peer u.lists.life h r u.lists k.by.answer) in
-          let said : after u.clock t.lists fact
-          ≡ record t.lists { known = raised_by peer (life_in (Some r)) t.lists.known } =
-          said-same u.clock s.lists.me peer head t.lists taken sendable told
-          ∙ ap (λ (o : Option ControlHeader). record t.lists {
-            known = raised_by peer (life_in o) t.lists.known;
-          }) header in
-          let now : after_all u.clock u.lists (z ++ fact ∷ [])
-          ≡ record t.lists { known = raised_by peer (life_in (Some r)) t.lists.known } =
-          after_all-append u.clock u.lists z (fact ∷ [])
-          ∙ ap (λ (v : Timed). after u.clock v.lists fact) (sym k.by.goes) ∙ said in
-          let clock : t.clock ≡ u.clock = ap (λ (v : Timed). v.clock) k.by.goes in
-          record {
-            lacks = k.lacks;
-            said = fact ∷ [];
-            speaks = subst (λ (o : Option ControlHeader). SpeaksIf u.lists.me peer o (fact ∷ []))
-                k.by.answer (record {
-                  taken = taken;
-                  head = head;
-                  bytes = bytes;
-                  spells = spells;
-                  facts = ap (λ n. control_fact taken n peer head ∷ []) (sym me);
-                });
-            facts = ap (λ (y : List Fact). y ++ fact ∷ []) k.by.facts;
-            goes = ap (λ (n : ℕ). record { lists = then_known.lists; clock = n }) clock
-                ∙ ap (λ (l : Lists). record { lists = l; clock = u.clock }) (sym now);
-          }
-
-      said-at : Handles front.peer h (Some r) s x t → Hears s (x ++ fact ∷ []) then_known
-      said-at p =
-          let u = p.second.between in
-          let before = leaves-more s p.between u
-          (takes-leave front.peer h (Some r) s p.front p.between p.first)
-          (ends-leave front.peer h (Some r) p.between p.second.front u p.second.first) in
-          heard-by s t then_known x (fact ∷ []) front h is_front reads (Some r) p
-          (answers u p.second.back before.me p.second.second)
+        let before = leaves-more s p.between u
+        (takes-leave front.peer h (Some r) memory s p.front p.between p.first)
+        (ends-leave front.peer h (Some r) memory p.between p.second.front u p.second.first) in
+        heard-by s t then_known x (fact ∷ []) front h is_front reads (Some r) memory p
+        (answers u p.second.back before.me p.second.second)
 
 module _ (peer : ℕ) (h : ControlHeader) (s t : Timed) (x : List Fact) (front : Arrival)
     (is_front : slice_get s.lists.inbox 0 ≡ Some front) (from : peer ≡ front.peer)
-    (reads : control_of front.bytes ≡ Some h) where
-  hears-silent : Handles peer h None s x t → Hears s x t
+    (reads : control_of front.bytes ≡ Some h) (memory : Change ℕ) where
+  hears-silent : Handles peer h None memory s x t → Hears s x t
   hears-silent =
-      subst (λ (n : ℕ). Handles n h None s x t → Hears s x t) (sym from)
-      (silent-at h s t x front is_front reads)
+      subst (λ (n : ℕ). Handles n h None memory s x t → Hears s x t) (sym from)
+      (silent-at h s t x front is_front reads memory)
 
   hears-said : (r : ControlHeader) (head : List ℕ) (taken : Bool) → AreBytes head
       → Spells (ControlPacket r) head → AllByRecursion IsSendable t.lists.queued
-      → Handles peer h (Some r) s x t
+      → Handles peer h (Some r) memory s x t
       → Hears s (x ++ control_fact taken s.lists.me peer head ∷ [])
       (with-known (raised_by peer (life_in (Some r)) t.lists.known) t)
   hears-said r head taken bytes spells sendable =
-      subst (λ (n : ℕ). Handles n h (Some r) s x t
+      subst (λ (n : ℕ). Handles n h (Some r) memory s x t
       → Hears s (x ++ control_fact taken s.lists.me n head ∷ [])
       (with-known (raised_by n (life_in (Some r)) t.lists.known) t)) (sym from)
-      (said-at h s t x front is_front reads r head taken bytes spells sendable)
+      (said-at h s t x front is_front reads memory r head taken bytes spells sendable)
 
 -- the link was handed one packet
 said-counts : {E : Type 0} (me peer : ℕ) (head : List ℕ) (x : List Fact) (k l : Troubles)
@@ -436,73 +460,88 @@ said-sent me peer head x (Err why) nothing =
     many-append is_sent x (control_fact false me peer head ∷ []) in
     omega (arith, all, nothing)
 
+-- and that is no want of memory
+said-lacks : (me peer : ℕ) (head : List ℕ) (x : List Fact) (taken : Bool)
+    → lacks_in (x ++ control_fact taken me peer head ∷ []) ≡ lacks_in x
+said-lacks me peer head x true =
+    let all : many is_lack (x ++ control_fact true me peer head ∷ []) ≡ many is_lack x + 0 =
+    many-append is_lack x (control_fact true me peer head ∷ []) in
+    omega (arith, all)
+said-lacks me peer head x false =
+    let all : many is_lack (x ++ control_fact false me peer head ∷ []) ≡ many is_lack x + 0 =
+    many-append is_lack x (control_fact false me peer head ∷ []) in
+    omega (arith, all)
+
 -- the front of the inbox is taken out
 abbrev pub unheard : Timed → Timed
 unheard s = record s { lists = record s.lists { inbox = drop 1 s.lists.inbox } }
 
 -- Heard is noted, then the ends of what is outdated, and then what the row notes
 pub makes-handled : {R : Type 0} (log : R → Log) (peer : ℕ)
-    (h : ControlHeader) (reply : Option ControlHeader) (s u t : Timed) (before mid late now : R)
+    (h : ControlHeader) (reply : Option ControlHeader) (memory : Change ℕ) (s u t : Timed)
+    (before mid late now : R)
     → Grew (log before) (log mid) (plain s.lists.me Heard ∷ [])
     → Makes log (EndsAllOutdated peer h) (unheard s) u mid late
-    → Makes log (Controls peer h reply) u t late now
-    → Makes log (Handles peer h reply) s t before now
-makes-handled log peer h reply s u t before mid late now grew ends p =
-    makes-then log TakesControl (Then (EndsAllOutdated peer h) (Controls peer h reply)) s
+    → Makes log (Controls peer h reply memory) u t late now
+    → Makes log (Handles peer h reply memory) s t before now
+makes-handled log peer h reply memory s u t before mid late now grew ends p =
+    makes-then log TakesControl (Then (EndsAllOutdated peer h) (Controls peer h reply memory)) s
     (unheard s) t before mid now
     (record {
       noted = plain s.lists.me Heard ∷ [];
       grew = grew;
       step = λ asks. record { facts = refl; goes = refl };
     })
-    (makes-then log (EndsAllOutdated peer h) (Controls peer h reply) (unheard s) u t mid late now
-    ends p)
+    (makes-then log (EndsAllOutdated peer h) (Controls peer h reply memory) (unheard s) u t mid
+    late now ends p)
 
 module _ {R L : Type 0} (log : R → Log)
     (net : Link.Ghosts L) where
-  module _ (hp : HeardPacket) (s t : Timed) (front : IsFront s.lists.inbox hp) where
+  module _ (hp : HeardPacket) (s t : Timed) (memory : Change ℕ)
+      (front : IsFront s.lists.inbox hp) where
     -- there is no answer
     pub listens-silent : (before now : R) (k : L)
-        → Makes log (Handles hp.peer hp.head None) s t before now
+        → Makes log (Handles hp.peer hp.head None memory) s t before now
         → Listens log net Hears
-        (record { heard = 1; sent = 0; failed = false }) s t before now k k
+        (record { heard = 1; sent = 0; failed = false }) s t before now k k memory
     listens-silent before now k p =
         let one = p.step no_asks in
         let a : Timed = asking no_asks s in
         let b : Timed = asking no_asks t in
-        let own = handled-unsent hp.peer hp.head None a b p.noted one in
+        let own = handled-unsent hp.peer hp.head None memory a b p.noted one in
         record {
           sends = record {
             makes = record {
               noted = p.noted;
               grew = p.grew;
               step = λ asks. hears-silent hp.peer hp.head (asking asks s) (asking asks t) p.noted
-                  front.front front.is_front front.peer front.reads (p.step asks);
+                  front.front front.is_front front.peer front.reads memory (p.step asks);
             };
             took = took-none (net.sent k)
                 ∙ ap (λ (xs : List Carried). option_map (λ ds. ds ++ xs) (net.sent k))
-                (sym (handled-none hp.peer hp.head None a b p.noted one));
+                (sym (handled-none hp.peer hp.head None memory a b p.noted one));
           };
-          heard = sym (handled-one hp.peer hp.head None a b p.noted one);
-          went = sym (handled-sent hp.peer hp.head None a b p.noted one);
+          heard = sym (handled-one hp.peer hp.head None memory a b p.noted one);
+          went = sym (handled-sent hp.peer hp.head None memory a b p.noted one);
           counts = record {
             held = subst (λ (n : ℕ). HeldBack n (troubles_of net k) (troubles_of net k)) (sym own)
                 (held-none (troubles_of net k));
             cause = refl;
           };
+          wants = handled-lacks hp.peer hp.head None memory a b p.noted one;
         }
 
     -- there is one, which is handed to the link
     pub listens-said : {E : Type 0} (r : ControlHeader) (result : Result Bool E) (me : ℕ)
         (before mid now : R) (k l : L) → AllByRecursion IsSendable t.lists.queued → me ≡ s.lists.me
-        → Makes log (Handles hp.peer hp.head (Some r)) s t before mid
+        → Makes log (Handles hp.peer hp.head (Some r) memory) s t before mid
         → Spoke log net.sent me hp.peer r (was_taken result) mid now k l
         → HasCause (troubles_of net k).faults (troubles_of net l).faults result
         → IfOk result (λ went. went ≡ false → HasRisen (troubles_of net k).busies (troubles_of net l).busies)
         → IfOk result (λ went. went ≡ true → (troubles_of net l).busies ≡ (troubles_of net k).busies)
         → OnErr result ((troubles_of net l).busies ≡ (troubles_of net k).busies)
         → Listens log net Hears (told_of result) s
-        (with-known (raised_by hp.peer (life_in (Some r)) t.lists.known) t) before now k l
+        (with-known (raised_by hp.peer (life_in (Some r)) t.lists.known) t) before now k l memory
     listens-said r result me before mid now k l sendable is p spoke cause busy went fault =
         let one = p.step no_asks in
         let taken = was_taken result in
@@ -519,25 +558,29 @@ module _ {R L : Type 0} (log : R → Log)
                   (asking asks (with-known (raised_by hp.peer (life_in (Some r)) t.lists.known) t)))
                   (sym is)
                   (hears-said hp.peer hp.head (asking asks s) (asking asks t) p.noted front.front
-                  front.is_front front.peer front.reads r spoke.head taken spoke.bytes spoke.spells
-                  sendable (p.step asks));
+                  front.is_front front.peer front.reads memory r spoke.head taken spoke.bytes
+                  spoke.spells sendable (p.step asks));
             };
             took = spoke.took ∙ ap (λ (xs : List Carried). option_map (λ ds. ds ++ xs) (net.sent k))
-                (sym (handled-took hp.peer hp.head (Some r) a b p.noted one (said ∷ [])));
+                (sym (handled-took hp.peer hp.head (Some r) memory a b p.noted one (said ∷ [])));
           };
           heard = said-heard me hp.peer spoke.head p.noted result
-              (handled-one hp.peer hp.head (Some r) a b p.noted one);
+              (handled-one hp.peer hp.head (Some r) memory a b p.noted one);
           went = said-sent me hp.peer spoke.head p.noted result
-              (handled-sent hp.peer hp.head (Some r) a b p.noted one);
+              (handled-sent hp.peer hp.head (Some r) memory a b p.noted one);
           counts = said-counts me hp.peer spoke.head p.noted (troubles_of net k) (troubles_of net l) result
-              (handled-unsent hp.peer hp.head (Some r) a b p.noted one) cause busy went fault;
+              (handled-unsent hp.peer hp.head (Some r) memory a b p.noted one) cause busy went
+              fault;
+          wants = subst (λ (n : ℕ). HasRisenBy n memory.old memory.new)
+              (sym (said-lacks me hp.peer spoke.head p.noted taken))
+              (handled-lacks hp.peer hp.head (Some r) memory a b p.noted one);
         }
 
   -- one packet after another
-  pub listens-none : (P : Rel) (a : Timed) (r : R) (l : L)
+  pub listens-none : (P : Rel) (a : Timed) (r : R) (l : L) (n : ℕ)
       → Listens log net (Chain P)
-      (record { heard = 0; sent = 0; failed = false }) a a r r l l
-  listens-none P a r l = record {
+      (record { heard = 0; sent = 0; failed = false }) a a r r l l (n ⟶ n)
+  listens-none P a r l n = record {
     sends = record {
       makes = record { noted = []; grew = grew-none log r; step = λ asks. none };
       took = took-none (net.sent l);
@@ -545,14 +588,16 @@ module _ {R L : Type 0} (log : R → Log)
     heard = refl;
     went = refl;
     counts = record { held = held-none (troubles_of net l); cause = refl };
+    wants = none-risen n;
   }
 
   pub listens-more : (P : Rel) (p q t : Listening) (a b c : Timed) (f g h : R) (k l m : L)
-      → t.heard ≡ p.heard + q.heard → t.sent ≡ p.sent + q.sent → t.failed ≡ (p.failed || q.failed)
-      → Listens log net (Chain P) p a b f g k l
-      → Listens log net P q b c g h l m
-      → Listens log net (Chain P) t a c f h k m
-  listens-more P p q t a b c f g h k l m heard went failed x y =
+      (u v w : ℕ) → t.heard ≡ p.heard + q.heard → t.sent ≡ p.sent + q.sent
+      → t.failed ≡ (p.failed || q.failed)
+      → Listens log net (Chain P) p a b f g k l (u ⟶ v)
+      → Listens log net P q b c g h l m (v ⟶ w)
+      → Listens log net (Chain P) t a c f h k m (u ⟶ w)
+  listens-more P p q t a b c f g h k l m u v w heard went failed x y =
       let xs = x.sends.makes.noted in
       let ys = y.sends.makes.noted in
       record {
@@ -573,13 +618,15 @@ module _ {R L : Type 0} (log : R → Log)
         went = omega (arith, went, x.went, y.went, many-append is_sent xs ys);
         counts = rw failed (counts-then xs ys p.failed q.failed (troubles_of net k) (troubles_of net l)
             (troubles_of net m) x.counts y.counts);
+        wants = subst (λ (n : ℕ). HasRisenBy n u w) (sym (many-append is_lack xs ys))
+            (both-risen (lacks_in xs) (lacks_in ys) u v w x.wants y.wants);
       }
 
   pub listens-until : (P : Rel) (Over : Timed → Type 0) (t : Listening) (a b : Timed) (f g : R)
-      (k l : L) → Listens log net (Chain P) t a b f g k l
+      (k l : L) (memory : Change ℕ) → Listens log net (Chain P) t a b f g k l memory
       → ((asks : Asks) → Over (asking asks b))
-      → Listens log net (Until P Over) t a b f g k l
-  listens-until P Over t a b f g k l p over = record {
+      → Listens log net (Until P Over) t a b f g k l memory
+  listens-until P Over t a b f g k l memory p over = record {
     sends = record {
       makes = record {
         noted = p.sends.makes.noted;
@@ -591,6 +638,7 @@ module _ {R L : Type 0} (log : R → Log)
     heard = p.heard;
     went = p.went;
     counts = p.counts;
+    wants = p.wants;
   }
 
 -- what an answer is taken from is in range
@@ -610,11 +658,12 @@ can-answer s size places fits = record {
 
 -- so it is
 pub answer-range : {R : Type 0} (log : R → Log) (peer : ℕ)
-    (h : ControlHeader) (a b : Timed) (before now : R) (reply : Option ControlHeader)
-    → ControlInRange h → CanAnswer a.lists → Makes log (Controls peer h reply) a b before now
+    (h : ControlHeader) (memory : Change ℕ) (a b : Timed) (before now : R)
+    (reply : Option ControlHeader) → ControlInRange h → CanAnswer a.lists
+    → Makes log (Controls peer h reply memory) a b before now
     → IfSome reply (λ r. ControlInRange r)
-answer-range log peer h a b before now None range can p = tt
-answer-range log peer h a b before now (Some r) range can p =
+answer-range log peer h memory a b before now None range can p = tt
+answer-range log peer h memory a b before now (Some r) range can p =
     let one = p.step no_asks in
     let s = a.lists in
     let named = named-all s.server_numbers s.servers can.few
@@ -624,20 +673,20 @@ answer-range log peer h a b before now (Some r) range can p =
 
 -- what handling a packet leaves, whoever records it
 module _ {R : Type 0} (log : R → Log) (peer : ℕ)
-    (h : ControlHeader) (reply : Option ControlHeader) (s t : Timed) (before now : R)
-    (p : Makes log (Handles peer h reply) s t before now) where
-  abbrev one : Handles peer h reply (asking no_asks s) p.noted (asking no_asks t)
+    (h : ControlHeader) (reply : Option ControlHeader) (memory : Change ℕ) (s t : Timed)
+    (before now : R) (p : Makes log (Handles peer h reply memory) s t before now) where
+  abbrev one : Handles peer h reply memory (asking no_asks s) p.noted (asking no_asks t)
   one = p.step no_asks
 
   pub made-ring : t.lists.ring ≡ s.lists.ring
-  made-ring = handled-ring peer h reply (asking no_asks s) (asking no_asks t) p.noted one
+  made-ring = handled-ring peer h reply memory (asking no_asks s) (asking no_asks t) p.noted one
 
   pub made-me : t.lists.me ≡ s.lists.me
-  made-me = handled-me peer h reply (asking no_asks s) (asking no_asks t) p.noted one
+  made-me = handled-me peer h reply memory (asking no_asks s) (asking no_asks t) p.noted one
 
   pub made-served : (mode : ℕ → Mode) → AllServed mode s.lists.servers
       → AllServed mode t.lists.servers
-  made-served = handled-served peer h reply (asking no_asks s) (asking no_asks t) p.noted one
+  made-served = handled-served peer h reply memory (asking no_asks s) (asking no_asks t) p.noted one
 
 -- no packet waits
 pub none-waits : (inbox : List Arrival) → length inbox ≡ 0 → inbox ≡ []

@@ -29,13 +29,17 @@ use Rattle.rpc_laws.specs.Steps.{Rel, Chain, none, more}
 use Rattle.rpc_laws.proofs.AnswerLemmas.{answers-append, served-append}
 use Rattle.rpc_outside.specs.Served.{Served, StandsForSome}
 use Rattle.rpc_outside.specs.declared.service.Mode.TheVariants.{Background}
+use Rattle.memory_count.specs.Faults.{HasRisenBy}
+use Rattle.memory_count.proofs.Risen.{both-risen, none-risen}
 use Rattle.node_laws.specs.Kept.{Kept}
 use Rattle.node_laws.specs.Valid.{jobs_of}
 use Rattle.server_core.proofs.FlushLemmas.{grew-none, grew-then}
 use Rattle.worker_board.specs.declared.Parcel.{Parcel}
 use Rattle.worker_crew.specs.Jobs.{HasRoom, IsFull, Job as CrewJob, job_of}
 use Rattle.endpoint_node.proofs.HandedGiven.{gave-none, gave-then}
+use Rattle.endpoint_node.specs.Changes.{◌⟶◌, Change}
 use Rattle.endpoint_node.specs.Jobs.{AreStaffed, CanFinish, Staff, asked_job}
+use Rattle.endpoint_node.specs.Lacks.{is_lack, lacks_in}
 use Rattle.endpoint_node.specs.Packets.{HandlesWith, MakesAllHandled, MakesHandled}
 use Rattle.endpoint_node.specs.Packets.{WorksFor, with_all_given}
 use Rattle.endpoint_node.specs.Notes.{is_end}
@@ -43,6 +47,7 @@ use Rattle.endpoint_node.specs.Seen.{Asks, arrival_of, asking, with_ask}
 use Rattle.endpoint_node.specs.Requests.{IsGiven, SparesShort, job_named, ring_left, with_given}
 use Rattle.endpoint_node.proofs.ShortLemmas.{left-append, left-goes, spares-append}
 use Rattle.endpoint_node.proofs.PacketSteps.{asks-as, asks-of}
+use Rattle.endpoint_node.proofs.NoteCounts.{many-append}
 use Rattle.endpoint_node.proofs.NoteEnds.{ends-append, me-goes}
 
 -- as many as a list has
@@ -269,28 +274,28 @@ ring-fewer {A} (x ∷ xs) ys some is = rw is (omega arith)
 module _ {R K : Type 0} (log : R → Log)
     (given : K → List Done → Type 0) (v : Serving) where
   pub me-handled : (stands then_stands : Served → Type 0) (o : Option Parcel) (a b : Timed)
-      (f g : R) (j k : K)
-      → MakesHandled log given v stands then_stands (Handles v.mode) o a b f g j k
+      (f g : R) (j k : K) (memory : Change ℕ)
+      → MakesHandled log given v stands then_stands (Handles v.mode) o a b f g j k memory
       → b.lists.me ≡ a.lists.me
-  me-handled stands then_stands o a b f g j k h =
+  me-handled stands then_stands o a b f g j k memory h =
       let asks = asks-of o in
       me-goes (asking asks a) (asking asks b) h.serves.makes.noted
       (h.serves.makes.step asks (asks-as o)).goes
 
   left-handled : (stands then_stands : Served → Type 0) (o : Option Parcel) (a b : Timed)
-      (f g : R) (j k : K)
-      (h : MakesHandled log given v stands then_stands (Handles v.mode) o a b f g j k)
+      (f g : R) (j k : K) (memory : Change ℕ)
+      (h : MakesHandled log given v stands then_stands (Handles v.mode) o a b f g j k memory)
       → b.lists.ring ≡ ring_left a.lists.ring h.serves.makes.noted
-  left-handled stands then_stands o a b f g j k h =
+  left-handled stands then_stands o a b f g j k memory h =
       let asks = asks-of o in
       left-goes (asking asks a) (asking asks b) h.serves.makes.noted
       (h.serves.makes.step asks (asks-as o)).goes
 
   pub still-founded : (stands then_stands : Served → Type 0) (o : Option Parcel) (a b : Timed)
-      (f g : R) (j k : K)
-      → MakesHandled log given v stands then_stands (Handles v.mode) o a b f g j k
+      (f g : R) (j k : K) (memory : Change ℕ)
+      → MakesHandled log given v stands then_stands (Handles v.mode) o a b f g j k memory
       → StandsForSome stands → StandsForSome then_stands
-  still-founded stands then_stands o a b f g j k h founded = (
+  still-founded stands then_stands o a b f g j k memory h founded = (
     served_after_all v.mode founded.0 h.serves.makes.noted,
     (h.serves.answers founded.0 founded.1).1,
   )
@@ -300,10 +305,11 @@ module _ {R K W : Type 0} (log : R → Log)
     (answer : ℕ → List ℕ → List ℕ) where
   -- a packet of which no job is made
   pub handled-none : (stands then_stands : Served → Type 0) (a b : Timed) (f g : R) (j k : K)
-      (w : W) → MakesHandled log given v stands then_stands (Handles v.mode) None a b f g j k
+      (w : W) (memory : Change ℕ)
+      → MakesHandled log given v stands then_stands (Handles v.mode) None a b f g j k memory
       → MakesAllHandled log given staff v stands then_stands answer (Handles v.mode) a b f g
-      j k w w
-  handled-none stands then_stands a b f g j k w h = record {
+      j k w w memory
+  handled-none stands then_stands a b f g j k w memory h = record {
     noted = h.serves.makes.noted;
     grew = h.serves.makes.grew;
     answers = h.serves.answers;
@@ -319,14 +325,15 @@ module _ {R K W : Type 0} (log : R → Log)
     dones = h.dones;
     ends = h.ends;
     told = h.gave;
-    left = left-handled log given v stands then_stands None a b f g j k h;
+    left = left-handled log given v stands then_stands None a b f g j k memory h;
     spared = h.serves.spared;
+    wants = h.serves.wants;
   }
 
   -- a packet of which a job is made, that the workers take
   module _ (stands then_stands : Served → Type 0) (p : Parcel) (a b : Timed) (f g : R) (j k : K)
-      (w x : W)
-      (h : MakesHandled log given v stands then_stands (Handles v.mode) (Some p) a b f g j k)
+      (w x : W) (memory : Change ℕ)
+      (h : MakesHandled log given v stands then_stands (Handles v.mode) (Some p) a b f g j k memory)
       (kept : Kept b.lists) (room : HasRoom answer p) where
     taken-with : (asks : Asks) → AreStaffed answer asks (staff w) a
         → IsPermutation (job_of p ∷ (staff w).out) (staff x).out
@@ -363,7 +370,7 @@ module _ {R K W : Type 0} (log : R → Log)
 
     pub handled-some : (r : Result (Unit {0}) Parcel) → Gave r
         → MakesAllHandled log given staff v stands then_stands answer (Handles v.mode) a b
-        f g j k w x
+        f g j k w x memory
     handled-some r gave = record {
       noted = h.serves.makes.noted;
       grew = h.serves.makes.grew;
@@ -375,14 +382,16 @@ module _ {R K W : Type 0} (log : R → Log)
       dones = h.dones;
       ends = h.ends;
       told = h.gave;
-      left = left-handled log given v stands then_stands (Some p) a b f g j k h;
+      left = left-handled log given v stands then_stands (Some p) a b f g j k memory h;
       spared = h.serves.spared;
+      wants = h.serves.wants;
     }
 
   -- turns, one after another
   pub all-handled-none : (stands : Served → Type 0) (P : Rel) (a : Timed) (f : R) (j : K) (w : W)
-      → MakesAllHandled log given staff v stands stands answer (Chain P) a a f f j j w w
-  all-handled-none stands P a f j w = record {
+      (n : ℕ)
+      → MakesAllHandled log given staff v stands stands answer (Chain P) a a f f j j w w (n ⟶ n)
+  all-handled-none stands P a f j w n = record {
     noted = [];
     grew = grew-none log f;
     answers = λ served before. (tt, before);
@@ -400,14 +409,15 @@ module _ {R K W : Type 0} (log : R → Log)
     told = gave-none given j;
     left = refl;
     spared = tt;
+    wants = none-risen n;
   }
 
   pub all-handled-more : (one two three : Served → Type 0) (P : Rel) (a b c : Timed) (f g h : R)
-      (j k l : K) (w x y : W) → b.lists.me ≡ a.lists.me
-      → MakesAllHandled log given staff v one two answer (Chain P) a b f g j k w x
-      → MakesAllHandled log given staff v two three answer P b c g h k l x y
-      → MakesAllHandled log given staff v one three answer (Chain P) a c f h j l w y
-  all-handled-more one two three P a b c f g h j k l w x y me p q = record {
+      (j k l : K) (w x y : W) (m n o : ℕ) → b.lists.me ≡ a.lists.me
+      → MakesAllHandled log given staff v one two answer (Chain P) a b f g j k w x (m ⟶ n)
+      → MakesAllHandled log given staff v two three answer P b c g h k l x y (n ⟶ o)
+      → MakesAllHandled log given staff v one three answer (Chain P) a c f h j l w y (m ⟶ o)
+  all-handled-more one two three P a b c f g h j k l w x y m n o me p q = record {
     noted = p.noted ++ q.noted;
     grew = grew-then log f g h p.noted q.noted p.grew q.grew;
     answers = λ served before.
@@ -441,16 +451,18 @@ module _ {R K W : Type 0} (log : R → Log)
         ∙ sym (left-append a.lists.ring p.noted q.noted);
     spared = spares-append v a.lists.ring p.noted q.noted p.spared
         (subst (λ (ring : List Arrival). SparesShort v ring q.noted) p.left q.spared);
+    wants = subst (λ (k : ℕ). HasRisenBy k m o) (sym (many-append is_lack p.noted q.noted))
+        (both-risen (lacks_in p.noted) (lacks_in q.noted) m n o p.wants q.wants);
   }
 
   -- until no more can be handled
   pub all-handled-over : (stands then_stands : Served → Type 0) (a b : Timed) (f g : R) (j k : K)
-      (w x : W) → NoMoreToHandle b
+      (w x : W) (memory : Change ℕ) → NoMoreToHandle b
       → MakesAllHandled log given staff v stands then_stands answer (Chain (Handles v.mode))
-      a b f g j k w x
+      a b f g j k w x memory
       → MakesAllHandled log given staff v stands then_stands answer (HandlesAll v.mode) a b
-      f g j k w x
-  all-handled-over stands then_stands a b f g j k w x over p = record {
+      f g j k w x memory
+  all-handled-over stands then_stands a b f g j k w x memory over p = record {
     noted = p.noted;
     grew = p.grew;
     answers = p.answers;
@@ -470,4 +482,5 @@ module _ {R K W : Type 0} (log : R → Log)
     told = p.told;
     left = p.left;
     spared = p.spared;
+    wants = p.wants;
   }

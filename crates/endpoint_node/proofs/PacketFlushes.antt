@@ -26,8 +26,6 @@ use Rattle.node_laws.proofs.QueueLemmas.{flushed-none, taken_out}
 use Rattle.session_store.specs.Queue.{is_owned}
 use Rattle.session_store.specs.Serving.{without_owned}
 use Rattle.endpoint_node.specs.Fits.{IsSendable}
-use Rattle.endpoint_node.specs.Requests.{IsNoWant}
-use Rattle.endpoint_node.proofs.ShortLemmas.{flush-calm}
 
 -- the packets of an owner, taken out by their numbers, are those that a filter leaves out
 module _ (owner : Owner) where
@@ -133,11 +131,6 @@ module _ (n : ℕ) where
       → replies (without_owned n o qs) ≤ replies qs
   fewer-left None qs = omega arith
   fewer-left (Some q) qs = fewer-filter (left (Reply n q.number)) qs
-
-  pub flushes-calm : (me : ℕ) (o : Option ServedRequest) (qs : List Queued)
-      → AllByRecursion IsNoWant (flushes me qs n o)
-  flushes-calm me None qs = tt
-  flushes-calm me (Some q) qs = flush-calm (Reply n q.number) me (numbers_of (Reply n q.number) qs)
 
   pub flushes-quiet : (me : ℕ) (v : Serving) (served : Served) (o : Option ServedRequest)
       (qs : List Queued) (fs : List Fact) → Answers v served fs

@@ -37,8 +37,10 @@ use Rattle.endpoint_node.specs.Fits.{IsSendable}
 use Rattle.endpoint_node.proofs.PacketRows.{HasTaken, has-begun, has-gone-on, left-begun}
 use Rattle.endpoint_node.proofs.PacketRows.{left-next}
 use Rattle.endpoint_node.proofs.PacketRows.{served-next, taken-first, taken-next, whole-first}
-use Rattle.endpoint_node.specs.Requests.{IsNoWant}
-use Rattle.endpoint_node.proofs.PacketFlushes.{fewer-left, flushed-after, flushes-calm, flushes-quiet}
+use Rattle.endpoint_node.specs.Lacks.{is_lack}
+use Rattle.endpoint_node.proofs.NoteCounts.{flushes-none}
+use Rattle.endpoint_node.proofs.NoteStill.{AllStill}
+use Rattle.endpoint_node.proofs.PacketFlushes.{fewer-left, flushed-after, flushes-quiet}
 use Rattle.endpoint_node.proofs.PacketFlushes.{flushes-serve, ready-left}
 
 -- whether a step takes a packet
@@ -59,7 +61,7 @@ pub record TakenBy (mode_of : ℕ → Mode) (full : Bool) (me : ℕ) (answer : L
       → after_all clock s older ≡ record s { queued = queue }
   pub ready : AllByRecursion IsSendable queued → AllByRecursion IsSendable queue
   pub fewer : replies queue ≤ replies queued
-  pub calm : AllByRecursion IsNoWant older
+  pub calm : AllStill is_lack older
   pub quiet : (p : Serving) (served : Served) (fs : List Fact) → Answers p served fs
       → Answers p served (older ++ fs)
   pub serves : (p : Serving) (served : Served) (fs : List Fact)
@@ -102,7 +104,7 @@ module _ (mode_of : ℕ → Mode) (full : Bool) (me : ℕ) (answer : List ℕ) (
         flushed = λ clock s is. flushed-after v.way.number clock me s slot queued is;
         ready = λ all. ready-left v.way.number slot queued all;
         fewer = fewer-left v.way.number slot queued;
-        calm = flushes-calm v.way.number me slot queued;
+        calm = flushes-none is_lack (λ o k. refl) me queued v.way.number slot;
         quiet = λ p served fs a. flushes-quiet v.way.number me p served slot queued fs a;
         serves = λ p served fs. flushes-serve v.way.number me p served slot queued fs;
         begun = rw (begins-it step t) refl;

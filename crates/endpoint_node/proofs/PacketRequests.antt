@@ -23,7 +23,7 @@ use Rattle.rpc_base.specs.declared.owner.Owner.{Owner}
 use Rattle.rpc_base.specs.declared.owner.Owner.TheVariants.{Reply}
 use Rattle.rpc_base.specs.declared.state.DropReason.{DropReason}
 use Rattle.rpc_base.specs.declared.state.DropReason.TheVariants.{NoMemory, NoSession, WrongPeer}
-use Rattle.rpc_base.proofs.FirstLemmas.{all-both, found-changed, found-holds}
+use Rattle.rpc_base.proofs.FirstLemmas.{found-changed, found-holds}
 use Rattle.rpc_base.proofs.TablesLemmas.{at_first-found, find-found, find-missing}
 use Rattle.rpc_base.proofs.TakingLemmas.{find-passes}
 use Rattle.rpc_base.proofs.PlaceLemmas.{all-at}
@@ -57,7 +57,10 @@ use Rattle.node_laws.proofs.RowLemmas.{last-parts}
 use Rattle.node_laws.proofs.Allowed.{AllAllowed}
 use Rattle.node_laws.proofs.KeptLemmas.{kept-all}
 use Rattle.node_laws.proofs.ServeLemmas.{asks-allowed}
+use Rattle.memory_count.specs.Faults.{HasRisenBy}
+use Rattle.memory_count.proofs.Risen.{none-risen}
 use Rattle.server_core.specs.Flushing.{replies_of}
+use Rattle.server_core.specs.Lacks.{lacks_for}
 use Rattle.server_core.specs.Steps.{IfReply, asked_with}
 use Rattle.server_core.specs.declared.step.Step.{Step}
 use Rattle.server_core.specs.declared.step.Step.TheVariants.{Took, Again, Ran, Give, Dropped}
@@ -67,13 +70,16 @@ use Rattle.session_store.specs.Serving.{without_owned}
 use Rattle.session_store.specs.Joined.{put_ready}
 use Rattle.session_store.specs.Sides.{Shown, queued_of}
 use Rattle.session_store.proofs.ListLemmas.{all-set, set-own}
+use Rattle.endpoint_node.specs.Changes.{◌⟶◌, Change}
 use Rattle.endpoint_node.specs.Fits.{Fits, HasCredit, IsSendable}
+use Rattle.endpoint_node.specs.Lacks.{is_lack, lacks_in}
 use Rattle.endpoint_node.specs.Notes.{Makes}
 use Rattle.endpoint_node.specs.Seen.{Asks, Tallies, arrival_of, asking_jobs, seen_node}
-use Rattle.endpoint_node.specs.Requests.{AllServed, AsksAs, IsGiven, IsNoWant, IsShort, MakesServed}
-use Rattle.endpoint_node.specs.Requests.{SparesShort}
-use Rattle.endpoint_node.specs.Requests.{ServesRequest}
-use Rattle.endpoint_node.proofs.ShortLemmas.{one-header, spares-calm}
+use Rattle.endpoint_node.specs.Requests.{AllServed, AsksAs, IsGiven, IsShort, MakesServed}
+use Rattle.endpoint_node.specs.Requests.{ServesRequest, SparesShort}
+use Rattle.endpoint_node.proofs.NoteCounts.{many-none}
+use Rattle.endpoint_node.proofs.NoteStill.{AllStill, still-append}
+use Rattle.endpoint_node.proofs.ShortLemmas.{calm-still, one-header, spares-calm}
 use Rattle.endpoint_node.specs.Requests.{SlotsServed, job_named, with_given}
 use Rattle.endpoint_node.proofs.PacketRows.{background-of, inline-of, unfilled}
 use Rattle.endpoint_node.proofs.QueueEntries.{one-reply, put-all}
@@ -89,6 +95,12 @@ use Rattle.endpoint_node.proofs.PacketServers.{full-asking, gives, later-gave}
 use Rattle.endpoint_node.proofs.PacketServers.{later-ran, later-took, peers-agree, runs}
 use Rattle.endpoint_node.proofs.PacketServers.{slice_get-some}
 use Rattle.endpoint_node.proofs.PacketServers.{takes, twice-first}
+
+-- a packet that is dropped for want of memory has a refusal
+drop-lacks : (me : ℕ) (why : DropReason)
+    → lacks_in (plain me (DroppedEvent why) ∷ []) ≡ lacks_for why
+drop-lacks me NoMemory = refl
+drop-lacks me _ = refl
 
 module _ (me : ℕ) (limits : Limits) (tallies : Tallies) (paces : List Pace) (jobs : Jobs)
     (clock : ℕ) (rx : Ring DatagramValue) (s : Shown) where
@@ -122,14 +134,15 @@ module _ (me : ℕ) (limits : Limits) (tallies : Tallies) (paces : List Pace) (j
       abbrev v_of : Serving
       v_of = record { mode = mode_of; answer = answer_of }
 
-      abbrev Result : Option Parcel → Tallies → Jobs → Ring DatagramValue → Shown → Type 0
-      Result o ta js q u =
+      abbrev Result : Option Parcel → Tallies → Jobs → Ring DatagramValue → Shown → Change ℕ
+          → Type 0
+      Result o ta js q u memory =
           MakesServed log v_of stands then_stands (ServesRequest mode_of h) o
-          (seen tallies jobs rx s) (seen ta js q u) before now
+          (seen tallies jobs rx s) (seen ta js q u) before now memory
 
       -- facts that are the rule's, and lead to the node as it is
       node-served : (o : Option Parcel) (ta : Tallies) (js : Jobs) (q : Ring DatagramValue)
-          (u : Shown) (lacks : Bool) (answer : List ℕ) (x : List Fact)
+          (u : Shown) (memory : Change ℕ) (lacks : Bool) (answer : List ℕ) (x : List Fact)
           → Grew (log before) (log now) x
           → ((asks : Asks)
           → x ≡ asks_facts mode_of lacks answer (old (asking_jobs asks jobs)) d.peer h body)
@@ -139,36 +152,65 @@ module _ (me : ℕ) (limits : Limits) (tallies : Tallies) (paces : List Pace) (j
           × then_stands (served_after_all mode_of served x))
           → IfSome o (IsGiven v_of stands) → js ≡ with_given o jobs
           → IfSome o (λ p. are_full jobs ≡ false)
-          → SparesShort v_of (map arrival_of rx.items) x → Result o ta js q u
-      node-served o ta js q u lacks answer x grew is goes answers parcel given vacant spared = record {
-        makes = record {
-          noted = x;
-          grew = grew;
-          step = λ asks asked. record {
-            front = arrival_of d;
-            is_front = is-front;
-            lacks = lacks;
-            answer = answer;
-            facts = is asks;
-            goes = goes asks asked;
-          };
-        };
-        answers = answers;
-        parcel = parcel;
-        jobs = given;
-        vacant = vacant;
-        spared = spared;
-      }
+          → SparesShort v_of (map arrival_of rx.items) x
+          → HasRisenBy (lacks_in x) memory.old memory.new → Result o ta js q u memory
+      node-served o ta js q u memory lacks answer x grew is goes answers parcel given vacant spared
+          wants = record {
+            makes = record {
+              noted = x;
+              grew = grew;
+              step = λ asks asked. record {
+                front = arrival_of d;
+                is_front = is-front;
+                lacks = lacks;
+                answer = answer;
+                facts = is asks;
+                goes = goes asks asked;
+              };
+            };
+            answers = answers;
+            parcel = parcel;
+            jobs = given;
+            vacant = vacant;
+            spared = spared;
+            wants = wants;
+          }
+
+      -- and where none of them tells of a want of memory
+      node-calm : (o : Option Parcel) (ta : Tallies) (js : Jobs) (q : Ring DatagramValue)
+          (u : Shown) (memory : Change ℕ) (answer : List ℕ) (x : List Fact)
+          → Grew (log before) (log now) x
+          → ((asks : Asks)
+          → x ≡ asks_facts mode_of false answer (old (asking_jobs asks jobs)) d.peer h body)
+          → ((asks : Asks) → AsksAs o asks → seen ta (asking_jobs asks js) q u
+          ≡ record { lists = after_all clock (old (asking_jobs asks jobs)) x; clock = clock })
+          → ((served : Served) → stands served → Answers v_of served x
+          × then_stands (served_after_all mode_of served x))
+          → IfSome o (IsGiven v_of stands) → js ≡ with_given o jobs
+          → IfSome o (λ p. are_full jobs ≡ false) → AllStill is_lack x
+          → HasRisenBy 0 memory.old memory.new → Result o ta js q u memory
+      node-calm o ta js q u memory answer x grew is goes answers parcel given vacant calm risen =
+          node-served o ta js q u memory false answer x grew is goes answers parcel given vacant
+          (spares-calm v_of (map arrival_of rx.items) x (calm-still x calm))
+          (subst (λ (n : ℕ). HasRisenBy n memory.old memory.new) (sym (many-none is_lack x calm))
+          risen)
 
       -- a packet to no session, or from another peer than its session's
-      dropped-by : (why : DropReason) → why ≢ NoMemory → (u : Timed)
+      dropped-calm : (why : DropReason) → is_lack (DroppedEvent why) ≡ false → (u : Timed)
+          → (makes : Makes log (DropsFront why) (seen tallies jobs rx s) u before now)
+          → AllStill is_lack makes.noted
+      dropped-calm why other u makes =
+          subst (λ (x : List Fact). AllStill is_lack x) (sym (makes.step (λ a b. [])).facts)
+          (other, tt)
+
+      dropped-by : (why : DropReason) → is_lack (DroppedEvent why) ≡ false → (u : Timed) (n : ℕ)
           → ((js : Jobs) → asks_facts mode_of false [] (old js) d.peer h body
           ≡ plain me (DroppedEvent why) ∷ []) → u.lists.jobs ≡ jobs
           → ((served : Served) → stands served → then_stands served)
           → Makes log (DropsFront why) (seen tallies jobs rx s) u before now
           → MakesServed log v_of stands then_stands (ServesRequest mode_of h) None
-          (seen tallies jobs rx s) u before now
-      dropped-by why other u is left still makes = record {
+          (seen tallies jobs rx s) u before now (n ⟶ n)
+      dropped-by why other u n is left still makes = record {
         makes = record {
           noted = makes.noted;
           grew = makes.grew;
@@ -188,41 +230,43 @@ module _ (me : ℕ) (limits : Limits) (tallies : Tallies) (paces : List Pace) (j
         parcel = tt;
         jobs = left;
         vacant = tt;
-        spared = subst (λ (x : List Fact). SparesShort v_of (map arrival_of rx.items) x)
-            (sym (makes.step (λ a b. [])).facts)
-            ((λ short e. let same : why ≡ NoMemory = cc in other same), tt);
+        spared = spares-calm v_of (map arrival_of rx.items) makes.noted
+            (calm-still makes.noted (dropped-calm why other u makes));
+        wants = subst (λ (k : ℕ). HasRisenBy k n n)
+            (sym (many-none is_lack makes.noted (dropped-calm why other u makes))) (none-risen n);
       }
 
-      pub node-unknown : (u : Timed) → position (is_server h.session) s.servers ≡ None
+      pub node-unknown : (u : Timed) (n : ℕ) → position (is_server h.session) s.servers ≡ None
           → u.lists.jobs ≡ jobs
           → ((served : Served) → stands served → then_stands served)
           → Makes log (DropsFront NoSession) (seen tallies jobs rx s) u before now
           → MakesServed log v_of stands then_stands (ServesRequest mode_of h) None
-          (seen tallies jobs rx s) u before now
-      node-unknown u missing left still makes =
+          (seen tallies jobs rx s) u before now (n ⟶ n)
+      node-unknown u n missing left still makes =
           let none = find-missing (is_server h.session) s.servers missing in
-          dropped-by NoSession (λ e. cc) u (λ js. rw none refl) left still makes
+          dropped-by NoSession refl u n (λ js. rw none refl) left still makes
 
-      pub node-stranger : (u : Timed) (i p : ℕ) → position (is_server h.session) s.servers ≡ Some i
+      pub node-stranger : (u : Timed) (n i p : ℕ)
+          → position (is_server h.session) s.servers ≡ Some i
           → IfSome (slice_get s.servers i) (λ v. p ≡ v.way.peer) → i < length s.servers
           → (p ≡ d.peer → ⊥) → u.lists.jobs ≡ jobs
           → ((served : Served) → stands served → then_stands served)
           → Makes log (DropsFront WrongPeer) (seen tallies jobs rx s) u before now
           → MakesServed log v_of stands then_stands (ServesRequest mode_of h) None
-          (seen tallies jobs rx s) u before now
-      node-stranger u i p place own within other left still makes =
+          (seen tallies jobs rx s) u before now (n ⟶ n)
+      node-stranger u n i p place own within other left still makes =
           by (slice_get s.servers i) refl own
         where
           by : (o : Option Server) → slice_get s.servers i ≡ o → IfSome o (λ v. p ≡ v.way.peer)
               → MakesServed log v_of stands then_stands (ServesRequest mode_of h) None
-              (seen tallies jobs rx s) u before now
+              (seen tallies jobs rx s) u before now (n ⟶ n)
           by None e is = absurd (slice_get-some s.servers i within e)
           by (Some v) e is =
               let found : find (is_server h.session) s.servers ≡ Some v =
               find-found (is_server h.session) s.servers i place ∙ e in
               let unlike : (v.way.peer == d.peer) ≡ false =
               ne_eqb v.way.peer d.peer (λ same. other (is ∙ same)) in
-              dropped-by WrongPeer (λ e. cc) u (λ js. rw (found, unlike) refl) left still makes
+              dropped-by WrongPeer refl u n (λ js. rw (found, unlike) refl) left still makes
 
     -- what always holds, once the queue and one server session changed
     module _ (i : ℕ) (t : Shown) (clients : t.clients ≡ s.clients) (size : t.size ≡ s.size)
@@ -278,10 +322,10 @@ module _ (me : ℕ) (limits : Limits) (tallies : Tallies) (paces : List Pace) (j
         abbrev serving : Serving
         serving = record { mode = mode_of; answer = answer_of }
 
-        abbrev Ends : Option Parcel → Tallies → Jobs → Type 0
-        Ends o ta js =
+        abbrev Ends : Option Parcel → Tallies → Jobs → Change ℕ → Type 0
+        Ends o ta js memory =
             MakesServed log serving stands then_stands (ServesRequest mode_of h) o
-            (seen tallies jobs rx s) (seen ta js q t) before now
+            (seen tallies jobs rx s) (seen ta js q t) before now memory
 
         module _ (step : Step) (p : At step) where
           found : find (is_server h.session) s.servers ≡ Some p.server
@@ -425,17 +469,17 @@ module _ (me : ℕ) (limits : Limits) (tallies : Tallies) (paces : List Pace) (j
                 (pushed-few s.queued t.queued queue-again (omega arith)) refl
 
             pub node-again : ((old_served : Served) → stands old_served → then_stands old_served)
-                → Ends None tallies jobs
-            node-again still =
-                node-served log before now answer_of stands then_stands None tallies jobs
-                q t
-                false p.handled.answer (again ∷ posted ∷ [])
+                → (memory : Change ℕ) → HasRisenBy 0 memory.old memory.new
+                → Ends None tallies jobs memory
+            node-again still memory risen =
+                node-calm log before now answer_of stands then_stands None tallies jobs
+                q t memory p.handled.answer (again ∷ posted ∷ [])
                 (subst (λ (x : List Fact). Grew (log before) (log now) x) ruled-again
                 p.handled.grew)
                 (λ asks. facts-again (asking_jobs asks jobs) (full-asking asks jobs))
                 (λ asks asked. goes-again (asking_jobs asks jobs))
                 (λ old_served st. ((tt, (tt, tt)), still old_served st))
-                tt refl tt ((λ short e. cc), ((λ short e. cc), tt))
+                tt refl tt (refl, (refl, tt)) risen
 
         -- a packet that is dropped
         module _ (why : DropReason) (p : At (Dropped why)) (n : ℕ)
@@ -497,16 +541,18 @@ module _ (me : ℕ) (limits : Limits) (tallies : Tallies) (paces : List Pace) (j
               (ap (λ x. Dropped x) same)
 
           pub node-drop : ((old_served : Served) → stands old_served → then_stands old_served)
-              → Ends None dropped_tallies jobs
-          node-drop still =
+              → (memory : Change ℕ) → HasRisenBy (lacks_for why) memory.old memory.new
+              → Ends None dropped_tallies jobs memory
+          node-drop still memory risen =
               node-served log before now answer_of stands then_stands None dropped_tallies
-              jobs q t lacks-and.0 p.handled.answer (dropped ∷ [])
+              jobs q t memory lacks-and.0 p.handled.answer (dropped ∷ [])
               (subst (λ (x : List Fact). Grew (log before) (log now) x) ruled-dropped
               p.handled.grew)
               (λ asks. facts-drop (asking_jobs asks jobs) (full-asking asks jobs))
               (λ asks asked. goes-dropped (asking_jobs asks jobs))
               (λ old_served st. ((tt, tt), still old_served st))
               tt refl tt ((λ short e. not-wanted short (let same : why ≡ NoMemory = cc in same)), tt)
+              (subst (λ (n : ℕ). HasRisenBy n memory.old memory.new) (sym (drop-lacks me why)) risen)
 
         -- a packet that is taken
         module _ (step : Step) (p : At step) (takes : takes_it step ≡ true) where
@@ -592,11 +638,11 @@ module _ (me : ℕ) (limits : Limits) (tallies : Tallies) (paces : List Pace) (j
                 (pushed-few tk.queue t.queued queue-took tk.fewer) refl
 
             pub node-took : ((old_served : Served) → stands old_served → then_stands old_served)
-                → Ends None tallies jobs
-            node-took still =
-                node-served log before now answer_of stands then_stands None tallies jobs
-                q t
-                false p.handled.answer noted-took
+                → (memory : Change ℕ) → HasRisenBy 0 memory.old memory.new
+                → Ends None tallies jobs memory
+            node-took still memory risen =
+                node-calm log before now answer_of stands then_stands None tallies jobs
+                q t memory p.handled.answer noted-took
                 (subst (λ (x : List Fact). Grew (log before) (log now) x) ruled-took p.handled.grew)
                 (λ asks. facts-taken (asking_jobs asks jobs) (full-asking asks jobs))
                 (λ asks asked. goes-took (asking_jobs asks jobs))
@@ -606,9 +652,8 @@ module _ (me : ℕ) (limits : Limits) (tallies : Tallies) (paces : List Pace) (j
                       (sym (tk.serves serving old_served (took ∷ posted ∷ [])))
                       (still old_served st),
                 ))
-                tt refl tt (spares-calm serving (map arrival_of rx.items) noted-took
-                (all-both IsNoWant tk.older (took ∷ posted ∷ []) tk.calm
-                ((λ e. cc), ((λ e. cc), tt))))
+                tt refl tt (still-append is_lack tk.older (took ∷ posted ∷ []) tk.calm
+                (refl, (refl, tt))) risen
 
         abbrev Replied : Step → Server → Type 0
         Replied step v =
@@ -621,9 +666,11 @@ module _ (me : ℕ) (limits : Limits) (tallies : Tallies) (paces : List Pace) (j
 
         pub node-took-it : (o : Option EntryValue) (p : At (Took o)) → Replied (Took o) p.server
             → ((old_served : Served) → stands old_served → then_stands old_served)
-            → Ends None tallies jobs
-        node-took-it None p reply still = absurd reply
-        node-took-it (Some e) p reply still = node-took e p reply.0 reply.1 still
+            → (memory : Change ℕ) → HasRisenBy 0 memory.old memory.new
+            → Ends None tallies jobs memory
+        node-took-it None p reply still memory risen = absurd reply
+        node-took-it (Some e) p reply still memory risen =
+            node-took e p reply.0 reply.1 still memory risen
 
         -- and its request's handler ran
         module _ (e : EntryValue) (p : At (Ran e))
@@ -725,10 +772,11 @@ module _ (me : ℕ) (limits : Limits) (tallies : Tallies) (paces : List Pace) (j
           then-served old_served = tr.serves serving old_served (took ∷ ran_fact ∷ posted ∷ [])
               ∙ rw inline refl
 
-          pub node-ran : Ends None ran_tallies jobs
-          node-ran =
-              node-served log before now answer_of stands then_stands None ran_tallies jobs
-              q t false p.handled.answer noted-ran
+          pub node-ran : (memory : Change ℕ) → HasRisenBy 0 memory.old memory.new
+              → Ends None ran_tallies jobs memory
+          node-ran memory risen =
+              node-calm log before now answer_of stands then_stands None ran_tallies jobs
+              q t memory p.handled.answer noted-ran
               (subst (λ (x : List Fact). Grew (log before) (log now) x) ruled-ran p.handled.grew)
               (λ asks. facts-run (asking_jobs asks jobs) (full-asking asks jobs))
               (λ asks asked. goes-ran (asking_jobs asks jobs) (asking_jobs asks jobs)
@@ -739,9 +787,8 @@ module _ (me : ℕ) (limits : Limits) (tallies : Tallies) (paces : List Pace) (j
                     (tt, (own.0, (tt, tt))),
                 subst then_stands (sym (then-served old_served)) own.1,
               ))
-              tt refl tt (spares-calm serving (map arrival_of rx.items) noted-ran
-              (all-both IsNoWant tr.older (took ∷ ran_fact ∷ posted ∷ [])
-              tr.calm ((λ e. cc), ((λ e. cc), ((λ e. cc), tt)))))
+              tt refl tt (still-append is_lack tr.older (took ∷ ran_fact ∷ posted ∷ [])
+              tr.calm (refl, (refl, (refl, tt)))) risen
 
         pub unfull-of : (parcel : Parcel) → At (Give parcel) → full ≡ false
         unfull-of parcel p =
@@ -902,10 +949,11 @@ module _ (me : ℕ) (limits : Limits) (tallies : Tallies) (paces : List Pace) (j
 
           pub node-give : js_now.given ≡ jobs.given + 1
               → ((old_served : Served) → stands old_served → then_stands old_served)
-              → Ends (Some parcel) given_tallies js_now
-          node-give more still =
-              node-served log before now answer_of stands then_stands (Some parcel)
-              given_tallies js_now q t false p.handled.answer noted-give
+              → (memory : Change ℕ) → HasRisenBy 0 memory.old memory.new
+              → Ends (Some parcel) given_tallies js_now memory
+          node-give more still memory risen =
+              node-calm log before now answer_of stands then_stands (Some parcel)
+              given_tallies js_now q t memory p.handled.answer noted-give
               (subst (λ (x : List Fact). Grew (log before) (log now) x) ruled-give p.handled.grew)
               (λ asks. facts-given (asking_jobs asks jobs) (full-asking asks jobs))
               (λ asks own. goes-give (asking_jobs asks jobs) (asking_jobs asks js_now)
@@ -918,6 +966,5 @@ module _ (me : ℕ) (limits : Limits) (tallies : Tallies) (paces : List Pace) (j
               ))
               is-given (rw (← limit, ← more, ← named) refl)
               (sym is_full ∙ unfull-of parcel p)
-              (spares-calm serving (map arrival_of rx.items) noted-give
-              (all-both IsNoWant tg.older (took ∷ given_fact ∷ []) tg.calm
-              ((λ e. cc), ((λ e. cc), tt))))
+              (still-append is_lack tg.older (took ∷ given_fact ∷ []) tg.calm (refl, (refl, tt)))
+              risen

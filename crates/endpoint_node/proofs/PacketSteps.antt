@@ -2,8 +2,9 @@
 -- client rule where it replies.
 use Rattle.std.proofs.Common.{◌≡◌, ◌≢◌, ◌<◌, ℕ, Bool, true, false, cond, Option, Some, None, List, []}
 use Rattle.std.proofs.Common.{◌∷◌, ◌++◌, map, drop, length, refl, sym, ap, subst, ◌∙◌, inl, inr}
-use Rattle.std.specs.Prelude.{◌==◌, ◌⊎◌, is_none, is_some, option_to_list, slice_get}
-use Rattle.std.specs.List.{AllByRecursion, filter, find}
+use Rattle.std.specs.Prelude.{◌==◌, ◌⊎◌, ◌||◌, is_none, is_some, nat_le, nat_lt, not}
+use Rattle.std.specs.Prelude.{option_to_list, slice_get}
+use Rattle.std.specs.List.{AllByRecursion, filter, find, list_any}
 use Rattle.rpc_outside.specs.Recording.{Log}
 use Rattle.client_core.specs.Shown.{done_fact, end_event}
 use Rattle.client_core.specs.declared.outcome.Done.{Done}
@@ -18,8 +19,10 @@ use Rattle.packet_header.specs.declared.packet.MessageHeader.{MessageHeader}
 use Rattle.rpc_base.specs.declared.event.Event.TheVariants.{Dropped, Flushed}
 use Rattle.rpc_base.specs.declared.fact.Fact.{Fact}
 use Rattle.rpc_base.specs.declared.owner.Owner.{Owner}
-use Rattle.rpc_base.specs.declared.owner.Owner.TheVariants.{Reply}
-use Rattle.rpc_base.specs.declared.state.DropReason.TheVariants.{NoMemory, StaleLife}
+use Rattle.rpc_base.specs.declared.owner.Owner.TheVariants.{Ask, Reply}
+use Rattle.rpc_base.specs.declared.state.DropReason.TheVariants.{Ahead, Mismatch, NoSession, Past}
+use Rattle.rpc_base.specs.declared.state.DropReason.TheVariants.{Queued as StillQueued, StaleLife}
+use Rattle.rpc_base.specs.declared.state.DropReason.TheVariants.{WrongPeer}
 use Rattle.rpc_laws.specs.declared.rows.ClientRow.{ClientRow}
 use Rattle.rpc_laws.specs.declared.rows.ClientRow.TheVariants.{Drops as DropsReply, Takes as TakesReply}
 use Rattle.rpc_laws.specs.declared.rows.EndRow.{EndRow}
@@ -37,20 +40,23 @@ use Rattle.rpc_laws.specs.declared.tables.Served.{Served as ServedRequest}
 use Rattle.rpc_laws.specs.declared.tables.Server.{Server}
 use Rattle.rpc_laws.specs.declared.tables.Timed.{Timed}
 use Rattle.rpc_laws.specs.Calls.{asked_packets, is_active, with_reply}
-use Rattle.rpc_laws.specs.ClientTable.{call_ending, client_ending, client_row, end_facts, end_row}
+use Rattle.rpc_laws.specs.ClientTable.{active_row, call_ending, call_row, client_ending, client_row}
+use Rattle.rpc_laws.specs.ClientTable.{end_facts, end_row, is_of_turn}
 use Rattle.rpc_laws.specs.ClientTable.{progress_ending, reply_facts}
 use Rattle.rpc_laws.specs.Facts.{plain}
 use Rattle.rpc_laws.specs.Front.{front_header}
 use Rattle.rpc_laws.specs.PollOrder.{Handles, asks_facts, handled, handling_by, replies_facts}
-use Rattle.rpc_laws.specs.Queues.{numbers_of, replies, ring_after}
+use Rattle.rpc_laws.specs.Queues.{is_queued, numbers_of, replies}
 use Rattle.rpc_laws.specs.Requests.{in_slot_of, is_server}
-use Rattle.rpc_laws.specs.Sessions.{is_client}
+use Rattle.rpc_laws.specs.Sessions.{is_client, is_connected}
 use Rattle.rpc_laws.specs.ServerTable.{flushes, flushes_older, makes_job, served_facts}
 use Rattle.rpc_laws.specs.ServerTable.{took_facts, whole_ask}
 use Rattle.rpc_laws.specs.Service.{Answers, Serving, served_after_all}
 use Rattle.rpc_outside.specs.Served.{Served}
 use Rattle.rpc_outside.specs.declared.service.Mode.{Mode}
 use Rattle.worker_board.specs.declared.Parcel.{Parcel}
+use Rattle.memory_count.specs.Faults.{HasRisenBy}
+use Rattle.memory_count.proofs.Risen.{none-risen}
 use Rattle.node_laws.specs.Kept.{IsPacket}
 use Rattle.endpoint_node.specs.Given.{Gave}
 use Rattle.endpoint_node.proofs.HandedGiven.{gave-same}
@@ -58,9 +64,12 @@ use Rattle.endpoint_node.specs.Packets.{MakesHandled}
 use Rattle.endpoint_node.specs.Replies.{Drops as DropsFor, HearsReply, over_facts}
 use Rattle.endpoint_node.specs.Notes.{Makes, is_end}
 use Rattle.endpoint_node.specs.Seen.{Asks, asking}
-use Rattle.endpoint_node.specs.Requests.{AsksAs, IsNoWant, IsShort, MakesServed, ServesRequest}
-use Rattle.endpoint_node.specs.Requests.{SparesShort}
-use Rattle.endpoint_node.proofs.ShortLemmas.{one-header, spares-calm}
+use Rattle.endpoint_node.specs.Changes.{◌⟶◌, Change}
+use Rattle.endpoint_node.specs.Lacks.{is_lack}
+use Rattle.endpoint_node.specs.Requests.{AsksAs, MakesServed, ServesRequest}
+use Rattle.endpoint_node.proofs.NoteCounts.{many-none}
+use Rattle.endpoint_node.proofs.NoteStill.{AllStill}
+use Rattle.endpoint_node.proofs.ShortLemmas.{calm-still, spares-calm}
 
 -- what stands in front of the ring is a packet
 pub packet-there : (ring : List Arrival) (o : Option MessageHeader) → o ≡ front_header ring
@@ -214,24 +223,65 @@ ends-over : (me : ℕ) (x : List Fact) (o : Option Done) → IsOver x → drop 1
 ends-over me [] o over e = absurd over
 ends-over me (f ∷ fs) o over e = rw over.0 (over.1.0 ∙ e ∙ listed me o)
 
--- a reply is no short request, and the end of a call drops no packet
-over-calm : (me : ℕ) (o : Option Done) → AllByRecursion IsNoWant (over_facts me o)
+-- the end of a call tells of no want of memory
+over-calm : (me : ℕ) (o : Option Done) → AllStill is_lack (over_facts me o)
 over-calm me None = tt
 over-calm me (Some d) = (end-calm d.outcome, tt)
   where
-    end-calm : (outcome : Outcome) → end_event d.call outcome ≢ Dropped NoMemory
-    end-calm Ok e = cc
-    end-calm (TooSmall size) e = cc
-    end-calm PeerLost e = cc
+    end-calm : (outcome : Outcome) → is_lack (end_event d.call outcome) ≡ false
+    end-calm Ok = refl
+    end-calm (TooSmall size) = refl
+    end-calm PeerLost = refl
 
-over-spared : (v : Serving) (ring : List Arrival) (me : ℕ) (x : List Fact) (o : Option Done)
-    → drop 1 x ≡ over_facts me o → (IsShort v ring → ⊥) → SparesShort v ring x
-over-spared v ring me [] o over other = tt
-over-spared v ring me (f ∷ x) o over other = (
-  (λ short. absurd (other short)),
-  spares-calm v (ring_after f.event f.first ring) x
-      (subst (λ (y : List Fact). AllByRecursion IsNoWant y) (sym over) (over-calm me o)),
-)
+-- nor does the client rule
+abbrev row_lacks : ClientRow → Bool
+row_lacks (DropsReply why) = is_lack (Dropped why)
+row_lacks TakesReply = false
+
+turn-calm : (b c d e : Bool) → row_lacks (cond b (DropsReply Past) (cond c (DropsReply Ahead)
+    (cond d (DropsReply Mismatch) (cond e (DropsReply StillQueued) TakesReply)))) ≡ false
+turn-calm true c d e = refl
+turn-calm false true d e = refl
+turn-calm false false true e = refl
+turn-calm false false false true = refl
+turn-calm false false false false = refl
+
+known-calm : (b c : Bool) (row : ClientRow) → row_lacks row ≡ false
+    → row_lacks (cond b (DropsReply NoSession) (cond c (DropsReply WrongPeer) row)) ≡ false
+known-calm true c row calm = refl
+known-calm false true row calm = refl
+known-calm false false row calm = calm
+
+module _ (queued : List Queued) (peer : ℕ) (h : MessageHeader) (len : ℕ) where
+  active-calm : (a : Asking) (o : Option Progress)
+      → row_lacks (active_row queued a o h len) ≡ false
+  active-calm a None = refl
+  active-calm a (Some p) =
+      turn-calm (nat_lt h.number p.got) (nat_lt p.got h.number || nat_le p.posted h.number)
+      (not (is_of_turn (asked_packets a) a.req_type p.answer h len))
+      (list_any (is_queued (Ask h.session h.request) h.number) queued)
+
+  call-calm : (o : Option Call) → row_lacks (call_row queued o h len) ≡ false
+  call-calm None = refl
+  call-calm (Some c) = active-calm c.what c.progress
+
+  client-calm : (o : Option Client) → row_lacks (client_row queued o peer h len) ≡ false
+  client-calm None = refl
+  client-calm (Some x) =
+      known-calm (not (is_connected x.state)) (not (x.way.peer == peer))
+      (call_row queued (find (is_active h.request) x.calls) h len)
+      (call-calm (find (is_active h.request) x.calls))
+
+reply-calm : (me : ℕ) (x : Option Client) (h : MessageHeader) (body : List ℕ) (row : ClientRow)
+    (o : Option Done) (fs : List Fact) → row_lacks row ≡ false
+    → fs ≡ reply_facts me x h body row → drop 1 fs ≡ over_facts me o → AllStill is_lack fs
+reply-calm me x h body (DropsReply why) o fs calm is over =
+    subst (λ (y : List Fact). AllStill is_lack y) (sym is) (calm, tt)
+reply-calm me x h body TakesReply o fs calm is over =
+    let rest : over_facts me o ≡ client_ending me h body x =
+    sym over ∙ ap (λ (y : List Fact). drop 1 y) is in
+    subst (λ (y : List Fact). AllStill is_lack y) (sym is)
+    (refl, subst (λ (y : List Fact). AllStill is_lack y) rest (over-calm me o))
 
 abbrev pub no-asks : Asks
 no-asks s r = []
@@ -250,10 +300,10 @@ module _ {R K : Type 0} (log : R → Log)
     (a b : Timed) (before now : R) (front : front_header a.lists.ring ≡ Some h)
     (room : replies a.lists.queued < a.lists.room) where
   -- it is for another life of the node
-  pub node-stale : (from to : K) → (h.to_life == a.lists.life) ≡ false → a.lists.ring ≢ []
+  pub node-stale : (from to : K) (n : ℕ) → (h.to_life == a.lists.life) ≡ false → a.lists.ring ≢ []
       → to ≡ from → Makes log (DropsFor StaleLife) a b before now → b.lists.jobs ≡ a.lists.jobs
-      → MakesHandled log given v stands stands (Handles v.mode) None a b before now from to
-  node-stale from to other some same makes jobs =
+      → MakesHandled log given v stands stands (Handles v.mode) None a b before now from to (n ⟶ n)
+  node-stale from to n other some same makes jobs =
       let first = some-arrival a.lists.ring some in
       let noted : makes.noted ≡ plain a.lists.me (Dropped StaleLife) ∷ [] =
       (makes.step no-asks).facts in
@@ -281,24 +331,31 @@ module _ {R K : Type 0} (log : R → Log)
           jobs = jobs;
           vacant = tt;
           spared = rw noted ((λ short e. cc), tt);
+          wants = rw noted (none-risen n);
         };
         dones = [];
         ends = ap (λ (x : List Fact). filter is_end x) noted;
         gave = gave-same given from to same;
       }
 
-  pub node-replies : (o : Option Done) (from to : K) → (h.to_life == a.lists.life) ≡ true
+  pub node-replies : (o : Option Done) (from to : K) (n : ℕ) → (h.to_life == a.lists.life) ≡ true
       → is_asking h.kind ≡ false
       → Makes log (HearsReply h o) a b before now → b.lists.jobs ≡ a.lists.jobs
       → Gave given from to (option_to_list o)
-      → MakesHandled log given v stands stands (Handles v.mode) None a b before now from to
-  node-replies o from to own-life replying makes jobs gave =
+      → MakesHandled log given v stands stands (Handles v.mode) None a b before now from to (n ⟶ n)
+  node-replies o from to n own-life replying makes jobs gave =
       let first = makes.step no-asks in
       let over : IsOver makes.noted = subst IsOver (sym first.facts)
       (reply-over a.lists.me (find (is_client h.session) a.lists.clients) h
       (body_of first.front.bytes) (client_row a.lists.queued
       (find (is_client h.session) a.lists.clients) first.front.peer h
       (length (body_of first.front.bytes)))) in
+      let calm = reply-calm a.lists.me (find (is_client h.session) a.lists.clients) h
+      (body_of first.front.bytes) (client_row a.lists.queued
+      (find (is_client h.session) a.lists.clients) first.front.peer h
+      (length (body_of first.front.bytes))) o makes.noted
+      (client-calm a.lists.queued first.front.peer h (length (body_of first.front.bytes))
+      (find (is_client h.session) a.lists.clients)) first.facts first.over in
       record {
         serves = record {
           makes = record {
@@ -328,11 +385,9 @@ module _ {R K : Type 0} (log : R → Log)
           parcel = tt;
           jobs = jobs;
           vacant = tt;
-          spared = over-spared v a.lists.ring a.lists.me makes.noted o first.over (λ short.
-              let own : short.head ≡ h = one-header a.lists.ring short.head h short.front front in
-              let clash : false ≡ true = sym replying
-              ∙ ap (λ (x : MessageHeader). is_asking x.kind) (sym own) ∙ short.asking in
-              cc);
+          spared = spares-calm v a.lists.ring makes.noted (calm-still makes.noted calm);
+          wants = subst (λ (k : ℕ). HasRisenBy k n n) (sym (many-none is_lack makes.noted calm))
+              (none-risen n);
         };
         dones = option_to_list o;
         ends = ends-over a.lists.me makes.noted o over first.over;
@@ -340,10 +395,12 @@ module _ {R K : Type 0} (log : R → Log)
       }
 
   pub node-requests : (then_stands : Served → Type 0) (job : Option Parcel) (from to : K)
+      (memory : Change ℕ)
       → (h.to_life == a.lists.life) ≡ true → is_asking h.kind ≡ true → to ≡ from
-      → MakesServed log v stands then_stands (ServesRequest v.mode h) job a b before now
+      → MakesServed log v stands then_stands (ServesRequest v.mode h) job a b before now memory
       → MakesHandled log given v stands then_stands (Handles v.mode) job a b before now from to
-  node-requests then_stands job from to own-life asks-it same served =
+      memory
+  node-requests then_stands job from to memory own-life asks-it same served =
       let one = served.makes.step (asks-of job) (asks-as job) in
       record {
         serves = record {
@@ -373,6 +430,7 @@ module _ {R K : Type 0} (log : R → Log)
           jobs = served.jobs;
           vacant = served.vacant;
           spared = served.spared;
+          wants = served.wants;
         };
         dones = [];
         ends = ap (λ (x : List Fact). filter is_end x) one.facts

@@ -4,7 +4,7 @@ use Rattle.std.proofs.Common.{◌∷◌, ◌++◌, refl, sym, ap, subst, ◌∙�
 use Rattle.std.specs.Prelude.{count_by, option_map}
 use Rattle.rpc_base.specs.declared.fact.Fact.{Fact}
 use Rattle.rpc_laws.specs.declared.tables.Queued.{Queued}
-use Rattle.rpc_outside.specs.Faults.{HasRisen}
+use Rattle.memory_count.specs.Faults.{HasRisen}
 use Rattle.rpc_outside.specs.declared.link.Link as Link
 use Rattle.endpoint_node.specs.Counts.{is_sent}
 use Rattle.endpoint_node.specs.Notes.{sent_of}

@@ -8,6 +8,12 @@ use Rattle.rpc_laws.specs.declared.tables.Timed.{Timed}
 use Rattle.rpc_laws.specs.Facts.{plain}
 use Rattle.rpc_laws.specs.Groups.{client_refusal, server_refusal}
 use Rattle.rpc_laws.specs.Steps.{NotesNext}
+use Rattle.memory_count.specs.Faults.{HasRisenBy}
+use Rattle.memory_count.proofs.Risen.{none-risen}
+use Rattle.session_mgmt.specs.Refusals.{lacks_for, refused}
+use Rattle.session_mgmt.specs.declared.answers.ConnectError.{ConnectError}
+use Rattle.session_mgmt.specs.declared.answers.ConnectError.TheVariants.{NoMemory, NumbersSpent}
+use Rattle.session_mgmt.specs.declared.answers.ConnectError.TheVariants.{RingFull}
 use Rattle.endpoint_node.specs.Pairs.{PairsClient, PairsServer, Refuses, or_refused}
 use Rattle.endpoint_node.specs.Notes.{Makes}
 
@@ -77,3 +83,10 @@ module _ {R : Type 0} (log : R → Log) (a b : Timed) (f g : R)
           goes = h.goes;
         };
   }
+
+-- a refusal that is noted tells of no want of memory
+pub refused-lacks : (n : ℕ) (why : ConnectError) → IsSome (refused why)
+    → HasRisenBy (lacks_for why) n n
+refused-lacks n NumbersSpent some = none-risen n
+refused-lacks n (RingFull shares credits ring) some = none-risen n
+refused-lacks n NoMemory some = cc

@@ -1,20 +1,19 @@
 -- Short requests in the ring, which need no memory.
-use Rattle.std.proofs.Common.{◌≡◌, ◌++◌, ℕ, List, [], ◌∷◌, Some, map, refl, ap, ◌∙◌}
+use Rattle.std.proofs.Common.{◌≡◌, ◌++◌, ℕ, true, false, List, [], ◌∷◌, Some, refl, sym, ap, ◌∙◌}
 use Rattle.std.specs.List.{AllByRecursion}
 use Rattle.packet_header.specs.declared.packet.MessageHeader.{MessageHeader}
-use Rattle.rpc_base.specs.declared.event.Event.TheVariants.{Flushed}
 use Rattle.rpc_base.specs.declared.fact.Fact.{Fact}
-use Rattle.rpc_base.specs.declared.owner.Owner.{Owner}
 use Rattle.rpc_laws.specs.declared.tables.Arrival.{Arrival}
 use Rattle.rpc_laws.specs.declared.tables.Lists.{Lists}
 use Rattle.rpc_laws.specs.declared.tables.Timed.{Timed}
-use Rattle.rpc_laws.specs.Facts.{plain}
 use Rattle.rpc_laws.specs.Front.{front_header}
 use Rattle.rpc_laws.specs.NodeLists.{after, after_all}
 use Rattle.rpc_laws.specs.Queues.{ring_after}
 use Rattle.rpc_laws.specs.Service.{Serving}
 use Rattle.rpc_laws.specs.Steps.{Goes}
+use Rattle.endpoint_node.specs.Lacks.{is_lack}
 use Rattle.endpoint_node.specs.Requests.{IsNoWant, SparesShort, ring_left}
+use Rattle.endpoint_node.proofs.NoteStill.{AllStill}
 
 -- the header of the packet in front
 pub one-header : (ring : List Arrival) (h k : MessageHeader) → front_header ring ≡ Some h
@@ -27,6 +26,14 @@ pub spares-calm : (v : Serving) (ring : List Arrival) (x : List Fact) → AllByR
 spares-calm v ring [] calm = tt
 spares-calm v ring (f ∷ x) calm =
     ((λ short. calm.0), spares-calm v (ring_after f.event f.first ring) x calm.1)
+
+-- and so do those of which none tells of a want of memory
+pub calm-still : (x : List Fact) → AllStill is_lack x → AllByRecursion IsNoWant x
+calm-still [] all = tt
+calm-still (f ∷ x) all = (
+  (λ e. let no : true ≡ false = sym (ap is_lack e) ∙ all.0 in cc),
+  calm-still x all.1,
+)
 
 -- facts, and those that follow them
 pub spares-append : (v : Serving) (ring : List Arrival) (x y : List Fact) → SparesShort v ring x
@@ -50,9 +57,3 @@ pub left-goes : (s t : Timed) (x : List Fact) → Goes s x t
     → t.lists.ring ≡ ring_left s.lists.ring x
 left-goes s t x goes =
     ap (λ (z : Timed). z.lists.ring) goes ∙ left-after_all s.clock s.lists x
-
--- no reply that is taken out is a packet that was dropped
-pub flush-calm : (owner : Owner) (me : ℕ) (ks : List ℕ)
-    → AllByRecursion IsNoWant (map (λ k. plain me (Flushed owner k)) ks)
-flush-calm owner me [] = tt
-flush-calm owner me (k ∷ ks) = ((λ e. cc), flush-calm owner me ks)

@@ -1,6 +1,7 @@
 -- What a control packet does at a node, and how one is handed to the link.
 use Rattle.std.specs.Prelude.{◌≡◌, ℕ, ◌++◌, Bool, false, Option, option_map, List, []}
 use Rattle.std.specs.Prelude.{◌∷◌, Result, Ok, Err}
+use Rattle.memory_count.specs.Faults.{HasRisenBy}
 use Rattle.packet_header.specs.Header.{AreBytes, Spells}
 use Rattle.packet_header.specs.declared.packet.ControlHeader.{ControlHeader}
 use Rattle.packet_header.specs.declared.packet.Packet.TheVariants.{Control as ControlPacket}
@@ -12,6 +13,8 @@ use Rattle.rpc_laws.specs.ControlTable.{control_facts, control_reply, control_ro
 use Rattle.rpc_laws.specs.Steps.{Goes}
 use Rattle.rpc_outside.specs.Linking.{Carried}
 use Rattle.rpc_outside.specs.Recording.{Grew, Log}
+use Rattle.endpoint_node.specs.Changes.{Change}
+use Rattle.endpoint_node.specs.Lacks.{lacks_in}
 use Rattle.endpoint_node.specs.Notes.{sent_of}
 
 -- what a row says of a control packet of this peer is done
@@ -27,11 +30,13 @@ pub record ControlsBy (row : ControlRow) (peer : ℕ) (h : ControlHeader)
   pub answer : reply ≡ control_reply s.lists.life h row
   pub goes : Goes s x t
 
--- by that of the control rule, where memory for a server session is wanting or not
-pub record Controls (peer : ℕ) (h : ControlHeader) (reply : Option ControlHeader) (s : Timed)
-    (x : List Fact) (t : Timed) : Type 0 where
+-- by that of the control rule, where memory for a server session is wanting, which was refused
+-- then, or not
+pub record Controls (peer : ℕ) (h : ControlHeader) (reply : Option ControlHeader)
+    (memory : Change ℕ) (s : Timed) (x : List Fact) (t : Timed) : Type 0 where
   pub lacks : Bool
   pub by : ControlsBy (control_row lacks peer h s.lists) peer h reply s x t
+  pub wants : HasRisenBy (lacks_in x) memory.old memory.new
 
 -- whether a link took what it was handed
 abbrev pub was_taken : {E : Type 0} → Result Bool E → Bool

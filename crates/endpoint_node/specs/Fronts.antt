@@ -1,5 +1,5 @@
 -- The packet in front of the receive ring: what its handling needs, and what it leaves.
-use Rattle.std.specs.Prelude.{◌≢◌, [], Some, Option, List, drop, length, ◌<◌, ◌+◌, true, ◌≡◌}
+use Rattle.std.specs.Prelude.{ℕ, ◌≢◌, [], Some, Option, List, drop, length, ◌<◌, ◌+◌, true, ◌≡◌}
 use Rattle.endpoint_node.specs.Changes.{Change}
 use Rattle.endpoint_node.specs.Handed.{GivesBackTo, Holding, timed_of}
 use Rattle.client_core.specs.declared.outcome.Done.{Done}
@@ -42,9 +42,10 @@ pub record AsksInFront {V : Type 0} (v : Service.Ghosts V) (h : MessageHeader) (
 -- it is handled, and out of the ring
 pub record ServesFront {R V : Type 0} (log : R → Log) (v : Service.Ghosts V) (h : MessageHeader)
     (job : Option Parcel) (node : Change Holding) (rec : Change R) (service : Change V)
-    : Type 0 where
+    (memory : Change ℕ) : Type 0 where
   pub serves : MakesServed log (rules_of v) (v.stands service.old) (v.stands service.new)
       (ServesRequest v.mode_of h) job (timed_of node.old) (timed_of node.new) rec.old rec.new
+      memory
   pub served : AllServed v.mode_of node.new.lists.servers
   pub ring : node.new.lists.ring ≡ drop 1 node.old.lists.ring
   pub clients : node.new.lists.clients ≡ node.old.lists.clients

@@ -13,6 +13,7 @@ pub mod Given
 pub mod Handed
 pub mod Inbox
 pub mod Jobs
+pub mod Lacks
 pub mod Leaves
 pub mod Links
 pub mod Measures

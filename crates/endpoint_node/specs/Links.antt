@@ -11,7 +11,7 @@ use Rattle.rpc_laws.specs.declared.tables.Timed.{Timed}
 use Rattle.rpc_laws.specs.ControlSteps.{Speaks, given_up}
 use Rattle.rpc_laws.specs.Facts.{plain}
 use Rattle.rpc_laws.specs.Steps.{Goes, Rel}
-use Rattle.rpc_outside.specs.Faults.{end_of_count, HasRisen}
+use Rattle.memory_count.specs.Faults.{end_of_count, HasRisen}
 use Rattle.endpoint_node.specs.Counts.{is_sent}
 use Rattle.endpoint_node.specs.Notes.{Makes, sent_of}
 use Rattle.endpoint_node.specs.declared.node.poll.timers.retries.Asking.{Asking}

@@ -12,8 +12,11 @@ use Rattle.rpc_outside.specs.Recording.{Grew, Log}
 use Rattle.rpc_outside.specs.Served.{Served}
 use Rattle.rpc_outside.specs.declared.service.Mode.TheVariants.{Background}
 use Rattle.worker_board.specs.declared.Parcel.{Parcel}
+use Rattle.memory_count.specs.Faults.{HasRisenBy}
+use Rattle.endpoint_node.specs.Changes.{Change}
 use Rattle.endpoint_node.specs.Given.{Gave}
 use Rattle.endpoint_node.specs.Jobs.{AreStaffed, Staff}
+use Rattle.endpoint_node.specs.Lacks.{lacks_in}
 use Rattle.endpoint_node.specs.Notes.{is_end}
 use Rattle.endpoint_node.specs.Seen.{Asks, asking}
 use Rattle.endpoint_node.specs.Requests.{MakesServed, SparesShort, ring_left, with_given}
@@ -22,8 +25,8 @@ use Rattle.endpoint_node.specs.Requests.{MakesServed, SparesShort, ring_left, wi
 -- are those whose ends were noted, in order
 pub record MakesHandled {R K : Type 0} (log : R → Log) (given : K → List Done → Type 0)
     (v : Serving) (stands then_stands : Served → Type 0) (P : Rel) (job : Option Parcel)
-    (old new : Timed) (before now : R) (from to : K) : Type 0 where
-  pub serves : MakesServed log v stands then_stands P job old new before now
+    (old new : Timed) (before now : R) (from to : K) (memory : Change ℕ) : Type 0 where
+  pub serves : MakesServed log v stands then_stands P job old new before now memory
   pub dones : List Done
   pub ends : filter is_end serves.makes.noted ≡ map (done_fact old.lists.me) dones
   pub gave : Gave given from to dones
@@ -51,7 +54,7 @@ pub record HandlesWith (P : Rel) (answer : ℕ → List ℕ → List ℕ) (gave 
 pub record MakesAllHandled {R K W : Type 0} (log : R → Log) (given : K → List Done → Type 0)
     (staff : W → Staff) (v : Serving) (stands then_stands : Served → Type 0)
     (answer : ℕ → List ℕ → List ℕ) (P : Rel) (old new : Timed) (before now : R) (from to : K)
-    (crew later : W) : Type 0 where
+    (crew later : W) (memory : Change ℕ) : Type 0 where
   pub noted : List Fact
   pub grew : Grew (log before) (log now) noted
   pub answers : (served : Served) → stands served
@@ -67,3 +70,5 @@ pub record MakesAllHandled {R K W : Type 0} (log : R → Log) (given : K → Lis
   -- no short request is dropped for want of memory
   pub left : new.lists.ring ≡ ring_left old.lists.ring noted
   pub spared : SparesShort v old.lists.ring noted
+  -- and each that is dropped for want of memory has a refusal
+  pub wants : HasRisenBy (lacks_in noted) memory.old memory.new

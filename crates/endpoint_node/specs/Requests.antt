@@ -3,6 +3,7 @@ use Rattle.std.specs.Prelude.{◌≡◌, ◌≢◌, ℕ, ◌+◌, ◌++◌, Bool
 use Rattle.std.specs.Prelude.{◌≤◌, true, [], ◌∷◌, length, slice_get}
 use Rattle.std.specs.List.{AllByRecursion, find}
 use Rattle.rpc_outside.specs.Recording.{Log}
+use Rattle.memory_count.specs.Faults.{HasRisenBy}
 use Rattle.message_buffer.specs.Buffer.{bytes_of}
 use Rattle.packet_header.specs.Kinds.{is_asking, is_last}
 use Rattle.packet_header.specs.Parts.{IsMessage, packet_count}
@@ -27,6 +28,8 @@ use Rattle.rpc_outside.specs.Served.{Served}
 use Rattle.rpc_outside.specs.declared.service.Mode.{Mode}
 use Rattle.rpc_outside.specs.declared.service.Mode.TheVariants.{Background, Inline, Unserved}
 use Rattle.worker_board.specs.declared.Parcel.{Parcel}
+use Rattle.endpoint_node.specs.Changes.{Change}
+use Rattle.endpoint_node.specs.Lacks.{lacks_in}
 use Rattle.endpoint_node.specs.Notes.{MakesWhere}
 use Rattle.endpoint_node.specs.Seen.{Asks}
 
@@ -102,7 +105,7 @@ ring_left ring (f ∷ x) = ring_left (ring_after f.event f.first ring) x
 -- service stands for what was served after
 pub record MakesServed {R : Type 0} (log : R → Log) (v : Serving)
     (stands then_stands : Served → Type 0) (P : Rel) (given : Option Parcel) (old new : Timed)
-    (before now : R) : Type 0 where
+    (before now : R) (memory : Change ℕ) : Type 0 where
   pub makes : MakesWhere log (AsksAs given) P old new before now
   pub answers : (served : Served) → stands served
       → Answers v served makes.noted × then_stands (served_after_all v.mode served makes.noted)
@@ -111,6 +114,8 @@ pub record MakesServed {R : Type 0} (log : R → Log) (v : Serving)
   pub vacant : IfSome given (λ p. are_full old.lists.jobs ≡ false)
   -- a short request needs no memory
   pub spared : SparesShort v old.lists.ring makes.noted
+  -- each drop for want of memory has a refusal
+  pub wants : HasRisenBy (lacks_in makes.noted) memory.old memory.new
 
 -- the job of this request is finished, with this answer
 pub record FinishesWith (session request : ℕ) (answer : List ℕ) (s : Timed) (x : List Fact)

@@ -14,7 +14,7 @@ use Rattle.rpc_laws.specs.Pacing.{line}
 use Rattle.rpc_laws.specs.PollOrder.{SendsSome}
 use Rattle.session_store.specs.Queue.{is_owned}
 use Rattle.rpc_laws.specs.Steps.{Rel}
-use Rattle.rpc_outside.specs.Faults.{HasCause, HasRisen}
+use Rattle.memory_count.specs.Faults.{HasCause, HasRisen}
 use Rattle.rpc_outside.specs.Linking.{NoneComes}
 use Rattle.rpc_outside.specs.Recording.{Log}
 use Rattle.endpoint_node.specs.Ends.{LeavesSessions}
@@ -108,9 +108,10 @@ pub record StepsSpoken {R L : Type 0} (log : R → Log) (net : Link.Ghosts L) (P
 
 -- control packets of the inbox are handled, and their answers handed to the link
 pub record StepsHeard {R L : Type 0} (log : R → Log) (net : Link.Ghosts L) (P : Rel)
-    (told : Listening) (node : Change Holding) (rec : Change R) (link : Change L) : Type 0 where
+    (told : Listening) (node : Change Holding) (rec : Change R) (link : Change L)
+    (memory : Change ℕ) : Type 0 where
   pub listens : Listens log net P told (timed_of node.old) (timed_of node.new) rec.old rec.new
-      link.old link.new
+      link.old link.new memory
   pub rest : LeavesControl node.old node.new
   pub lists : NoneComes net.waiting net.received link.old link.new
 

@@ -2,14 +2,15 @@
 ghost use Rattle.std.specs.Prelude.{◌≡◌, ◌<◌, ◌≤◌, ◌↔◌, nat_lt, [], ◌∷◌, ◌++◌, length, drop, true};
 ghost use Rattle.std.specs.Prelude.{None, IfOk, IfSome, IsTrue};
 ghost use Rattle.endpoint_node.specs.Inbox.{IsFront};
+ghost use Rattle.memory_count.specs.Faults.{HasCause};
 ghost use Rattle.packet_header.specs.Header.{ControlInRange};
 ghost use Rattle.rpc_laws.specs.Deliveries.{inbox_room};
 ghost use Rattle.rpc_laws.specs.Front.{control_of, is_control};
 
+use memory_count::{Memory, NoMemory};
 use packet_header::{ControlHeader, Packet, decode};
 use packet_rings::RxRing;
-use rpc_base::{MOST_DATAGRAM_BYTES, NoMemory, Peer};
-use std::alloc::Global;
+use rpc_base::{MOST_DATAGRAM_BYTES, Peer};
 use std::marker::Model;
 
 // So many control packets fit an inbox.
@@ -59,10 +60,11 @@ impl Model for Inbox {
 impl Inbox {
     /// An empty inbox, whose memory is taken here. `NoMemory` comes only where there is no memory
     /// for it.
-    pub fn new(alloc: Global) -> Result<Inbox, NoMemory>
-        ensures { IfOk result (λ b. b ≡ []) }
+    pub fn new(memory: &mut Memory) -> Result<Inbox, NoMemory>
+        ensures empty { IfOk result (λ b. b ≡ []) }
+        ensures cause { HasCause memory.old memory.new result }
     {
-        let ring = RxRing::new(alloc, INBOX_PLACES)?;
+        let ring = RxRing::new(memory, INBOX_PLACES)?;
         Ok(Inbox { ring })
     }
 

@@ -1,6 +1,7 @@
 //! What an endpoint has, beside its service and its workers.
 ghost use Rattle.std.specs.Prelude.{◌≡◌, ◌≤◌, [], IfOk};
 ghost use Rattle.endpoint_node.specs.Handed.{holding};
+ghost use Rattle.memory_count.specs.Faults.{HasCause};
 ghost use Rattle.rpc_base.specs.Limits.{Fits as InRange};
 ghost use Rattle.rpc_laws.specs.Groups.{shares};
 ghost use Rattle.rpc_laws.specs.NodeLists.{new_node};
@@ -20,13 +21,13 @@ use crate::lives::KnownLives;
 use calling_sessions::CallingSessions;
 pub use calls::{AskError, Refused};
 pub use delivery::Delivery;
+use memory_count::{Memory, NoMemory};
 use packet_header::Life;
 use packet_rings::RxRing;
 pub use poll::{Asking, Listening, Sending};
-use rpc_base::{Limits, NoMemory, NodeId, RequestNo, SessionNo};
+use rpc_base::{Limits, NodeId, RequestNo, SessionNo};
 use rpc_laws::{Counted, Pace};
 use session_store::Store;
-use std::alloc::Global;
 use std::collections::VecDeque;
 use std::marker::Model;
 
@@ -131,10 +132,16 @@ impl Model for Node {
 impl Node {
     /// Node `me` in a life of 1 or more, with these limits, which are in their ranges. Its lists
     /// are empty. `NoMemory` comes where there is no memory for its rings, its inbox and its pool.
-    pub fn new(alloc: Global, me: NodeId, life: Life, limits: Limits) -> Result<Node, NoMemory>
+    pub fn new(
+        memory: &mut Memory,
+        me: NodeId,
+        life: Life,
+        limits: Limits,
+    ) -> Result<Node, NoMemory>
         requires life { 1 ≤ life }
         requires limits { InRange limits }
-        ensures { IfOk result (λ n. n ≡ holding [] (new_node me life limits)) }
+        ensures made { IfOk result (λ n. n ≡ holding [] (new_node me life limits)) }
+        ensures cause { HasCause memory.old memory.new result }
     {
         let places = PLACES_OF_SESSION * limits.ring + PLACES_OF_JOB * limits.jobs;
         Ok(Node {
@@ -150,14 +157,14 @@ impl Node {
                 dropped: 0,
                 overflowed: 0,
             },
-            paces: Vec::new(alloc),
+            paces: Vec::new(memory.alloc()),
             given: 0,
-            jobs: VecDeque::with_capacity(alloc, limits.jobs as usize)?,
+            jobs: memory.queue(limits.jobs as usize)?,
             clock: 0,
-            rx: RxRing::new(alloc, limits.ring)?,
-            inbox: Inbox::new(alloc)?,
-            store: Store::new(alloc, limits.ring, places)?,
-            callers: CallingSessions::new(alloc)?,
+            rx: RxRing::new(memory, limits.ring)?,
+            inbox: Inbox::new(memory)?,
+            store: Store::new(memory, limits.ring, places)?,
+            callers: CallingSessions::new(memory)?,
         })
     }
 

@@ -5,17 +5,19 @@ ghost use Rattle.session_store.specs.Handing.{HandsInAt};
 ghost use Rattle.std.specs.Prelude.{IfOk, ◌≡◌, ◌≤◌, ◌+◌, ◌*◌, [], Some, IfErr, OnErr, OnOk};
 ghost use Rattle.std.specs.List.{find};
 ghost use Rattle.endpoint_node.specs.Asks.{IfWanting, IsAskedAs, UnlessWanting, refusal_of};
+ghost use Rattle.endpoint_node.specs.Lacks.{lacks_asked};
 ghost use Rattle.endpoint_node.specs.Notes.{Makes};
+ghost use Rattle.memory_count.specs.Faults.{HasCause, HasRisenBy};
 ghost use Rattle.message_buffer.specs.Buffer.{bytes_of, capacity_of};
 ghost use Rattle.rpc_base.specs.declared.state.SessionState.TheVariants.{Connected};
 ghost use Rattle.rpc_laws.specs.Groups.{Asks, state_of};
 ghost use Rattle.rpc_laws.specs.Sessions.{is_client};
 
 use crate::node::Node;
+use memory_count::{Memory, NoMemory};
 use message_buffer::MsgBuf;
 use rpc_base::{
-    CallNo, Event, MOST_CALLS, MOST_MESSAGE_BYTES, MOST_SESSIONS, NoMemory, SessionNo,
-    SessionState, Who,
+    CallNo, Event, MOST_CALLS, MOST_MESSAGE_BYTES, MOST_SESSIONS, SessionNo, SessionState, Who,
 };
 use rpc_outside::Recorder;
 use session_slots::Waiting;
@@ -83,6 +85,7 @@ impl Node {
     // The call waits on its session, which is Connected, and that is noted.
     fn accept<R: Recorder>(
         &mut self,
+        memory: &mut Memory,
         session: SessionNo,
         waiting: Waiting,
         rec: &mut R,
@@ -97,6 +100,7 @@ impl Node {
         ensures servers { self.new.lists.servers ≡ self.old.lists.servers }
         ensures unchanged { OnErr result ((self.new ≡ self.old) × (rec.new ≡ rec.old)) }
         ensures handed_back { IfErr result (λ back. back ≡ waiting) }
+        ensures cause { HasCause memory.old memory.new result }
         ensures handed { OnOk result (HandsInAt session (handed_waiting waiting) self.old.handed
             self.new.handed) }
     {
@@ -109,7 +113,7 @@ impl Node {
         };
         let next = self.next_call();
         self.callers.enter(session.0);
-        self.store.ask(i, waiting)?;
+        self.store.ask(memory, i, waiting)?;
         self.asked = next.0 + 1;
         rec.note(Who::Node(self.me), event, self.store.newest_ask(i), &[]);
         Ok(())
@@ -120,6 +124,7 @@ impl Node {
     /// is the call's room. A refusal hands both buffers back, and changes nothing.
     pub fn ask<R: Recorder>(
         &mut self,
+        memory: &mut Memory,
         session: SessionNo,
         req_type: u8,
         req: MsgBuf,
@@ -136,6 +141,7 @@ impl Node {
         ensures servers { self.new.lists.servers ≡ self.old.lists.servers }
         ensures unchanged { OnErr result (self.new ≡ self.old) }
         ensures wanting { IfWanting result (rec.new ≡ rec.old) }
+        ensures cause { HasRisenBy (lacks_asked result) memory.old memory.new }
         ensures handed { IfOk result (λ call. HandsInAt session (record {
           call = call;
           tag = tag;
@@ -173,7 +179,7 @@ impl Node {
             req,
             resp,
         };
-        match self.accept(session, waiting, rec) {
+        match self.accept(memory, session, waiting, rec) {
             Ok(()) => Ok(call),
             Err(back) => {
                 let Waiting { req, resp, .. } = back;

@@ -2,6 +2,7 @@
 ghost use Rattle.endpoint_node.specs.Wants.{FitsServer, FitsClient};
 ghost use Rattle.endpoint_node.specs.Changes.{◌⟶◌};
 ghost use Rattle.endpoint_node.specs.Opens.{AddsClient, AddsServer, MakesClient, MakesServer};
+ghost use Rattle.memory_count.specs.Faults.{HasCause, HasRisenBy};
 ghost use Rattle.node_laws.specs.NodeRun.{IsCredits};
 ghost use Rattle.endpoint_node.specs.Handed.{timed_of};
 ghost use Rattle.std.specs.Prelude.{◌≡◌, ◌<◌, ◌≤◌, [], None, Some, length, IfErr, IfSome, IsSome};
@@ -11,15 +12,15 @@ ghost use Rattle.endpoint_node.specs.Notes.{Makes};
 ghost use Rattle.rpc_base.specs.declared.event.Event.TheVariants.{PairedClient, PairedServer};
 ghost use Rattle.rpc_laws.specs.Groups.{refusal_by};
 ghost use Rattle.rpc_laws.specs.Steps.{NotesNext};
-ghost use Rattle.session_mgmt.specs.Refusals.{refused};
+ghost use Rattle.session_mgmt.specs.Refusals.{lacks, refused};
 
 use crate::node::Node;
+use memory_count::{Memory, NoMemory};
 use packet_header::Life;
-use rpc_base::{Event, MOST_CREDITS, NoMemory, Peer, SESSION_NUMBERS, SessionNo, Who};
+use rpc_base::{Event, MOST_CREDITS, Peer, SESSION_NUMBERS, SessionNo, Who};
 use rpc_laws::Pace;
 use rpc_outside::Recorder;
 use session_mgmt::ConnectError;
-use std::alloc::Global;
 
 impl Node {
     // Whether there is room for a session with so many credits, where the numbers of its kind are
@@ -81,7 +82,7 @@ impl Node {
     // The client end is made, for which the node has room. Want of memory changes nothing.
     fn add_client<R: Recorder>(
         &mut self,
-        alloc: Global,
+        memory: &mut Memory,
         peer: Peer,
         life: Life,
         server: SessionNo,
@@ -91,8 +92,9 @@ impl Node {
         requires fits { FitsClient credits self.old }
         requires life { 1 ≤ life }
         requires server { server < SESSION_NUMBERS }
-        ensures { AddsClient R.log (NotesNext (λ s. Some (PairedClient (length s.clients) peer
+        ensures adds { AddsClient R.log (NotesNext (λ s. Some (PairedClient (length s.clients) peer
             server credits life))) result (self.old ⟶ self.new) (rec.old ⟶ rec.new) }
+        ensures cause { HasCause memory.old memory.new result }
     {
         let session = self.next_client();
         let pace = Pace {
@@ -100,8 +102,8 @@ impl Node {
             rate: 0,
             next: 0,
         };
-        self.paces.push(pace)?;
-        if let Err(wanting) = self.store.pair_client(alloc, peer, life, server, credits) {
+        memory.push(&mut self.paces, pace)?;
+        if let Err(wanting) = self.store.pair_client(memory, peer, life, server, credits) {
             let _pace = self.paces.pop();
             return Err(wanting);
         }
@@ -120,6 +122,7 @@ impl Node {
     // The server end is made, for which the node has room. Want of memory changes nothing.
     fn add_server<R: Recorder>(
         &mut self,
+        memory: &mut Memory,
         peer: Peer,
         life: Life,
         client: SessionNo,
@@ -129,12 +132,13 @@ impl Node {
         requires fits { FitsServer credits self.old }
         requires life { 1 ≤ life }
         requires client { client < SESSION_NUMBERS }
-        ensures { AddsServer R.log (NotesNext (λ s. Some (PairedServer s.server_numbers peer client
-            credits life))) result (self.old ⟶ self.new) (rec.old ⟶ rec.new) }
+        ensures adds { AddsServer R.log (NotesNext (λ s. Some (PairedServer s.server_numbers peer
+            client credits life))) result (self.old ⟶ self.new) (rec.old ⟶ rec.new) }
+        ensures cause { HasCause memory.old memory.new result }
     {
         let session = SessionNo(self.server_numbers as u16);
         self.store
-            .pair_server(session, client, peer, life, credits)?;
+            .pair_server(memory, session, client, peer, life, credits)?;
         self.server_numbers += 1;
         self.known.raise(peer, life);
         let event = Event::PairedServer {
@@ -156,7 +160,7 @@ impl Node {
     /// noted nowhere. A refusal makes no session.
     pub fn pair_client<R: Recorder>(
         &mut self,
-        alloc: Global,
+        memory: &mut Memory,
         peer: Peer,
         life: Life,
         server: SessionNo,
@@ -166,8 +170,9 @@ impl Node {
         requires life { 1 ≤ life }
         requires server { server < SESSION_NUMBERS }
         requires credits { IsCredits credits }
-        ensures { MakesClient R.log credits (PairsClient peer server credits life) result
+        ensures makes { MakesClient R.log credits (PairsClient peer server credits life) result
             (self.old ⟶ self.new) (rec.old ⟶ rec.new) }
+        ensures cause { HasRisenBy (lacks result) memory.old memory.new }
     {
         let spent = usize::from(SESSION_NUMBERS) <= self.store.clients();
         if let Err(why) = self.room_for(spent, credits) {
@@ -175,7 +180,7 @@ impl Node {
             return Err(why);
         }
         let session = self.next_client();
-        match self.add_client(alloc, peer, life, server, credits, rec) {
+        match self.add_client(memory, peer, life, server, credits, rec) {
             Ok(()) => Ok(session),
             Err(_) => Err(ConnectError::NoMemory),
         }
@@ -189,6 +194,7 @@ impl Node {
     /// noted nowhere. A refusal makes no session.
     pub fn pair_server<R: Recorder>(
         &mut self,
+        memory: &mut Memory,
         peer: Peer,
         life: Life,
         client: SessionNo,
@@ -198,8 +204,9 @@ impl Node {
         requires life { 1 ≤ life }
         requires client { client < SESSION_NUMBERS }
         requires credits { IsCredits credits }
-        ensures { MakesServer R.log credits (PairsServer peer client credits life) result
+        ensures makes { MakesServer R.log credits (PairsServer peer client credits life) result
             (self.old ⟶ self.new) (rec.old ⟶ rec.new) }
+        ensures cause { HasRisenBy (lacks result) memory.old memory.new }
     {
         let spent = u64::from(SESSION_NUMBERS) <= self.server_numbers;
         if let Err(why) = self.room_for(spent, credits) {
@@ -207,7 +214,7 @@ impl Node {
             return Err(why);
         }
         let session = SessionNo(self.server_numbers as u16);
-        match self.add_server(peer, life, client, credits, rec) {
+        match self.add_server(memory, peer, life, client, credits, rec) {
             Ok(()) => Ok(session),
             Err(_) => Err(ConnectError::NoMemory),
         }

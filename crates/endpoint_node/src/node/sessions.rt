@@ -1,6 +1,7 @@
 //! Sessions are opened and closed by the application.
 ghost use Rattle.endpoint_node.specs.Wants.{FitsClient};
 ghost use Rattle.endpoint_node.specs.Opens.{AddsClient, MakesClient};
+ghost use Rattle.memory_count.specs.Faults.{HasCause, HasRisenBy};
 ghost use Rattle.node_laws.specs.NodeRun.{IsCredits};
 ghost use Rattle.endpoint_node.specs.Steps.{Steps};
 ghost use Rattle.endpoint_node.specs.Changes.{◌⟶◌};
@@ -14,16 +15,14 @@ ghost use Rattle.rpc_laws.specs.Groups.{pending as pending_of, state_of};
 ghost use Rattle.rpc_laws.specs.Sessions.{is_client, is_connected as is_connected_in, is_live};
 ghost use Rattle.rpc_laws.specs.Sessions.{opened_end};
 ghost use Rattle.rpc_laws.specs.Steps.{NotesNext};
-ghost use Rattle.session_mgmt.specs.Refusals.{closing, refused};
+ghost use Rattle.session_mgmt.specs.Refusals.{closing, lacks, refused};
 
 use crate::node::Node;
-use rpc_base::{
-    Event, MOST_CREDITS, NoMemory, Peer, SESSION_NUMBERS, SessionNo, SessionState, Who,
-};
+use memory_count::{Memory, NoMemory};
+use rpc_base::{Event, MOST_CREDITS, Peer, SESSION_NUMBERS, SessionNo, SessionState, Who};
 use rpc_laws::Pace;
 use rpc_outside::Recorder;
 use session_mgmt::{CloseError, ConnectError};
-use std::alloc::Global;
 
 // Whether a session in this state is connected, also where it takes no more calls.
 fn is_connected(state: SessionState) -> bool
@@ -41,7 +40,7 @@ impl Node {
     // nothing.
     fn open_client<R: Recorder>(
         &mut self,
-        alloc: Global,
+        memory: &mut Memory,
         peer: Peer,
         credits: u16,
         rec: &mut R,
@@ -52,6 +51,7 @@ impl Node {
         ensures clients { OnOk result (self.new.lists.clients ≡ self.old.lists.clients
             ++ opened_end (length self.old.lists.clients) peer credits ∷ []) }
         ensures me { self.new.lists.me ≡ self.old.lists.me }
+        ensures cause { HasCause memory.old memory.new result }
     {
         let session = self.next_client();
         let pace = Pace {
@@ -59,8 +59,8 @@ impl Node {
             rate: 0,
             next: 0,
         };
-        self.paces.push(pace)?;
-        if let Err(wanting) = self.store.open(alloc, peer, credits) {
+        memory.push(&mut self.paces, pace)?;
+        if let Err(wanting) = self.store.open(memory, peer, credits) {
             let _pace = self.paces.pop();
             return Err(wanting);
         }
@@ -94,15 +94,16 @@ impl Node {
     /// nowhere. A refusal opens no session.
     pub fn connect<R: Recorder>(
         &mut self,
-        alloc: Global,
+        memory: &mut Memory,
         peer: Peer,
         credits: u16,
         rate: u32,
         rec: &mut R,
     ) -> Result<SessionNo, ConnectError>
         requires credits { IsCredits credits }
-        ensures { MakesClient R.log credits (Connects peer credits rate) result
+        ensures makes { MakesClient R.log credits (Connects peer credits rate) result
             (self.old ⟶ self.new) (rec.old ⟶ rec.new) }
+        ensures cause { HasRisenBy (lacks result) memory.old memory.new }
     {
         let spent = usize::from(SESSION_NUMBERS) <= self.store.clients();
         if let Err(why) = self.room_for(spent, credits) {
@@ -110,7 +111,7 @@ impl Node {
             return Err(why);
         }
         let session = self.next_client();
-        match self.open_client(alloc, peer, credits, rec) {
+        match self.open_client(memory, peer, credits, rec) {
             Ok(()) => {
                 self.start_rate(session, rate, rec);
                 Ok(session)

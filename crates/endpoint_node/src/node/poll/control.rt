@@ -20,6 +20,7 @@ mod rows;
 use crate::inbox::Heard;
 use crate::node::Node;
 use crate::node::poll::link::speak;
+use memory_count::Memory;
 use packet_header::{ControlHeader, ControlKind};
 use rpc_base::{Event, Peer, Who};
 use rpc_outside::{Failed, Link, Recorder};
@@ -61,11 +62,16 @@ impl Node {
     // The packet in front of the inbox, which is given, is taken out. The sessions that it outdates
     // end, and then it is handled by the control table. The result is the packet that answers it,
     // where there is one.
-    fn handle_control<R: Recorder>(&mut self, packet: &Heard, rec: &mut R) -> Option<ControlHeader>
+    fn handle_control<R: Recorder>(
+        &mut self,
+        memory: &mut Memory,
+        packet: &Heard,
+        rec: &mut R,
+    ) -> Option<ControlHeader>
         requires front { IsFront self.old.lists.inbox packet.now }
         requires in_range { ControlInRange packet.now.head }
-        ensures handles { Makes R.log (Handles packet.now.peer packet.now.head result)
-            (timed_of self.old) (timed_of self.new) rec.old rec.new }
+        ensures handles { Makes R.log (Handles packet.now.peer packet.now.head result
+            (memory.old ⟶ memory.new)) (timed_of self.old) (timed_of self.new) rec.old rec.new }
         ensures in_range { IfSome result (λ r. ControlInRange r) }
         ensures inbox { self.new.lists.inbox ≡ drop 1 self.old.lists.inbox }
         ensures rest { LeavesControl self.old self.new }
@@ -73,7 +79,7 @@ impl Node {
         rec.note(Who::Node(self.me), Event::Heard, &[], &[]);
         self.inbox.drop_front();
         self.end_outdated(packet.peer, &packet.head, rec);
-        self.on_control(packet.peer, &packet.head, rec)
+        self.on_control(memory, packet.peer, &packet.head, rec)
     }
 
     // The life that a connect reply to a peer goes to comes to be known.
@@ -90,10 +96,15 @@ impl Node {
     }
 
     // The packet in front of the inbox is handled, and its answer is handed to the link at once.
-    fn hear_control<L: Link, R: Recorder>(&mut self, link: &mut L, rec: &mut R) -> Listening
+    fn hear_control<L: Link, R: Recorder>(
+        &mut self,
+        memory: &mut Memory,
+        link: &mut L,
+        rec: &mut R,
+    ) -> Listening
         requires some { self.old.lists.inbox ≢ [] }
         ensures step { StepsHeard R.log L.Link Hears result (self.old ⟶ self.new)
-            (rec.old ⟶ rec.new) (link.old ⟶ link.new) }
+            (rec.old ⟶ rec.new) (link.old ⟶ link.new) (memory.old ⟶ memory.new) }
         ensures one { result.heard ≡ 1 }
         ensures few { result.sent ≤ 1 }
         ensures inbox { self.new.lists.inbox ≡ drop 1 self.old.lists.inbox }
@@ -101,7 +112,7 @@ impl Node {
         let Some(packet) = self.inbox.front() else {
             unreachable!()
         };
-        match self.handle_control(&packet, rec) {
+        match self.handle_control(memory, &packet, rec) {
             None => {
                 Listening {
                     heard: 1,
@@ -120,9 +131,14 @@ impl Node {
     /// Step 2 of a poll: the control packets of the inbox are handled in order of arrival. Each
     /// answer is handed to the link at once: it is noted as Sent where the link took it, and
     /// otherwise as Unsent. A busy link, or a fault of the link, doesn't stop it.
-    pub fn hear_all<L: Link, R: Recorder>(&mut self, link: &mut L, rec: &mut R) -> Listening
+    pub fn hear_all<L: Link, R: Recorder>(
+        &mut self,
+        memory: &mut Memory,
+        link: &mut L,
+        rec: &mut R,
+    ) -> Listening
         ensures step { StepsHeard R.log L.Link HearsAll result (self.old ⟶ self.new)
-            (rec.old ⟶ rec.new) (link.old ⟶ link.new) }
+            (rec.old ⟶ rec.new) (link.old ⟶ link.new) (memory.old ⟶ memory.new) }
         ensures heard { result.heard ≡ length self.old.lists.inbox }
         ensures few { result.heard ≤ inbox_room }
         ensures sent { result.sent ≤ result.heard }
@@ -135,7 +151,7 @@ impl Node {
             failed: false,
         };
         'packets: while told.heard < count {
-            let one = self.hear_control(link, rec);
+            let one = self.hear_control(memory, link, rec);
             told.heard += one.heard;
             told.sent += one.sent;
             told.failed |= one.failed;

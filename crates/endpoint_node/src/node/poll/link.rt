@@ -2,7 +2,7 @@
 ghost use Rattle.std.specs.Prelude.{◌≡◌, true, false, IfOk, OnErr};
 ghost use Rattle.endpoint_node.specs.ControlRows.{Spoke, was_taken};
 ghost use Rattle.packet_header.specs.Header.{ControlInRange};
-ghost use Rattle.rpc_outside.specs.Faults.{HasCause, HasRisen};
+ghost use Rattle.memory_count.specs.Faults.{HasCause, HasRisen};
 ghost use Rattle.rpc_outside.specs.Linking.{NoneComes};
 
 use packet_header::{ControlHeader, Packet, encode};

@@ -16,10 +16,10 @@ mod requests;
 
 use crate::continuation::Continuation;
 use crate::node::Node;
+use memory_count::Memory;
 use packet_header::{Kind, MessageHeader};
 use rpc_base::{DropReason, MOST_RING};
 use rpc_outside::{Recorder, Service};
-use std::alloc::Global;
 use worker_board::Parcel;
 use worker_crew::Workers;
 
@@ -37,7 +37,7 @@ impl Node {
     /// that a request made, for a worker.
     pub fn handle_front<V: Service, K: Continuation, R: Recorder>(
         &mut self,
-        alloc: Global,
+        memory: &mut Memory,
         service: &mut V,
         k: &mut K,
         rec: &mut R,
@@ -45,7 +45,7 @@ impl Node {
         requires { HasFront V.Service service.old self.old }
         ensures handles { MakesHandled R.log K.given (rules_of V.Service) (V.stands service.old)
             (V.stands service.new) (Handles V.mode_of) result (timed_of self.old)
-            (timed_of self.new) rec.old rec.new k.old k.new }
+            (timed_of self.new) rec.old rec.new k.old k.new (memory.old ⟶ memory.new) }
         ensures ring { self.new.lists.ring ≡ drop 1 self.old.lists.ring }
         ensures served { AllServed V.mode_of self.new.lists.servers }
         ensures handed { GivesBackTo K.given self.old.handed self.new.handed k.old k.new }
@@ -58,7 +58,7 @@ impl Node {
             return None;
         }
         match head.kind {
-            Kind::Request | Kind::Rfr => self.handle_request(alloc, service, &head, rec),
+            Kind::Request | Kind::Rfr => self.handle_request(memory, service, &head, rec),
             Kind::Cr | Kind::Response => match self.hear_reply(&head, rec) {
                 None => None,
                 Some(done) => {
@@ -82,7 +82,7 @@ impl Node {
     // A turn of step 3 of a poll. A job that the packet makes is given to the workers.
     fn handle_next<V: Service, W: Workers, K: Continuation, R: Recorder>(
         &mut self,
-        alloc: Global,
+        memory: &mut Memory,
         service: &mut V,
         workers: &mut W,
         k: &mut K,
@@ -93,12 +93,12 @@ impl Node {
         ensures handles { MakesAllHandled R.log K.given (staff_of W.Workers) (rules_of V.Service)
             (V.stands service.old) (V.stands service.new) W.answer (Handles V.mode_of)
             (timed_of self.old) (timed_of self.new) rec.old rec.new k.old k.new workers.old
-            workers.new }
+            workers.new (memory.old ⟶ memory.new) }
         ensures fewer { length self.new.lists.ring < length self.old.lists.ring }
         ensures rest { LeavesHandled V.Service W.Workers K.given (self.old ⟶ self.new)
             (service.old ⟶ service.new) (workers.old ⟶ workers.new) (k.old ⟶ k.new) }
     {
-        let Some(parcel) = self.handle_front(alloc, service, k, rec) else {
+        let Some(parcel) = self.handle_front(memory, service, k, rec) else {
             return;
         };
         self.sound();
@@ -112,7 +112,7 @@ impl Node {
     /// tells how many packets were handled.
     pub fn handle_all<V: Service, W: Workers, K: Continuation, R: Recorder>(
         &mut self,
-        alloc: Global,
+        memory: &mut Memory,
         service: &mut V,
         workers: &mut W,
         k: &mut K,
@@ -123,7 +123,7 @@ impl Node {
         ensures handles { MakesAllHandled R.log K.given (staff_of W.Workers) (rules_of V.Service)
             (V.stands service.old) (V.stands service.new) W.answer (HandlesAll V.mode_of)
             (timed_of self.old) (timed_of self.new) rec.old rec.new k.old k.new workers.old
-            workers.new }
+            workers.new (memory.old ⟶ memory.new) }
         ensures rest { LeavesHandled V.Service W.Workers K.given (self.old ⟶ self.new)
             (service.old ⟶ service.new) (workers.old ⟶ workers.new) (k.old ⟶ k.new) }
         ensures count { result + length self.new.lists.ring ≡ length self.old.lists.ring }
@@ -131,7 +131,7 @@ impl Node {
     {
         let before = self.rx.len();
         'packets: while self.can_handle() {
-            self.handle_next(alloc, service, workers, k, rec);
+            self.handle_next(memory, service, workers, k, rec);
         }
         before - self.rx.len()
     }

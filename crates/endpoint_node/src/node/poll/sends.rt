@@ -7,7 +7,7 @@ ghost use Rattle.std.specs.Prelude.{◌≡◌, ◌<◌, [], true, false, length,
 ghost use Rattle.endpoint_node.specs.Notes.{MakesSent, SendsNone};
 ghost use Rattle.rpc_laws.specs.Pacing.{line};
 ghost use Rattle.rpc_laws.specs.PollOrder.{Sends};
-ghost use Rattle.rpc_outside.specs.Faults.{HasCause, HasRisen};
+ghost use Rattle.memory_count.specs.Faults.{HasCause, HasRisen};
 ghost use Rattle.rpc_outside.specs.Linking.{NoneComes};
 ghost use Rattle.rpc_outside.specs.declared.link.Taken.TheVariants.{Busy, Whole};
 

@@ -1,6 +1,8 @@
-use Rattle.std.proofs.Common.{Some, false, true, refl}
+use Rattle.std.proofs.Common.{Some, false, true, refl, arith}
 use Rattle.rpc_base.specs.declared.event.Event.TheVariants.{Accepted}
 use Rattle.rpc_laws.specs.declared.rows.ControlRow.TheVariants.{Accepts, Starves}
+use Rattle.memory_count.proofs.Risen.{none-risen-by, one-risen}
+use Rattle.endpoint_node.specs.Changes.{◌⟶◌}
 use Rattle.endpoint_node.specs.Handed.{timed_of}
 use Rattle.endpoint_node.proofs.ControlRows.{acts-controls, acts-noted}
 use Rattle.endpoint_node.proofs.node.Node.accept_session.Goals as goal
@@ -12,7 +14,9 @@ returns-in-Ok g c = record {
       let h = c.args.head.now in
       let n = s.lists.server_numbers in
       rw c.in-Ok.ensures.number (acts-controls g.R.Recorder.log c.args.rec.now
-      c.add_accepted.new.rec c.args.peer h (Accepts n) s t false (c.requires.row false)
+      c.add_accepted.new.rec c.args.peer h (Accepts n) s t
+      (c.args.memory.now ⟶ c.add_accepted.new.memory) false (c.requires.row false)
+      (none-risen-by _ _ (omega (arith, c.in-Ok.ensures.cause)))
       (acts-noted g.R.Recorder.log c.args.rec.now c.add_accepted.new.rec c.args.peer h (Accepts n)
       s t (λ l. Some (Accepted l.server_numbers c.args.peer h.client h.credits h.from_life))
       (Accepted n c.args.peer h.client h.credits h.from_life) (λ asks. refl) (λ asks. refl)
@@ -25,7 +29,8 @@ returns-in-Err g c = record {
   makes = let s = timed_of c.args.self.now in
       let unchanged = c.in-Err.ensures.unchanged in
       rw unchanged.0 (acts-controls g.R.Recorder.log c.args.rec.now c.starve.new.rec c.args.peer
-      c.args.head.now Starves s s true (c.requires.row true)
+      c.args.head.now Starves s s (c.args.memory.now ⟶ c.add_accepted.new.memory) true
+      (c.requires.row true) (one-risen _ _ c.in-Err.ensures.cause)
       (rw (unchanged.0, unchanged.1) at c.starve.ensures));
   rest = c.in-Err.ensures.rest;
 }

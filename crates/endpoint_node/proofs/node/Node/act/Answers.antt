@@ -5,17 +5,22 @@ use Rattle.rpc_base.specs.declared.event.Event.TheVariants.{Connected as IsConne
 use Rattle.rpc_laws.specs.declared.rows.ControlRow.TheVariants.{Accepts, Closes, Connects}
 use Rattle.rpc_laws.specs.declared.rows.ControlRow.TheVariants.{Fails}
 use Rattle.session_mgmt.specs.Control.{starved_if}
+use Rattle.memory_count.proofs.Risen.{none-risen}
+use Rattle.endpoint_node.specs.Changes.{◌⟶◌}
 use Rattle.endpoint_node.specs.Handed.{timed_of}
 use Rattle.endpoint_node.proofs.ControlRows.{accepts-fits, acts-controls, acts-none, acts-noted}
 use Rattle.endpoint_node.proofs.ControlRows.{asked-credits, closes-there, connects-there}
-use Rattle.endpoint_node.proofs.ControlRows.{fails-there, named-below}
+use Rattle.endpoint_node.proofs.ControlRows.{fails-there, named-below, wants-none}
 use Rattle.endpoint_node.proofs.node.Node.act.Goals as goal
 
 pub returns-in-Ignores : goal.returns-in-Ignores
 returns-in-Ignores g c = record {
   makes = let s = timed_of c.args.self.now in
       acts-controls g.R.Recorder.log c.args.rec.now c.args.rec.now c.args.peer c.args.head.now
-      c.args.row s s false (c.requires.row false) (acts-none g.R.Recorder.log c.args.rec.now
+      c.args.row s s
+      (c.args.memory.now ⟶ c.args.memory.now) false (c.requires.row false)
+      (wants-none c.args.memory.now _ _ c.in-Ignores.is refl)
+      (acts-none g.R.Recorder.log c.args.rec.now
       c.args.peer c.args.head.now c.args.row s (λ asks. rw c.in-Ignores.is refl));
   rest = record { inbox = refl; jobs = refl; handed = refl };
 }
@@ -24,7 +29,10 @@ pub returns-in-Confirms : goal.returns-in-Confirms
 returns-in-Confirms g c = record {
   makes = let s = timed_of c.args.self.now in
       acts-controls g.R.Recorder.log c.args.rec.now c.args.rec.now c.args.peer c.args.head.now
-      c.args.row s s false (c.requires.row false) (acts-none g.R.Recorder.log c.args.rec.now
+      c.args.row s s
+      (c.args.memory.now ⟶ c.args.memory.now) false (c.requires.row false)
+      (wants-none c.args.memory.now _ _ c.in-Confirms.is refl)
+      (acts-none g.R.Recorder.log c.args.rec.now
       c.args.peer c.args.head.now c.args.row s (λ asks. rw c.in-Confirms.is refl));
   rest = record { inbox = refl; jobs = refl; handed = refl };
 }
@@ -33,7 +41,10 @@ pub returns-in-Misses : goal.returns-in-Misses
 returns-in-Misses g c = record {
   makes = let s = timed_of c.args.self.now in
       acts-controls g.R.Recorder.log c.args.rec.now c.args.rec.now c.args.peer c.args.head.now
-      c.args.row s s false (c.requires.row false) (acts-none g.R.Recorder.log c.args.rec.now
+      c.args.row s s
+      (c.args.memory.now ⟶ c.args.memory.now) false (c.requires.row false)
+      (wants-none c.args.memory.now _ _ c.in-Misses.is refl)
+      (acts-none g.R.Recorder.log c.args.rec.now
       c.args.peer c.args.head.now c.args.row s (λ asks. rw c.in-Misses.is refl));
   rest = record { inbox = refl; jobs = refl; handed = refl };
 }
@@ -42,7 +53,10 @@ pub returns-in-Disowns : goal.returns-in-Disowns
 returns-in-Disowns g c = record {
   makes = let s = timed_of c.args.self.now in
       acts-controls g.R.Recorder.log c.args.rec.now c.args.rec.now c.args.peer c.args.head.now
-      c.args.row s s false (c.requires.row false) (acts-none g.R.Recorder.log c.args.rec.now
+      c.args.row s s
+      (c.args.memory.now ⟶ c.args.memory.now) false (c.requires.row false)
+      (wants-none c.args.memory.now _ _ c.in-Disowns.is refl)
+      (acts-none g.R.Recorder.log c.args.rec.now
       c.args.peer c.args.head.now c.args.row s (λ asks. rw c.in-Disowns.is refl));
   rest = record { inbox = refl; jobs = refl; handed = refl };
 }
@@ -51,7 +65,10 @@ pub returns-in-Declines : goal.returns-in-Declines
 returns-in-Declines g c = record {
   makes = let s = timed_of c.args.self.now in
       acts-controls g.R.Recorder.log c.args.rec.now c.decline.new.rec c.args.peer c.args.head.now
-      c.args.row s s false (c.requires.row false) (rw c.in-Declines.is c.decline.ensures);
+      c.args.row s s
+      (c.args.memory.now ⟶ c.args.memory.now) false (c.requires.row false)
+      (wants-none c.args.memory.now _ _ c.in-Declines.is refl)
+      (rw c.in-Declines.is c.decline.ensures);
   rest = record { inbox = refl; jobs = refl; handed = refl };
 }
 
@@ -74,8 +91,10 @@ accept_session-requires g c =
 pub returns-in-Ends : goal.returns-in-Ends
 returns-in-Ends g c = record {
   makes = acts-controls g.R.Recorder.log c.args.rec.now c.end_named.new.rec c.args.peer c.args.head.now
-      c.args.row (timed_of c.args.self.now) (timed_of c.end_named.new.self) false
-      (c.requires.row false) (rw c.in-Ends.is c.end_named.ensures.makes);
+      c.args.row (timed_of c.args.self.now) (timed_of c.end_named.new.self)
+      (c.args.memory.now ⟶ c.args.memory.now) false
+      (c.requires.row false) (wants-none c.args.memory.now _ _ c.in-Ends.is refl)
+      (rw c.in-Ends.is c.end_named.ensures.makes);
   rest = c.end_named.ensures.rest;
 }
 
@@ -110,8 +129,9 @@ returns-in-Connects g c = record {
       let connected : Event = IsConnected c.args.head.now.client c.in-Connects.server
       c.args.head.now.from_life in
       acts-controls g.R.Recorder.log c.args.rec.now c.connect_session.new.rec c.args.peer
-      c.args.head.now (Connects c.in-Connects.server) s t false
-      (rw c.in-Connects.is at (c.requires.row false))
+      c.args.head.now (Connects c.in-Connects.server) s t
+      (c.args.memory.now ⟶ c.args.memory.now) false
+      (rw c.in-Connects.is at (c.requires.row false)) (none-risen c.args.memory.now)
       (acts-noted g.R.Recorder.log c.args.rec.now c.connect_session.new.rec c.args.peer
       c.args.head.now (Connects c.in-Connects.server) s t (λ l. Some connected) connected
       (λ asks. refl) (λ asks. refl) c.connect_session.ensures.makes);
@@ -123,7 +143,10 @@ returns-in-Fails g c = record {
   makes = let s = timed_of c.args.self.now in
       let t = timed_of c.fail_session.new.self in
       acts-controls g.R.Recorder.log c.args.rec.now c.fail_session.new.rec c.args.peer
-      c.args.head.now c.args.row s t false (c.requires.row false) (rw c.in-Fails.is
+      c.args.head.now c.args.row s t
+      (c.args.memory.now ⟶ c.args.memory.now) false (c.requires.row false)
+      (wants-none c.args.memory.now _ _ c.in-Fails.is refl)
+      (rw c.in-Fails.is
       (acts-noted g.R.Recorder.log c.args.rec.now c.fail_session.new.rec c.args.peer
       c.args.head.now Fails s t (λ l. Some (FailedNoRoom c.args.head.now.client))
       (FailedNoRoom c.args.head.now.client)
@@ -136,7 +159,10 @@ returns-in-Closes g c = record {
   makes = let s = timed_of c.args.self.now in
       let t = timed_of c.close_session.new.self in
       acts-controls g.R.Recorder.log c.args.rec.now c.close_session.new.rec c.args.peer
-      c.args.head.now c.args.row s t false (c.requires.row false) (rw c.in-Closes.is
+      c.args.head.now c.args.row s t
+      (c.args.memory.now ⟶ c.args.memory.now) false (c.requires.row false)
+      (wants-none c.args.memory.now _ _ c.in-Closes.is refl)
+      (rw c.in-Closes.is
       (acts-noted g.R.Recorder.log c.args.rec.now c.close_session.new.rec c.args.peer
       c.args.head.now Closes s t (λ l. Some (ClosedHeard c.args.head.now.client))
       (ClosedHeard c.args.head.now.client)

@@ -10,7 +10,7 @@ pair_server-requires-clause-above g c =
 
 pub invariant_of-self-2 : goal.invariant_of-self-2
 invariant_of-self-2 g c =
-    let made = c.in_ok-pair_server.ensures in
+    let made = c.in_ok-pair_server.ensures.made in
     let taken = rw (← c.self.view_is) at c.requires.fits.fits in (
       fits-paired-server c.self.inside.me c.self.inside.limits
           (record {

@@ -10,7 +10,7 @@ pair_server-requires-clause-above g c =
 
 pub invariant_of-self-2 : goal.invariant_of-self-2
 invariant_of-self-2 g c =
-    let made = c.in_ok-pair_server.ensures in
+    let made = c.in_ok-pair_server.ensures.made in
     let taken = rw (← c.self.view_is) at c.requires.fits.fits in (
       fits-paired-server c.self.inside.me c.self.inside.limits
           (record {
@@ -32,13 +32,13 @@ invariant_of-self-2 g c =
       rw made.clients c.self.invariant.2,
     )
 
-pub returns : goal.returns
-returns g c = record {
+pub returns-clause-adds : goal.returns-clause-adds
+returns-clause-adds g c = record {
   makes = search rules;
   clients = search rules;
   jobs = search rules;
   served = λ mode served.
-      served-more mode _ _ _ _ _ _ _ c.in_ok-pair_server.ensures.servers
+      served-more mode _ _ _ _ _ _ _ c.in_ok-pair_server.ensures.made.servers
       (rw (← c.self.view_is) at served);
   unchanged = search rules;
   handed = search rules;

@@ -1,8 +1,10 @@
 use Rattle.std.proofs.lemmas.Bool.{false≢true}
-use Rattle.std.proofs.Common.{◌≡◌, length, sym, ap, subst, ◌∙◌, rules, refl}
+use Rattle.std.proofs.Common.{◌≡◌, length, sym, ap, subst, ◌∙◌, rules, refl, arith}
 use Rattle.node_laws.specs.Valid.{NumberedFrom, client_no}
 use Rattle.session_mgmt.specs.Refusals.{refused}
+use Rattle.memory_count.proofs.Risen.{none-risen-by}
 use Rattle.endpoint_node.specs.Handed.{timed_of}
+use Rattle.endpoint_node.proofs.SessionPairs.{refused-lacks}
 use Rattle.endpoint_node.proofs.SessionSteps.{connect-made, connect-refused, opened-live}
 use Rattle.endpoint_node.proofs.node.Node.connect.Goals as goal
 
@@ -14,8 +16,8 @@ start_rate-requires g c = record {
       c.in-Ok.ensures.clients;
 }
 
-pub returns-in-Err : goal.returns-in-Err
-returns-in-Err g c = record {
+pub returns-in-Err-clause-makes : goal.returns-in-Err-clause-makes
+returns-in-Err-clause-makes g c = record {
   number = search rules;
   makes = λ w.
       let count : c.clients.result ≡ length c.args.self.now.lists.clients =
@@ -35,8 +37,8 @@ returns-in-Err g c = record {
   wanting = λ no. absurd (false≢true (rw no at c.in-Err.ensures.never_memory));
 }
 
-pub returns-in-Ok : goal.returns-in-Ok
-returns-in-Ok g c = record {
+pub returns-in-Ok-clause-makes : goal.returns-in-Ok-clause-makes
+returns-in-Ok-clause-makes g c = record {
   number = c.next_client-session.ensures;
   makes = let count : c.clients.result ≡ length c.args.self.now.lists.clients =
       c.clients.ensures.count ∙ ap (λ t. length t.lists.clients) c.self.view_is in
@@ -54,3 +56,10 @@ returns-in-Ok g c = record {
   unchanged = search rules;
   wanting = search rules;
 }
+
+pub returns-in-Err-clause-cause : goal.returns-in-Err-clause-cause
+returns-in-Err-clause-cause g c =
+    refused-lacks c.args.memory.now c.in-Err.why c.in-Err.ensures.never_memory
+
+pub returns-in-Ok-clause-cause : goal.returns-in-Ok-clause-cause
+returns-in-Ok-clause-cause g c = none-risen-by _ _ (omega (arith, c.in-Ok.ensures.cause))

@@ -9,7 +9,7 @@ pub packets-init : goal.packets-init
 packets-init g c = (
   all-handled-none g.R.Recorder.log g.K.Continuation.given
       (staff_of g.W.Workers) (rules_of g.V.Service)
-      g.W.Workers.answer _ _ _ _ _ _,
+      g.W.Workers.answer _ _ _ _ _ _ _,
   c.requires.serving.served,
   c.requires.serving.founded,
   refl,
@@ -26,7 +26,7 @@ packets-preserved g c =
     let h = c.handle_next.ensures in (
       all-handled-more g.R.Recorder.log g.K.Continuation.given
           (staff_of g.W.Workers) (rules_of g.V.Service)
-          g.W.Workers.answer _ _ _ _ _ _ _ _ _ _ _ _ _ _ _ _ i.3 i.0 h.handles,
+          g.W.Workers.answer _ _ _ _ _ _ _ _ _ _ _ _ _ _ _ _ _ _ _ i.3 i.0 h.handles,
       h.rest.served,
       h.rest.founded,
       h.rest.me ∙ i.3,
@@ -41,4 +41,5 @@ pub returns-clause-handles : goal.returns-clause-handles
 returns-clause-handles g c =
     all-handled-over g.R.Recorder.log g.K.Continuation.given
     (staff_of g.W.Workers) (rules_of g.V.Service)
-    g.W.Workers.answer _ _ _ _ _ _ _ _ _ _ (c.can_handle.ensures.over c.packets-test.false) c.packets.invariant.0
+    g.W.Workers.answer _ _ _ _ _ _ _ _ _ _ _
+    (c.can_handle.ensures.over c.packets-test.false) c.packets.invariant.0

@@ -4,6 +4,7 @@ use Rattle.rpc_laws.specs.Service.{rules_of}
 use Rattle.rpc_outside.specs.Served.{StandsForSome}
 use Rattle.rpc_laws.specs.PollOrder.{Handles}
 use Rattle.rpc_laws.specs.Steps.{Chain}
+use Rattle.endpoint_node.specs.Changes.{◌⟶◌}
 use Rattle.endpoint_node.specs.Packets.{MakesAllHandled}
 use Rattle.endpoint_node.specs.Requests.{AllServed}
 use Rattle.endpoint_node.specs.Handed.{timed_of}
@@ -16,6 +17,7 @@ invariant-packets g l =
     (staff_of g.W.Workers) (rules_of g.V.Service) (g.V.Service.stands l.initial.service)
     (g.V.Service.stands l.service) g.W.Workers.answer (Chain (Handles g.V.Service.mode_of))
     (timed_of l.initial.self) (timed_of l.self) l.initial.rec l.rec l.initial.k l.k l.initial.workers l.workers
+    (l.initial.memory ⟶ l.memory)
     × AllServed g.V.Service.mode_of l.self.lists.servers
     × StandsForSome (g.V.Service.stands l.service)
     × (l.self.lists.me ≡ l.initial.self.lists.me)

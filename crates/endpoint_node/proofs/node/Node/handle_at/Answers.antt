@@ -11,6 +11,7 @@ use Rattle.endpoint_node.proofs.PacketRequests.{fits-took-it, node-again, node-d
 use Rattle.endpoint_node.proofs.PacketRequests.{node-ran, node-took-it, unfull-of}
 use Rattle.endpoint_node.proofs.PacketServers.{as-asked, has-reply-room, number-there, served-then}
 use Rattle.endpoint_node.proofs.PacketServers.{served-there}
+use Rattle.endpoint_node.specs.Changes.{◌⟶◌}
 use Rattle.endpoint_node.specs.Seen.{jobs_in}
 use Rattle.endpoint_node.proofs.node.Node.handle_at.Goals as goal
 
@@ -110,7 +111,8 @@ returns-in-Took g c = record {
       c.drop_front.ensures c.jobs_full-full.result full served place peer few g.R.Recorder.log c.args.rec.now c.on_packet-step.new.rec g.V.Service.answer
       (g.V.Service.stands c.args.service.now) (g.V.Service.stands c.on_packet-step.new.service)
       c.in-Took.reply p p.reply (λ was st. subst (λ z. g.V.Service.stands z was) (sym
-      c.in-Took.ensures.service) st));
+      c.in-Took.ensures.service) st) (c.args.memory.now ⟶ c.on_packet-step.new.memory)
+      c.in-Took.ensures.cause);
   served = let served = rw (← c.self.view_is) at c.requires.asks.serving.served in
       let p = c.on_packet-step.ensures.handles in
       served-then g.V.Service.mode_of _ _ c.args.i p.server p.later served p.place p.changed
@@ -176,7 +178,8 @@ returns-in-Again g c = record {
       c.drop_front.ensures c.jobs_full-full.result full served place peer few g.R.Recorder.log c.args.rec.now c.on_packet-step.new.rec g.V.Service.answer
       (g.V.Service.stands c.args.service.now) (g.V.Service.stands c.on_packet-step.new.service)
       c.in-Again.reply p p.reply.0 p.reply.1 (λ was st. subst (λ z. g.V.Service.stands z was) (sym
-      c.in-Again.ensures.service) st));
+      c.in-Again.ensures.service) st) (c.args.memory.now ⟶ c.on_packet-step.new.memory)
+      c.in-Again.ensures.cause);
   served = let served = rw (← c.self.view_is) at c.requires.asks.serving.served in
       let p = c.on_packet-step.ensures.handles in
       served-then g.V.Service.mode_of _ _ c.args.i p.server p.later served p.place p.changed
@@ -243,7 +246,8 @@ returns-in-Ran g c = record {
       c.drop_front.ensures c.jobs_full-full.result full served place peer few g.R.Recorder.log c.args.rec.now c.on_packet-step.new.rec g.V.Service.answer
       (g.V.Service.stands c.args.service.now) (g.V.Service.stands c.on_packet-step.new.service)
       c.in-Ran.reply p p.reply.0 p.reply.1 c.saturating_add-self-inside.result
-      c.saturating_add-self-inside.ensures);
+      c.saturating_add-self-inside.ensures (c.args.memory.now ⟶ c.on_packet-step.new.memory)
+      c.in-Ran.ensures.cause);
   served = let served = rw (← c.self.view_is) at c.requires.asks.serving.served in
       let p = c.on_packet-step.ensures.handles in
       served-then g.V.Service.mode_of _ _ c.args.i p.server p.later served p.place p.changed
@@ -311,7 +315,8 @@ returns-in-Dropped g c = record {
       (g.V.Service.stands c.args.service.now) (g.V.Service.stands c.on_packet-step.new.service)
       c.in-Dropped.field-0 p c.saturating_add-self-inside-in-Dropped.result
       c.saturating_add-self-inside-in-Dropped.ensures (λ was st. subst (λ z. g.V.Service.stands z
-      was) (sym c.in-Dropped.ensures.service) st));
+      was) (sym c.in-Dropped.ensures.service) st) (c.args.memory.now ⟶ c.on_packet-step.new.memory)
+      c.in-Dropped.ensures.cause);
   served = let served = rw (← c.self.view_is) at c.requires.asks.serving.served in
       let p = c.on_packet-step.ensures.handles in
       served-then g.V.Service.mode_of _ _ c.args.i p.server p.later served p.place p.changed
@@ -390,7 +395,8 @@ returns-in-Give g c = record {
       refl refl refl _ c.push_back_reserved.ensures.items) (λ asks own. asking-one
       c.self.inside.limits.jobs c.self.inside.given c.self.inside.jobs.items _ c.in-Give.parcel
       refl refl refl asks _ c.push_back_reserved.ensures.items own) refl (λ was st. subst (λ z.
-      g.V.Service.stands z was) (sym c.in-Give.ensures.service) st));
+      g.V.Service.stands z was) (sym c.in-Give.ensures.service) st)
+      (c.args.memory.now ⟶ c.on_packet-step.new.memory) c.in-Give.ensures.cause);
   served = let served = rw (← c.self.view_is) at c.requires.asks.serving.served in
       let p = c.on_packet-step.ensures.handles in
       served-then g.V.Service.mode_of _ _ c.args.i p.server p.later served p.place p.changed

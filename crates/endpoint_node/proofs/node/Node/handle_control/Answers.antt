@@ -8,7 +8,7 @@ use Rattle.endpoint_node.proofs.node.Node.handle_control.Goals as goal
 handles : goal.returns-clause-handles
 handles g c =
     rw (← c.self.view_is) (makes-handled g.R.Recorder.log
-    c.args.packet.now.peer c.args.packet.now.head c.on_control.result
+    c.args.packet.now.peer c.args.packet.now.head c.on_control.result _
     (timed_of (the_view c.self.inside)) (timed_of c.end_outdated.new.self)
     (timed_of c.on_control.new.self) c.args.rec.now c.note.new.self c.end_outdated.new.rec
     c.on_control.new.rec c.note.ensures (rw c.drop_front.ensures at c.end_outdated.ensures.makes)
@@ -19,9 +19,9 @@ returns-clause-handles g c = handles g c
 
 pub returns-clause-rest : goal.returns-clause-rest
 returns-clause-rest g c = record {
-  ring = made-ring g.R.Recorder.log _ _ _ _ _ _ _ (handles g c);
-  served = made-served g.R.Recorder.log _ _ _ _ _ _ _ (handles g c);
-  me = made-me g.R.Recorder.log _ _ _ _ _ _ _ (handles g c);
+  ring = made-ring g.R.Recorder.log _ _ _ _ _ _ _ _ (handles g c);
+  served = made-served g.R.Recorder.log _ _ _ _ _ _ _ _ (handles g c);
+  me = made-me g.R.Recorder.log _ _ _ _ _ _ _ _ (handles g c);
   jobs = c.on_control.ensures.step.rest.jobs ∙ c.end_outdated.ensures.rest.jobs
       ∙ ap (λ (n : Holding). n.lists.jobs) c.self.view_is;
   handed = c.on_control.ensures.step.rest.handed ∙ c.end_outdated.ensures.rest.handed

@@ -16,7 +16,7 @@ returns-in-Request-clause-handles g c =
     node-requests g.R.Recorder.log g.K.Continuation.given
     (rules_of g.V.Service)
     (g.V.Service.stands c.args.service.now) c.in-Some.head _ _ _ _ front c.requires.room
-    (g.V.Service.stands c.handle_request.new.service) c.handle_request.result _ _
+    (g.V.Service.stands c.handle_request.new.service) c.handle_request.result _ _ _
     (not-false _ (sym c.is_stale.ensures ∙ c.if-is_stale.false))
     (asks-kind c.in-Some.head.kind c.in-Request.is) refl
     c.handle_request.ensures.serves
@@ -27,7 +27,7 @@ returns-in-None-clause-handles g c =
     node-replies g.R.Recorder.log g.K.Continuation.given
     (rules_of g.V.Service)
     (g.V.Service.stands c.args.service.now) c.in-Some.head _ _ _ _ front c.requires.room
-    c.hear_reply.result _ _ (not-false _ (sym c.is_stale.ensures ∙ c.if-is_stale.false))
+    c.hear_reply.result _ _ _ (not-false _ (sym c.is_stale.ensures ∙ c.if-is_stale.false))
     (replies-kind c.in-Some.head.kind c.in-Cr.is)
     c.hear_reply.ensures.hears c.hear_reply.ensures.jobs
     (gave-no g.K.Continuation.given c.hear_reply.result c.args.k.now c.in-None.is)
@@ -38,7 +38,7 @@ returns-in-Some-hear_reply-clause-handles g c =
     node-replies g.R.Recorder.log g.K.Continuation.given
     (rules_of g.V.Service)
     (g.V.Service.stands c.args.service.now) c.in-Some.head _ _ _ _ front c.requires.room
-    c.hear_reply.result _ _ (not-false _ (sym c.is_stale.ensures ∙ c.if-is_stale.false))
+    c.hear_reply.result _ _ _ (not-false _ (sym c.is_stale.ensures ∙ c.if-is_stale.false))
     (replies-kind c.in-Some.head.kind c.in-Cr.is)
     c.hear_reply.ensures.hears c.hear_reply.ensures.jobs
     (gave-one g.K.Continuation.given c.hear_reply.result c.in-Some-hear_reply.done c.args.k.now
@@ -62,6 +62,6 @@ pub returns-then-is_stale-clause-handles : goal.returns-then-is_stale-clause-han
 returns-then-is_stale-clause-handles g c =
     let front = sym c.front_head.ensures.value ∙ c.in-Some.is in
     node-stale g.R.Recorder.log g.K.Continuation.given (rules_of g.V.Service)
-    (g.V.Service.stands c.args.service.now) c.in-Some.head _ _ _ _ front c.requires.room _ _
+    (g.V.Service.stands c.args.service.now) c.in-Some.head _ _ _ _ front c.requires.room _ _ _
     (not-true _ (sym c.is_stale.ensures ∙ c.if-is_stale.true)) c.requires.some refl
     c.drop_front.ensures.drops c.drop_front.ensures.rest.jobs

@@ -9,7 +9,7 @@ pub returns-in_default-clause-handles : goal.returns-in_default-clause-handles
 returns-in_default-clause-handles g c =
     handled-none g.R.Recorder.log g.K.Continuation.given
     (staff_of g.W.Workers) (rules_of g.V.Service)
-    g.W.Workers.answer _ _ _ _ _ _ _ _ _ c.in_default.ensures.handles
+    g.W.Workers.answer _ _ _ _ _ _ _ _ _ _ c.in_default.ensures.handles
 
 pub returns-in_default-clause-fewer : goal.returns-in_default-clause-fewer
 returns-in_default-clause-fewer g c = ring-fewer _ _ c.requires.front.some c.handle_front.ensures.ring
@@ -18,10 +18,10 @@ pub returns-in_default-clause-rest : goal.returns-in_default-clause-rest
 returns-in_default-clause-rest g c = record {
   served = c.handle_front.ensures.served;
   founded = still-founded g.R.Recorder.log g.K.Continuation.given
-      (rules_of g.V.Service) _ _ _ _ _ _ _ _ _
+      (rules_of g.V.Service) _ _ _ _ _ _ _ _ _ _
       c.handle_front.ensures.handles c.requires.front.serving.founded;
   me = me-handled g.R.Recorder.log g.K.Continuation.given
-      (rules_of g.V.Service) _ _ _ _ _ _ _ _ _
+      (rules_of g.V.Service) _ _ _ _ _ _ _ _ _ _
       c.handle_front.ensures.handles;
   worked = refl;
   looks = refl;
@@ -43,7 +43,7 @@ returns-clause-handles g c =
     let h = c.give-given.ensures in
     handled-some g.R.Recorder.log g.K.Continuation.given
     (staff_of g.W.Workers) (rules_of g.V.Service)
-    g.W.Workers.answer _ _ c.in-Some.parcel _ _ _ _ _ _ _ _ c.in-Some.ensures.handles
+    g.W.Workers.answer _ _ c.in-Some.parcel _ _ _ _ _ _ _ _ _ c.in-Some.ensures.handles
     c.sound.ensures.kept room c.give-given.result (h.full, h.out, h.given, h.waits, h.limit)
 
 pub returns-clause-fewer : goal.returns-clause-fewer
@@ -53,10 +53,10 @@ pub returns-clause-rest : goal.returns-clause-rest
 returns-clause-rest g c = record {
   served = c.handle_front.ensures.served;
   founded = still-founded g.R.Recorder.log g.K.Continuation.given
-      (rules_of g.V.Service) _ _ _ _ _ _ _ _ _
+      (rules_of g.V.Service) _ _ _ _ _ _ _ _ _ _
       c.handle_front.ensures.handles c.requires.front.serving.founded;
   me = me-handled g.R.Recorder.log g.K.Continuation.given
-      (rules_of g.V.Service) _ _ _ _ _ _ _ _ _
+      (rules_of g.V.Service) _ _ _ _ _ _ _ _ _ _
       c.handle_front.ensures.handles;
   worked = c.give-given.ensures.worked;
   looks = c.give-given.ensures.looks;

@@ -31,7 +31,8 @@ returns-in_default-place_of_server g c = record {
       c.self.invariant.0 c.args.head.now c.in-Some.front.now front c.requires.asking here g.V.Service.mode_of
       g.R.Recorder.log c.args.rec.now c.drop_front.new.rec g.V.Service.answer
       (g.V.Service.stands c.args.service.now) (g.V.Service.stands c.args.service.now)
-      (timed_of c.drop_front.new.self) (sym c.place_of_server.ensures ∙ c.in_default-place_of_server.is) same
+      (timed_of c.drop_front.new.self) c.args.memory.now
+      (sym c.place_of_server.ensures ∙ c.in_default-place_of_server.is) same
       (λ was st. st) made);
   served = search rules;
   ring = c.drop_front.ensures.ring;
@@ -60,7 +61,8 @@ returns-then-ne g c = record {
       c.self.invariant.0 c.args.head.now c.in-Some.front.now front c.requires.asking here g.V.Service.mode_of
       g.R.Recorder.log c.args.rec.now c.drop_front-then-ne.new.rec
       g.V.Service.answer (g.V.Service.stands c.args.service.now) (g.V.Service.stands
-      c.args.service.now) (timed_of c.drop_front-then-ne.new.self) c.in-Some-place_of_server.i
+      c.args.service.now) (timed_of c.drop_front-then-ne.new.self) c.args.memory.now
+      c.in-Some-place_of_server.i
       c.peer_of_server.result place c.peer_of_server.ensures there.0 (differ
       c.peer_of_server.result c.peer.result c.in-Some.front.now.peer c.ne.result c.ne.ensures
       c.if-ne.true c.peer.ensures) same (λ was st. st) made);

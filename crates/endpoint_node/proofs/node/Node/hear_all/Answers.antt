@@ -8,7 +8,7 @@ use Rattle.endpoint_node.proofs.node.Node.hear_all.Goals as goal
 
 pub packets-init : goal.packets-init
 packets-init g c = record {
-  listens = listens-none g.R.Recorder.log g.L.Link Hears _ _ _;
+  listens = listens-none g.R.Recorder.log g.L.Link Hears _ _ _ _;
   heard = omega (
     arith,
     c.len-count.ensures.len,
@@ -29,7 +29,8 @@ packets-preserved g c =
     let i = c.packets.invariant in
     let h = c.hear_control-one.ensures in
     record {
-      listens = listens-more g.R.Recorder.log g.L.Link Hears c.packets.told c.hear_control-one.result _ _ _ _ _ _ _ _ _ _ refl
+      listens = listens-more g.R.Recorder.log g.L.Link Hears c.packets.told
+          c.hear_control-one.result _ _ _ _ _ _ _ _ _ _ _ _ _ refl
           refl refl i.listens h.step.listens;
       heard = omega (
         arith,
@@ -52,7 +53,8 @@ packets-preserved g c =
 pub returns-clause-step : goal.returns-clause-step
 returns-clause-step g c = record {
   listens = let i = c.packets.invariant in
-      listens-until g.R.Recorder.log g.L.Link Hears (λ t. t.lists.inbox ≡ []) c.packets.told _ _ _ _ _ _ i.listens
+      listens-until g.R.Recorder.log g.L.Link Hears (λ t. t.lists.inbox ≡ []) c.packets.told _ _ _ _ _ _ _
+      i.listens
       (λ asks. none-waits c.packets.self.lists.inbox
       (omega (arith, i.heard, c.packets-test.false)));
   rest = let i = c.packets.invariant in record {

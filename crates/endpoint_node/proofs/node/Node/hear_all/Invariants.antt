@@ -4,6 +4,7 @@ use Rattle.rpc_laws.specs.Deliveries.{inbox_room}
 use Rattle.rpc_laws.specs.Steps.{Chain}
 use Rattle.rpc_outside.specs.Linking.{NoneComes}
 use Rattle.rpc_outside.specs.declared.service.Mode.{Mode}
+use Rattle.endpoint_node.specs.Changes.{◌⟶◌}
 use Rattle.endpoint_node.specs.Handed.{timed_of}
 use Rattle.endpoint_node.specs.Control.{Listens}
 use Rattle.endpoint_node.specs.Requests.{AllServed}
@@ -12,7 +13,7 @@ use Rattle.endpoint_node.proofs.node.Node.hear_all.Given as goal
 abbrev pub invariant-packets : goal.invariant-packets
 invariant-packets g l = record {
   listens : Listens g.R.Recorder.log g.L.Link (Chain Hears) l.told (timed_of l.initial.self) (timed_of l.self) l.initial.rec
-      l.rec l.initial.link l.link;
+      l.rec l.initial.link l.link (l.initial.memory ⟶ l.memory);
   heard : l.told.heard + length l.self.lists.inbox ≡ l.count;
   few : l.count ≤ inbox_room;
   sent : l.told.sent ≤ l.told.heard;

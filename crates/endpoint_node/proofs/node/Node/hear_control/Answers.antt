@@ -12,7 +12,7 @@ returns-in-None-clause-step g c = record {
       let front = subst (λ (n : Holding). IsFront n.lists.inbox c.in-Some.packet) c.self.view_is
       first in
       let handles = rw c.in-None.is at c.handle_control.ensures.handles in
-      listens-silent g.R.Recorder.log g.L.Link c.in-Some.packet _ _ front _ _ _ handles;
+      listens-silent g.R.Recorder.log g.L.Link c.in-Some.packet _ _ _ front _ _ _ handles;
   rest = c.handle_control.ensures.rest;
   lists = search rules;
 }
@@ -30,7 +30,7 @@ returns-in-Some-handle_control-clause-step g c = record {
       let handles = rw c.in-Some-handle_control.is at h.handles in
       let said = c.speak-went.ensures in
       rw (c.told_of.ensures, c.keep_life.ensures) (listens-said g.R.Recorder.log g.L.Link
-      c.in-Some.packet _ _ front _ c.speak-went.result _ _ _ _ _ _ sendable me handles said.spoke
+      c.in-Some.packet _ _ _ front _ c.speak-went.result _ _ _ _ _ _ sendable me handles said.spoke
       said.cause said.busy said.went said.fault);
   rest = let rest = c.handle_control.ensures.rest in
       rw c.keep_life.ensures (record {

@@ -19,6 +19,6 @@ returns-clause-step g c = record {
 
 pub returns-clause-in_range : goal.returns-clause-in_range
 returns-clause-in_range g c =
-    answer-range g.R.Recorder.log _ _ _ _ _ _ c.control_reply.result c.requires.in_range
+    answer-range g.R.Recorder.log _ _ _ _ _ _ _ c.control_reply.result c.requires.in_range
     (subst (λ (n : Holding). CanAnswer n.lists) c.self.view_is
     (can-answer _ _ _ c.self.invariant.0)) (returns-clause-step g c).makes

@@ -10,7 +10,7 @@ pub invariant_of-self-2 : goal.invariant_of-self-2
 invariant_of-self-2 g c =
     let same : c.next_client-session.result ≡ length c.self.inside.store.clients =
     rw (← c.self.view_is) at c.next_client-session.ensures in
-    let made = c.in_default.ensures in
+    let made = c.in_default.ensures.made in
     let taken = rw (← c.self.view_is) at c.requires.fits in (
       fits-opened c.self.inside.me c.self.inside.limits
           (record {
@@ -24,8 +24,8 @@ invariant_of-self-2 g c =
           (jobs_in c.self.inside.limits.jobs c.self.inside.given c.self.inside.jobs.items)
           c.self.inside.clock c.self.inside.rx c.self.inside.store
           c.open.new.self c.self.invariant.0 c.args.credits c.args.peer c.requires.credits.some
-          c.requires.credits.few made.queued made.size made.places c.push.new.self.items
-          (c.in_ok-push.ensures.items ∙ ap (λ (n : ℕ). c.self.inside.paces.items ++ record {
+          c.requires.credits.few made.queued made.size made.places c.push.new.list.items
+          (c.in_ok-push.ensures.pushed ∙ ap (λ (n : ℕ). c.self.inside.paces.items ++ record {
             session = n;
             rate = 0;
             next = 0;

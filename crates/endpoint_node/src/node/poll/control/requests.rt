@@ -10,6 +10,7 @@ ghost use Rattle.endpoint_node.specs.ControlRows.{Acts, Controls};
 ghost use Rattle.endpoint_node.specs.Handed.{timed_of};
 ghost use Rattle.endpoint_node.specs.Leaves.{LeavesPackets};
 ghost use Rattle.endpoint_node.specs.Notes.{Makes};
+ghost use Rattle.memory_count.specs.Faults.{HasCause};
 ghost use Rattle.packet_header.specs.Header.{ControlInRange};
 ghost use Rattle.rpc_base.specs.declared.event.Event.TheVariants.{Accepted};
 ghost use Rattle.rpc_laws.specs.declared.rows.ControlRow.TheVariants.{Accepts, Declines, Ends};
@@ -20,8 +21,9 @@ ghost use Rattle.rpc_laws.specs.Steps.{NotesNext};
 ghost use Rattle.session_mgmt.specs.Control.{other_end, starved_if};
 
 use crate::node::Node;
+use memory_count::{Memory, NoMemory};
 use packet_header::{ControlHeader, Life};
-use rpc_base::{Event, MOST_CREDITS, NoMemory, Peer, SESSION_NUMBERS, SessionNo, Who};
+use rpc_base::{Event, MOST_CREDITS, Peer, SESSION_NUMBERS, SessionNo, Who};
 use rpc_laws::ControlRow;
 use rpc_outside::Recorder;
 use session_mgmt::OtherEnd;
@@ -118,6 +120,7 @@ impl Node {
     // `NoMemory` comes where there is no memory for it, and then nothing changed.
     fn add_accepted<R: Recorder>(
         &mut self,
+        memory: &mut Memory,
         peer: Peer,
         life: Life,
         client: SessionNo,
@@ -133,10 +136,11 @@ impl Node {
             rec.old rec.new) }
         ensures rest { LeavesPackets self.old self.new }
         ensures unchanged { OnErr result ((self.new ≡ self.old) × (rec.new ≡ rec.old)) }
+        ensures cause { HasCause memory.old memory.new result }
     {
         let session = SessionNo(self.server_numbers as u16);
         self.store
-            .pair_server(session, client, peer, life, credits)?;
+            .pair_server(memory, session, client, peer, life, credits)?;
         self.server_numbers += 1;
         let event = Event::Accepted {
             session,
@@ -153,6 +157,7 @@ impl Node {
     // The result is what was done: `Starves` where there is no memory for it.
     pub(crate) fn accept_session<R: Recorder>(
         &mut self,
+        memory: &mut Memory,
         peer: Peer,
         head: &ControlHeader,
         rec: &mut R,
@@ -164,10 +169,10 @@ impl Node {
         requires some { 1 ≤ head.now.credits }
         requires most { head.now.credits ≤ MOST_CREDITS }
         ensures { StepsControl R.log
-            (Controls peer head.now (control_reply self.old.lists.life head.now result))
-            (self.old ⟶ self.new) (rec.old ⟶ rec.new) }
+            (Controls peer head.now (control_reply self.old.lists.life head.now result)
+            (memory.old ⟶ memory.new)) (self.old ⟶ self.new) (rec.old ⟶ rec.new) }
     {
-        match self.add_accepted(peer, head.from_life, head.client, head.credits, rec) {
+        match self.add_accepted(memory, peer, head.from_life, head.client, head.credits, rec) {
             Ok(server) => ControlRow::Accepts { server },
             Err(_) => {
                 self.starve(peer, head, rec);

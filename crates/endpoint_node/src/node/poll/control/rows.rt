@@ -8,6 +8,7 @@ ghost use Rattle.rpc_laws.specs.ControlTable.{control_reply, control_row};
 ghost use Rattle.session_mgmt.specs.Control.{HasCause, found_in, starved_if};
 
 use crate::node::Node;
+use memory_count::Memory;
 use packet_header::ControlHeader;
 use rpc_base::Peer;
 use rpc_laws::ControlRow;
@@ -35,6 +36,7 @@ impl Node {
     // `Accepts` where there is no memory for the session.
     fn act<R: Recorder>(
         &mut self,
+        memory: &mut Memory,
         row: ControlRow,
         peer: Peer,
         head: &ControlHeader,
@@ -45,8 +47,8 @@ impl Node {
         requires cause { HasCause row head.now (found_in peer head.now self.old.lists) }
         requires in_range { ControlInRange head.now }
         ensures { StepsControl R.log
-            (Controls peer head.now (control_reply self.old.lists.life head.now result))
-            (self.old ⟶ self.new) (rec.old ⟶ rec.new) }
+            (Controls peer head.now (control_reply self.old.lists.life head.now result)
+            (memory.old ⟶ memory.new)) (self.old ⟶ self.new) (rec.old ⟶ rec.new) }
     {
         self.sound();
         match row {
@@ -57,7 +59,7 @@ impl Node {
                 row
             }
             ControlRow::Starves => unreachable!(),
-            ControlRow::Accepts { .. } => self.accept_session(peer, head, rec),
+            ControlRow::Accepts { .. } => self.accept_session(memory, peer, head, rec),
             ControlRow::Ends => {
                 self.end_named(peer, head, rec);
                 row
@@ -83,19 +85,20 @@ impl Node {
     // is one.
     pub(crate) fn on_control<R: Recorder>(
         &mut self,
+        memory: &mut Memory,
         peer: Peer,
         head: &ControlHeader,
         rec: &mut R,
     ) -> Option<ControlHeader>
         requires in_range { ControlInRange head.now }
-        ensures step { StepsControl R.log (Controls peer head.now result) (self.old ⟶ self.new)
-            (rec.old ⟶ rec.new) }
+        ensures step { StepsControl R.log (Controls peer head.now result (memory.old ⟶ memory.new))
+            (self.old ⟶ self.new) (rec.old ⟶ rec.new) }
         ensures in_range { IfSome result (λ r. ControlInRange r) }
     {
         let own = self.life;
         let found = self.found(peer, head);
         let row = control_row(peer, head, &found);
-        let done = self.act(row, peer, head, rec);
+        let done = self.act(memory, row, peer, head, rec);
         control_reply(own, head, &done)
     }
 }

@@ -9,11 +9,11 @@ ghost use Rattle.rpc_laws.specs.Requests.{is_server};
 
 use crate::node::poll::packets::replies::body;
 use crate::node::{JobName, Node};
+use memory_count::Memory;
 use packet_header::MessageHeader;
 use rpc_base::{DropReason, HEAD_BYTES, MOST_GIVEN};
 use rpc_outside::{Recorder, Service};
 use server_core::Step;
-use std::alloc::Global;
 use worker_board::Parcel;
 
 impl Node {
@@ -28,7 +28,7 @@ impl Node {
     // ring, handles it.
     fn handle_at<V: Service, R: Recorder>(
         &mut self,
-        alloc: Global,
+        memory: &mut Memory,
         i: usize,
         service: &mut V,
         head: &MessageHeader,
@@ -39,7 +39,7 @@ impl Node {
         requires peer { IfSome (slice_get self.old.lists.servers i)
             (λ v. IfSome (slice_get self.old.lists.ring 0) (λ a. v.way.peer ≡ a.peer)) }
         ensures { ServesFront R.log V.Service head.now result (self.old ⟶ self.new)
-            (rec.old ⟶ rec.new) (service.old ⟶ service.new) }
+            (rec.old ⟶ rec.new) (service.old ⟶ service.new) (memory.old ⟶ memory.new) }
     {
         let full = self.jobs_full();
         let Some(front) = self.rx.front() else {
@@ -48,7 +48,7 @@ impl Node {
         let asked = body(front.bytes());
         let step = self
             .store
-            .on_packet(alloc, i, service, head, asked, full, self.me, rec);
+            .on_packet(memory, i, service, head, asked, full, self.me, rec);
         self.rx.drop_front();
         match step {
             Step::Took { reply: _ } => None,
@@ -78,14 +78,14 @@ impl Node {
     /// bytes lie. What is given out is the job that it made, for a worker.
     pub fn handle_request<V: Service, R: Recorder>(
         &mut self,
-        alloc: Global,
+        memory: &mut Memory,
         service: &mut V,
         head: &MessageHeader,
         rec: &mut R,
     ) -> Option<Parcel>
         requires { AsksInFront V.Service head.now service.old self.old }
         ensures { ServesFront R.log V.Service head.now result (self.old ⟶ self.new)
-            (rec.old ⟶ rec.new) (service.old ⟶ service.new) }
+            (rec.old ⟶ rec.new) (service.old ⟶ service.new) (memory.old ⟶ memory.new) }
     {
         let Some(front) = self.rx.front() else {
             unreachable!()
@@ -98,6 +98,6 @@ impl Node {
             self.drop_front(DropReason::WrongPeer, rec);
             return None;
         }
-        self.handle_at(alloc, i, service, head, rec)
+        self.handle_at(memory, i, service, head, rec)
     }
 }
