@@ -41,7 +41,8 @@ use Rattle.rpc_laws.specs.Service.{Answers, is_mode_inline, Serving, served_afte
 use Rattle.rpc_laws.specs.Service.{rules_of}
 use Rattle.rpc_laws.proofs.AnswerLemmas.{answers-append, served-append}
 use Rattle.rpc_laws.proofs.RunLemmas.{me-after_all}
-use Rattle.rpc_outside.specs.Faults.{HasCause, HasRisen}
+use Rattle.memory_count.specs.Faults.{HasCause, HasRisen, HasRisenBy}
+use Rattle.memory_count.proofs.Risen.{both-risen}
 use Rattle.rpc_outside.specs.Served.{Served, StandsForSome}
 use Rattle.rpc_outside.specs.declared.service.Mode.{Mode}
 use Rattle.rpc_outside.specs.declared.service.Mode.TheVariants.{Background}
@@ -53,6 +54,8 @@ use Rattle.server_core.proofs.FlushLemmas.{grew-then}
 use Rattle.worker_board.specs.declared.Parcel.{Parcel}
 use Rattle.worker_crew.specs.Jobs.{Job as CrewJob}
 use Rattle.endpoint_node.proofs.HandedGiven.{gave-then}
+use Rattle.endpoint_node.specs.Changes.{◌⟶◌}
+use Rattle.endpoint_node.specs.Lacks.{is_lack, lacks_in}
 use Rattle.endpoint_loop.specs.Polls.{CountsTurn}
 use Rattle.endpoint_node.specs.Counts.{is_handled, is_sent}
 use Rattle.endpoint_loop.specs.declared.endpoint.poll.Turn.{Turn}
@@ -404,7 +407,7 @@ closed-left s x t h =
 module _ {R K L V W : Type 0} (log : R → Log)
     (given : K → List Done → Type 0) (net : Link.Ghosts L)
     (service : Service.Ghosts V) (workers : Workers.Ghosts W) (works : WorksFor workers.answer (rules_of service)) (now : ℕ) (n0 n1 n2 n3 n4 n5 n6 n7 : Timed) (w0 w1 w2 : W)
-    (s0 s1 : V) (r0 rf r1 r2 r3 r4 r5 r6 : R) (k0 k1 k2 : K) (l0 l1 l2 l3 : L)
+    (s0 s1 : V) (r0 rf r1 r2 r3 r4 r5 r6 : R) (k0 k1 k2 : K) (l0 l1 l2 l3 : L) (m0 m1 m2 : ℕ)
     (background : AllBackground service.mode_of n0.lists.jobs.out)
     (finish : MakesFinished log workers.answer (crew_of workers w0).staff.out (crew_of workers w1).staff.out
     (crew_of workers w0).worked (crew_of workers w1).worked (raised now n0) n1 r0 rf)
@@ -414,12 +417,12 @@ module _ {R K L V W : Type 0} (log : R → Log)
     (given_is : (crew_of workers w1).staff.given ≡ (crew_of workers w0).staff.given)
     (waiting : (crew_of workers w1).staff.waiting ≡ (crew_of workers w0).staff.waiting)
     (heard_told : Listening) (asked_told : Asking)
-    (hear : Listens log net HearsAll heard_told n1 n2 rf r1 l0 l1)
+    (hear : Listens log net HearsAll heard_told n1 n2 rf r1 l0 l1 (m0 ⟶ m1))
     (heard_jobs : n2.lists.jobs ≡ n1.lists.jobs) (heard_me : n2.lists.me ≡ n1.lists.me)
     (heard_ring : n2.lists.ring ≡ n1.lists.ring)
     (inbox : n2.lists.inbox ≡ [])
     (handle : MakesAllHandled log given (staff_of workers) (rules_of service) (service.stands s0) (service.stands s1)
-    workers.answer (HandlesAll service.mode_of) n2 n3 r1 r2 k0 k1 w1 w2)
+    workers.answer (HandlesAll service.mode_of) n2 n3 r1 r2 k0 k1 w1 w2 (m1 ⟶ m2))
     (worked : (crew_of workers w2).worked ≡ (crew_of workers w1).worked) (looks : (crew_of workers w2).looks ≡ (crew_of workers w1).looks)
     (me : n3.lists.me ≡ n2.lists.me)
     (watch : MakesTimes log given net TimesAll asked_told n3 n4 r2 r3 k1 k2 l1 l2)
@@ -483,6 +486,11 @@ module _ {R K L V W : Type 0} (log : R → Log)
   last-unmoved : AllStill moves_ring last
   last-unmoved =
       last-none moves_ring (λ o k. refl) (λ c a b. refl) (λ i. refl) (λ c. refl) (λ p o k. refl)
+      (λ p. refl) (λ i. refl) (λ i. refl) (λ c r. refl) (λ o k. refl) (λ n. refl)
+
+  last-fed : AllStill is_lack last
+  last-fed =
+      last-none is_lack (λ o k. refl) (λ c a b. refl) (λ i. refl) (λ c. refl) (λ p o k. refl)
       (λ p. refl) (λ i. refl) (λ i. refl) (λ c r. refl) (λ o k. refl) (λ n. refl)
 
   -- none of control is of a call or a job
@@ -861,9 +869,23 @@ module _ {R K L V W : Type 0} (log : R → Log)
         (subst (λ (r : List Arrival). SparesShort (rules_of service) r (handle.noted ++ last))
         same-front spared-on))
 
+    -- and each lack is of the control packets or of the handling
+    wants : HasRisenBy (lacks_in noted) m0 m2
+    wants =
+        subst (λ (n : ℕ). HasRisenBy n m0 m2)
+        (omega (
+          arith,
+          many-append is_lack finish.noted (heard ++ (handle.noted ++ last)),
+          many-append is_lack heard (handle.noted ++ last),
+          many-append is_lack handle.noted last,
+          many-none is_lack finish.noted (finish-still is_lack (λ t r y. refl) (λ o k. refl)),
+          many-none is_lack last last-fed,
+        ))
+        (both-risen (lacks_in heard) (lacks_in handle.noted) m0 m1 m2 hear.wants handle.wants)
+
     tells : TellsOfPoll given (rules_of service) (service.stands s0) (service.stands s1) turn
         (wire_of net l0)
-        (wire_of net l3) n0.lists.ring me0 noted n7 k0 k2
+        (wire_of net l3) n0.lists.ring me0 noted n7 k0 k2 (m0 ⟶ m2)
     tells = record {
       answers = answers;
       dones = handle.dones ++ watch.ends.dones;
@@ -873,6 +895,7 @@ module _ {R K L V W : Type 0} (log : R → Log)
       took = took;
       held = held-all;
       spared = spared;
+      wants = wants;
     }
 
   pub makes-poll : (h0 h7 : List (List Handed))
@@ -880,7 +903,7 @@ module _ {R K L V W : Type 0} (log : R → Log)
       (wire_of net l0)
       (wire_of net l3)
       (record { timed = n0; handed = h0; service = s0; workers = w0 })
-      (record { timed = n7; handed = h7; service = s1; workers = w2 }) r0 r6 k0 k2
+      (record { timed = n7; handed = h7; service = s1; workers = w2 }) r0 r6 k0 k2 (m0 ⟶ m2)
   makes-poll h0 h7 = record {
     noted = noted;
     grew = grew-then log r0 rf r6 finish.noted _ finish.grew

@@ -50,6 +50,7 @@ use Rattle.endpoint_node.specs.Pairs.{IfNoMemory, PairsClient, PairsServer}
 use Rattle.endpoint_loop.specs.Endpoints.{Leaves}
 use Rattle.endpoint_node.specs.Pairs.{UnlessNoMemory, or_refused}
 use Rattle.endpoint_node.specs.Asks.{IfWanting, UnlessWanting}
+use Rattle.endpoint_node.specs.Changes.{Change}
 use Rattle.endpoint_node.specs.declared.node.calls.AskError.{AskError}
 use Rattle.endpoint_node.specs.declared.node.calls.AskError.TheVariants.{NoMemory as AskWanting}
 use Rattle.endpoint_node.specs.declared.node.calls.AskError.TheVariants.{NotConnected}
@@ -273,8 +274,8 @@ module _ {R K V W : Type 0} (log : R → Log)
       (sends-some (is_stopped turn)) _ x _ does.polls)
 
   -- the node keeps its number
-  pub me-polled : (a b : Running V W) (f g : R) (j k : K)
-      → MakesPoll log given service workers turn now link then_link a b f g j k
+  pub me-polled : (a b : Running V W) (f g : R) (j k : K) {memory : Change ℕ}
+      → MakesPoll log given service workers turn now link then_link a b f g j k memory
       → (limits : Limits) (past : List Fact)
       → StandsFor service workers limits past a
       → b.timed.lists.me ≡ a.timed.lists.me
@@ -295,8 +296,8 @@ module _ {R K V W : Type 0} (log : R → Log)
       (λ s x t k. sends-still is_asked (λ p o k. refl) s x t
       (sends-some (is_stopped turn) s x t k)) _ x _ does.polls
 
-  unfoldable pub goes-polled : (a b : Running V W) (f g : R) (j k : K)
-      → MakesPoll log given service workers turn now link then_link a b f g j k
+  unfoldable pub goes-polled : (a b : Running V W) (f g : R) (j k : K) {memory : Change ℕ}
+      → MakesPoll log given service workers turn now link then_link a b f g j k memory
       → GoesOn log service workers a b f g
   goes-polled a b f g j k h = record {
     noted = h.noted;

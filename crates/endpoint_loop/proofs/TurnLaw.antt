@@ -9,7 +9,7 @@ use Rattle.client_core.specs.declared.outcome.Done.{Done}
 use Rattle.rpc_base.specs.declared.fact.Fact.{Fact}
 use Rattle.rpc_laws.specs.declared.tables.Timed.{Timed}
 use Rattle.rpc_laws.specs.Deliveries.{Delivers}
-use Rattle.rpc_outside.specs.Faults.{HasCause}
+use Rattle.memory_count.specs.Faults.{HasCause}
 use Rattle.rpc_outside.specs.Linking.{Carried, Comes, NoneComes}
 use Rattle.rpc_outside.specs.declared.link.Link as Link
 use Rattle.rpc_outside.specs.declared.service.Service as Service
@@ -18,6 +18,7 @@ use Rattle.server_core.proofs.FlushLemmas.{grew-none, grew-then}
 use Rattle.endpoint_loop.specs.Endpoints.{Leaves}
 use Rattle.endpoint_loop.specs.declared.endpoint.poll.Turn.{Turn}
 use Rattle.endpoint_loop.specs.declared.endpoint.turn.TheConstants.{MOST_ARRIVALS}
+use Rattle.endpoint_node.specs.Changes.{Change}
 use Rattle.endpoint_node.specs.Notes.{Makes}
 use Rattle.endpoint_loop.specs.Polls.{MakesPoll, turn_of, wire_of}
 use Rattle.endpoint_loop.specs.Endpoints.{Running}
@@ -144,14 +145,15 @@ module _ {R K L V W : Type 0} (log : R → Log)
     (service : Service.Ghosts V) (workers : Workers.Ghosts W) (now : ℕ) where
   -- datagrams are received, and then a poll is made
   pub makes-turn : (failed : Bool) (polled told : Option Turn) (a b c : Running V W) (f g h : R)
-      (j k : K) (l m n : L) → Receives log net failed a b f g l m
+      (j k : K) (l m n : L) (memory : Change ℕ) → Receives log net failed a b f g l m
       → ReceivesOnly failed (wire_of net l) (wire_of net m) → NoneComes net.waiting net.received m n
       → MakesPoll log given service workers polled now (wire_of net m) (wire_of net n) b c g h j k
+      memory
       → FailedAs (is_none polled) (net.faults m) (net.faults n)
       → told ≡ told_after failed polled
       → MakesTurn log net given service workers told now l n a c f
-      h j k
-  makes-turn failed polled told a b c f g h j k l m n took link none polls cause is = record {
+      h j k memory
+  makes-turn failed polled told a b c f g h j k l m n memory took link none polls cause is = record {
     came = took.came;
     comes = came-still net.received net.waiting took.came l m n took.comes none;
     failed = failed;
@@ -176,9 +178,11 @@ wire-same net m n t = let s = t.sent in let f = t.faults in let b = t.busies in 
 pub told-on : {R K L V W : Type 0} (log : R → Log) (net : Link.Ghosts L)
     (given : K → List Done → Type 0) (service : Service.Ghosts V) (workers : Workers.Ghosts W)
     (told : Option Turn) (now : ℕ) (l m n : L) (a b : Running V W) (f g : R) (j k : K)
-    → MakesTurn log net given service workers told now l m a b f g j k → TellsAsBefore net m n
-    → MakesTurn log net given service workers told now l n a b f g j k
-told-on log net given service workers told now l m n a b f g j k h t = record {
+    (memory : Change ℕ)
+    → MakesTurn log net given service workers told now l m a b f g j k memory
+    → TellsAsBefore net m n
+    → MakesTurn log net given service workers told now l n a b f g j k memory
+told-on log net given service workers told now l m n a b f g j k memory h t = record {
   came = h.came;
   comes = came-still net.received net.waiting h.came l m n h.comes t.lists;
   failed = h.failed;
@@ -191,7 +195,7 @@ told-on log net given service workers told now l m n a b f g j k h t = record {
   polled = h.polled;
   told_as = h.told_as;
   polls = subst (λ w. MakesPoll log given service workers h.polled now h.mid_link w h.between b
-      h.mid g j k) (sym (wire-same net m n t)) h.polls;
+      h.mid g j k memory) (sym (wire-same net m n t)) h.polls;
   cause = subst (λ x. FailedAs (is_none h.polled) h.mid_link.troubles.faults x) (sym t.faults)
       h.cause;
 }

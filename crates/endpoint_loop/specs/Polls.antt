@@ -7,6 +7,7 @@ use Rattle.endpoint_node.specs.Links.{left_one, HeldBack, Troubles, unsent_in, t
 use Rattle.std.specs.List.{filter}
 use Rattle.client_core.specs.Shown.{done_fact}
 use Rattle.client_core.specs.declared.outcome.Done.{Done}
+use Rattle.memory_count.specs.Faults.{HasRisenBy}
 use Rattle.rpc_base.specs.declared.fact.Fact.{Fact}
 use Rattle.rpc_laws.specs.declared.tables.Arrival.{Arrival}
 use Rattle.rpc_laws.specs.declared.tables.Timed.{Timed}
@@ -19,7 +20,9 @@ use Rattle.rpc_outside.specs.Linking.{Carried}
 use Rattle.rpc_outside.specs.Recording.{Grew, Log}
 use Rattle.rpc_outside.specs.Served.{Served}
 use Rattle.worker_board.specs.declared.Parcel.{Parcel}
+use Rattle.endpoint_node.specs.Changes.{Change}
 use Rattle.endpoint_node.specs.Given.{Gave}
+use Rattle.endpoint_node.specs.Lacks.{lacks_in}
 use Rattle.endpoint_node.specs.declared.node.poll.control.Listening.{Listening}
 use Rattle.endpoint_loop.specs.declared.endpoint.poll.Turn.{Turn}
 use Rattle.endpoint_node.specs.declared.node.poll.timers.retries.Asking.{Asking}
@@ -103,10 +106,12 @@ wire_of l link = record { sent = l.sent link; troubles = troubles_of l link }
 -- was given are those whose ends were noted, in order, and the turn counts its facts. The link,
 -- where it tells what it sent, sent exactly the datagrams of the Sent facts, and failed or was busy
 -- for each packet that it didn't take. No short request in front of this receive ring was dropped
--- for want of memory, whatever the allocator did
+-- for want of memory, whatever the allocator did; and for each that was dropped so, and each session
+-- that starved, memory was refused
 pub record TellsOfPoll {K : Type 0} (given : K → List Done → Type 0) (v : Serving)
     (stands then_stands : Served → Type 0) (told : Option Turn) (link then_link : LinkTells)
-    (ring : List Arrival) (me : ℕ) (x : List Fact) (t : Timed) (from to : K) : Type 0 where
+    (ring : List Arrival) (me : ℕ) (x : List Fact) (t : Timed) (from to : K) (memory : Change ℕ)
+    : Type 0 where
   pub answers : (served : Served) → stands served
       → Answers v served x × then_stands (served_after_all v.mode served x)
   pub dones : List Done
@@ -116,12 +121,13 @@ pub record TellsOfPoll {K : Type 0} (given : K → List Done → Type 0) (v : Se
   pub took : then_link.sent ≡ option_map (λ ds. ds ++ sent_of x) link.sent
   pub held : HeldBack (held_in x t) link.troubles then_link.troubles
   pub spared : SparesShort v ring x
+  pub wants : HasRisenBy (lacks_in x) memory.old memory.new
 
 -- the recorder grew by the facts of a poll
 pub record MakesPoll {R K V W : Type 0} (log : R → Log) (given : K → List Done → Type 0)
     (service : Service.Ghosts V) (workers : Workers.Ghosts W) (told : Option Turn) (now : ℕ)
     (link then_link : LinkTells) (old new : Running V W) (before later : R) (from to : K)
-    : Type 0 where
+    (memory : Change ℕ) : Type 0 where
   pub noted : List Fact
   pub grew : Grew (log before) (log later) noted
   pub does : IsStaffed workers.answer (staff_of workers old.workers) old.timed
@@ -129,4 +135,4 @@ pub record MakesPoll {R K V W : Type 0} (log : R → Log) (given : K → List Do
       (crew_of workers old.workers) (crew_of workers new.workers) old.timed noted new.timed
       × TellsOfPoll given (rules_of service) (service.stands old.service)
       (service.stands new.service) told link then_link old.timed.lists.ring old.timed.lists.me
-      noted new.timed from to
+      noted new.timed from to memory

@@ -15,6 +15,7 @@ use Rattle.worker_crew.specs.declared.workers.Workers as Workers
 use Rattle.endpoint_loop.specs.Endpoints.{Leaves}
 use Rattle.endpoint_loop.specs.declared.endpoint.poll.Turn.{Turn}
 use Rattle.endpoint_loop.specs.declared.endpoint.turn.TheConstants.{MOST_ARRIVALS}
+use Rattle.endpoint_node.specs.Changes.{Change}
 use Rattle.endpoint_node.specs.Notes.{Makes}
 use Rattle.endpoint_loop.specs.Polls.{LinkTells, MakesPoll, wire_of}
 use Rattle.endpoint_loop.specs.Endpoints.{Running}
@@ -82,7 +83,7 @@ pub record ReceivesOnly (failed : Bool) (link then_link : LinkTells) : Type 0 wh
 pub record MakesTurn {R K L V W : Type 0} (log : R → Log) (net : Link.Ghosts L)
     (given : K → List Done → Type 0) (service : Service.Ghosts V) (workers : Workers.Ghosts W)
     (told : Option Turn) (now : ℕ) (link then_link : L) (old new : Running V W) (before later : R)
-    (from to : K) : Type 0 where
+    (from to : K) (memory : Change ℕ) : Type 0 where
   pub came : List Carried
   pub comes : Came net.received net.waiting came link then_link
   pub failed : Bool
@@ -95,5 +96,5 @@ pub record MakesTurn {R K L V W : Type 0} (log : R → Log) (net : Link.Ghosts L
   pub polled : Option Turn
   pub told_as : told ≡ told_after failed polled
   pub polls : MakesPoll log given service workers polled now mid_link
-      (wire_of net then_link) between new mid later from to
+      (wire_of net then_link) between new mid later from to memory
   pub cause : FailedAs (is_none polled) mid_link.troubles.faults (net.faults then_link)

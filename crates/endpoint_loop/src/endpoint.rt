@@ -3,6 +3,7 @@ ghost use Rattle.std.specs.Prelude.{◌≡◌, ◌≤◌, [], length, IfOk, IfEr
 ghost use Rattle.std.specs.Borrow.{sem};
 ghost use Rattle.std.specs.List.{find};
 ghost use Rattle.rpc_laws.specs.Service.{rules_of};
+ghost use Rattle.memory_count.specs.Faults.{HasCause};
 ghost use Rattle.node_laws.specs.Kept.{Kept};
 ghost use Rattle.rpc_base.specs.Limits.{Fits as InRange};
 ghost use Rattle.rpc_laws.specs.Groups.{state_of};
@@ -21,11 +22,11 @@ mod strangers;
 mod turn;
 
 use endpoint_node::Node;
+use memory_count::Memory;
 use packet_header::Life;
 pub use poll::{LinkFault, Turn};
 use rpc_base::{Limits, NodeId, PEERS, SessionNo, SessionState};
 use rpc_outside::Service;
-use std::alloc::Global;
 use std::marker::Model;
 pub use turn::MOST_ARRIVALS;
 use worker_crew::Workers;
@@ -34,7 +35,6 @@ use worker_crew::Workers;
 /// that answer those in the background. Contracts see its lists and its clock as the definitions
 /// over histories have them, with its service and its workers.
 pub struct Endpoint<V: Service, W: Workers> {
-    alloc: Global,
     node: Node,
     service: V,
     workers: W,
@@ -47,7 +47,6 @@ pub struct Endpoint<V: Service, W: Workers> {
 impl<V: Service + Drop, W: Workers + Drop> Drop for Endpoint<V, W> {
     fn drop(self) {
         let Endpoint {
-            alloc: _,
             node: _node,
             service: _service,
             workers: _workers,
@@ -80,7 +79,7 @@ impl<V: Service, W: Workers> Endpoint<V, W> {
     /// requests as the service does. Its lists are empty, and it knows no life of a peer. Where
     /// there is no memory for its rings and its pool the workers come back.
     pub fn new(
-        alloc: Global,
+        memory: &mut Memory,
         me: NodeId,
         life: Life,
         limits: Limits,
@@ -104,12 +103,12 @@ impl<V: Service, W: Workers> Endpoint<V, W> {
         // It stands for no facts.
         ensures stands { IfOk result (λ e. StandsFor V.Service W.Workers limits [] e) }
         ensures wanting { IfErr result (λ back. back ≡ workers) }
+        ensures cause { HasCause memory.old memory.new result }
     {
-        let Ok(node) = Node::new(alloc, me, life, limits) else {
+        let Ok(node) = Node::new(memory, me, life, limits) else {
             return Err(workers);
         };
         Ok(Endpoint {
-            alloc,
             node,
             service,
             workers,
@@ -173,7 +172,6 @@ impl<V: Service, W: Workers> Endpoint<V, W> {
         ensures { result ≡ self.workers }
     {
         let Endpoint {
-            alloc: _,
             node: _node,
             service: _service,
             workers,

@@ -53,3 +53,13 @@ abbrev pub HandsInBytes : List ℕ → (session call tag room : ℕ) → (old ne
 HandsInBytes bytes session call tag room old new =
     (req : Buffer) × (bytes_of req ≡ bytes)
     × HandsInAt session (handed_with req call tag room) old new
+
+-- how many refusals of memory an error tells
+abbrev pub lacks_for : FanError → ℕ
+lacks_for NoMemory = 1
+lacks_for why = 0
+
+-- and how many the answer to a call does
+abbrev pub lacks : Result ℕ FanError → ℕ
+lacks (Ok call) = 0
+lacks (Err why) = lacks_for why

@@ -5,6 +5,7 @@ ghost use Rattle.endpoint_node.specs.Asks.{refusal_of};
 ghost use Rattle.endpoint_node.specs.Notes.{Makes};
 ghost use Rattle.endpoint_loop.specs.Endpoints.{Leaves};
 ghost use Rattle.endpoint_loop.specs.Stands.{GoesOn};
+ghost use Rattle.memory_count.specs.Faults.{HasCause, HasRisenBy};
 ghost use Rattle.message_buffer.specs.Buffer.{bytes_of, capacity_of};
 ghost use Rattle.message_buffer.specs.declared.block.TheConstants.{MOST_CAPACITY};
 ghost use Rattle.rpc_laws.specs.Groups.{Asks, state_of};
@@ -12,14 +13,14 @@ ghost use Rattle.rpc_laws.specs.Sessions.{is_client};
 ghost use Rattle.fan_buffer.specs.Fans.{fan_bytes};
 ghost use Rattle.fan_buffer.specs.Readings.{IsReadingOf, message_shown};
 ghost use Rattle.fan_calls.specs.Asking.{HandsInBytes, IsGone, IsFanAskedAs, WhereAsked};
-ghost use Rattle.fan_calls.specs.Asking.{WhereSilent};
+ghost use Rattle.fan_calls.specs.Asking.{WhereSilent, lacks};
 
 use endpoint_loop::{AskError, Endpoint};
 use fan_buffer::{Fan, Reading};
+use memory_count::{Memory, NoMemory};
 use message_buffer::{MOST_CAPACITY, MsgBuf};
-use rpc_base::{CallNo, NoMemory, SessionNo, SessionState};
+use rpc_base::{CallNo, SessionNo, SessionState};
 use rpc_outside::{Recorder, Service};
-use std::alloc::Global;
 use worker_crew::Workers;
 
 /// Why a call that asks a fan's bytes is refused.
@@ -36,13 +37,14 @@ pub enum FanError {
 }
 
 /// A buffer with these bytes.
-fn buffer_of(alloc: Global, bytes: &[u8]) -> Result<MsgBuf, NoMemory>
+fn buffer_of(memory: &mut Memory, bytes: &[u8]) -> Result<MsgBuf, NoMemory>
     requires { length bytes.now ≤ MOST_CAPACITY }
     ensures bytes { IfOk result (λ b. bytes_of b ≡ bytes.now) }
     ensures len { IfOk result (λ b. b.len ≡ length bytes.now) }
+    ensures cause { HasCause memory.old memory.new result }
 {
     let len = bytes.len() as u32;
-    let mut buf = MsgBuf::new(alloc, len)?;
+    let mut buf = MsgBuf::new(memory, len)?;
     buf.set_len(len);
     buf.write(0, bytes);
     Ok(buf)
@@ -55,7 +57,7 @@ fn buffer_of(alloc: Global, bytes: &[u8]) -> Result<MsgBuf, NoMemory>
 /// two buffers. `Gone` and `NoMemory` are noted nowhere.
 #[tactic(auto, using(crate::proofs::AskLemmas::goes_silently, crate::proofs::AskLemmas::hands_in))]
 pub fn ask_fan<V: Service, W: Workers, R: Recorder>(
-    alloc: Global,
+    memory: &mut Memory,
     ep: &mut Endpoint<V, W>,
     session: SessionNo,
     req_type: u8,
@@ -78,17 +80,18 @@ pub fn ask_fan<V: Service, W: Workers, R: Recorder>(
     ensures silent { WhereSilent result (rec.new ≡ rec.old) }
     ensures handed { IfOk result (λ call. HandsInBytes (fan_bytes fan.now) session call tag room
         ep.old.handed ep.new.handed) }
+    ensures cause { HasRisenBy (lacks result) memory.old memory.new }
 {
     let Some(bytes) = fan.bytes(reading) else {
         return Err(FanError::Gone);
     };
-    let Ok(req) = buffer_of(alloc, bytes) else {
+    let Ok(req) = buffer_of(memory, bytes) else {
         return Err(FanError::NoMemory);
     };
-    let Ok(resp) = MsgBuf::new(alloc, room) else {
+    let Ok(resp) = MsgBuf::new(memory, room) else {
         return Err(FanError::NoMemory);
     };
-    match ep.ask(session, req_type, req, resp, tag, rec) {
+    match ep.ask(memory, session, req_type, req, resp, tag, rec) {
         Ok(call) => Ok(call),
         Err(refused) => Err(match refused.why {
             AskError::TooLarge { len } => FanError::TooLarge { len },

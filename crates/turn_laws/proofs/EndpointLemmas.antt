@@ -20,6 +20,7 @@ use Rattle.rpc_laws.proofs.AnswerLemmas.{answers-append, served-append}
 use Rattle.node_laws.specs.NodeRun.{polls}
 use Rattle.end_laws.specs.JointRun.{AloneGroup}
 use Rattle.endpoint_loop.specs.Endpoints.{Leaves}
+use Rattle.endpoint_node.specs.Changes.{Change}
 use Rattle.endpoint_node.specs.Jobs.{staff_of}
 use Rattle.endpoint_node.specs.Notes.{Makes}
 use Rattle.endpoint_loop.specs.Polls.{FinishesBack, LinkTells, MakesPoll, SendsUntil, is_stopped}
@@ -148,9 +149,11 @@ module _ {V W : Type 0} (service : Service.Ghosts V) (workers : Workers.Ghosts W
   pub poll-part : {R K : Type 0} (log : R → Log) (given : K → List Done → Type 0)
       (turn : Option Turn)
       (now : ℕ) (link then_link : LinkTells) (a b : Running V W) (f g : R) (j k : K)
-      → (h : MakesPoll log given service workers turn now link then_link a b f g j k) → Staffed a
+      (memory : Change ℕ)
+      → (h : MakesPoll log given service workers turn now link then_link a b f g j k memory)
+      → Staffed a
       → Part (Poll service.mode_of now) h.noted a b
-  poll-part log given turn now link then_link a b f g j k h staffed =
+  poll-part log given turn now link then_link a b f g j k memory h staffed =
       let does = h.does staffed in
       let F = FinishesBack workers.answer does.0.parcels (crew_of workers a.workers)
       (crew_of workers b.workers) in

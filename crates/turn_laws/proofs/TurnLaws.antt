@@ -76,22 +76,22 @@ module _ {V W : Type 0} (service : Service.Ghosts V) (workers : Workers.Ghosts W
 
     module _ {K : Type 0} (given : K → List Done → Type 0) where
       pub polls-are-deeds : PollsAreDeeds log given service workers
-      polls-are-deeds turn now link then_link old new before later from to staffed h =
+      polls-are-deeds turn now link then_link old new before later from to memory staffed h =
           does-more-by service workers [] h.noted old new
           (acted-step service workers (Poll service.mode_of now) h.noted old new
           (poll-part service workers log given turn now link then_link old new before later from to
-          h staffed) (poll-alone service workers now)) log before later h.grew
+          memory h staffed) (poll-alone service workers now)) log before later h.grew
 
       pub turns-are-deeds : {L : Type 0} (net : Link.Ghosts L)
           → TurnsAreDeeds log net given service workers
-      turns-are-deeds net turn now link then_link old new before later from to staffed m =
+      turns-are-deeds net turn now link then_link old new before later from to memory staffed m =
           let took = m.takes.delivers in
           let first = quiet-part service workers log
           (DeliversAll m.came) old m.between before m.mid took
           (delivered-still m.came) m.takes.leaves staffed in
           let second = poll-part service workers log given m.polled now m.mid_link _ m.between new
           m.mid later
-          from to m.polls first.staffed in
+          from to memory m.polls first.staffed in
           does-more-by service workers m.came (took.noted ++ m.polls.noted) old new
           (both-step service workers m.came
           (Poll service.mode_of now) took.noted m.polls.noted old m.between new

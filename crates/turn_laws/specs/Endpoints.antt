@@ -19,6 +19,7 @@ use Rattle.node_laws.specs.NodeRun.{IsCredits}
 use Rattle.end_laws.specs.JointRun.{Party, Joint, at_node}
 use Rattle.end_laws.specs.WireRun.{WireRun}
 use Rattle.endpoint_loop.specs.Endpoints.{Leaves}
+use Rattle.endpoint_node.specs.Changes.{Change}
 use Rattle.endpoint_node.specs.Jobs.{staff_of}
 use Rattle.endpoint_node.specs.Notes.{Makes, sent_of}
 use Rattle.endpoint_loop.specs.Polls.{LinkTells, MakesPoll}
@@ -106,18 +107,20 @@ abbrev pub TurnsAreDeeds : {R K L V W : Type 0} → (R → Log) → Link.Ghosts 
     → (K → List Done → Type 0) → Service.Ghosts V → Workers.Ghosts W → Type 0
 TurnsAreDeeds {R} {K} {L} {V} {W} log net given service workers =
     (turn : Option Turn) (now : ℕ) (link then_link : L) (old new : Running V W) (before later : R)
-    (from to : K) → IsStaffed workers.answer (staff_of workers old.workers) old.timed
+    (from to : K) (memory : Change ℕ)
+    → IsStaffed workers.answer (staff_of workers old.workers) old.timed
     → (m : MakesTurn log net given service workers turn now link then_link old new before later
-    from to) → DoesMore log service workers m.came old new before later
+    from to memory) → DoesMore log service workers m.came old new before later
 
 -- so is a poll, in which none comes
 abbrev pub PollsAreDeeds : {R K V W : Type 0} → (R → Log) → (K → List Done → Type 0)
     → Service.Ghosts V → Workers.Ghosts W → Type 0
 PollsAreDeeds {R} {K} {V} {W} log given service workers =
     (turn : Option Turn) (now : ℕ) (link then_link : LinkTells) (old new : Running V W)
-    (before later : R) (from to : K)
+    (before later : R) (from to : K) (memory : Change ℕ)
     → IsStaffed workers.answer (staff_of workers old.workers) old.timed
     → MakesPoll log given service workers turn now link then_link old new before later from to
+    memory
     → DoesMore log service workers [] old new before later
 
 -- and so is a delivery, of the datagram that it delivers

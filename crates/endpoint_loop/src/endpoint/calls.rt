@@ -13,9 +13,12 @@ ghost use Rattle.rpc_laws.specs.Deliveries.{Delivers};
 ghost use Rattle.rpc_laws.specs.Groups.{Asks, state_of};
 ghost use Rattle.rpc_laws.specs.Sessions.{is_client};
 ghost use Rattle.endpoint_loop.specs.Stands.{GoesOn};
+ghost use Rattle.endpoint_node.specs.Lacks.{lacks_asked};
+ghost use Rattle.memory_count.specs.Faults.{HasRisenBy};
 
 use crate::endpoint::Endpoint;
 use endpoint_node::{Delivery, Refused};
+use memory_count::Memory;
 use message_buffer::MsgBuf;
 use rpc_base::{CallNo, Peer, SessionNo};
 use rpc_outside::{Recorder, Service};
@@ -27,6 +30,7 @@ impl<V: Service, W: Workers> Endpoint<V, W> {
     /// capacity is the call's room. A refusal hands both buffers back, and changes nothing.
     pub fn ask<R: Recorder>(
         &mut self,
+        memory: &mut Memory,
         session: SessionNo,
         req_type: u8,
         req: MsgBuf,
@@ -48,8 +52,10 @@ impl<V: Service, W: Workers> Endpoint<V, W> {
           req = Some req;
           room = capacity_of resp;
         }) self.old.handed self.new.handed) }
+        ensures cause { HasRisenBy (lacks_asked result) memory.old memory.new }
     {
-        self.node.ask(session, req_type, req, resp, tag, rec)
+        self.node
+            .ask(memory, session, req_type, req, resp, tag, rec)
     }
 
     /// Takes a datagram from a peer: it is copied into the receive ring where it is a packet of a

@@ -1,14 +1,16 @@
 //! A poll, step by step.
+ghost use Rattle.endpoint_node.specs.Changes.{◌⟶◌};
 ghost use Rattle.endpoint_node.specs.Handed.{GivesBackTo};
 ghost use Rattle.std.specs.Prelude.{◌≡◌, ◌≤◌, ◌*◌, ◌↔◌, IsTrue, false, true, IfOk};
 ghost use Rattle.endpoint_loop.specs.Polls.{MakesPoll, turn_of, turn_told, wire_of};
 ghost use Rattle.endpoint_loop.specs.Stands.{GoesOn};
 ghost use Rattle.rpc_laws.specs.Deliveries.{inbox_room};
-ghost use Rattle.rpc_outside.specs.Faults.{HasCause, HasRisen};
+ghost use Rattle.memory_count.specs.Faults.{HasCause, HasRisen};
 ghost use Rattle.rpc_outside.specs.Linking.{NoneComes};
 
 use crate::endpoint::Endpoint;
 use endpoint_node::{Asking, Continuation, Listening, Sending};
+use memory_count::Memory;
 use rpc_base::{MOST_RING, SESSION_NUMBERS};
 use rpc_outside::{Failed, Link, Recorder, Service};
 use std::error::Error;
@@ -83,10 +85,12 @@ impl<V: Service, W: Workers> Endpoint<V, W> {
     /// with a Polled. Its clock doesn't fall. Calls that end go to `k`. A busy link stops the
     /// sending of what is queued. So does a fault of the link; the packet that met it stays in
     /// front of the queue. A control packet that the link doesn't take is gone. `LinkFault` comes
-    /// at the end of the poll, exactly where a fault of the link came in it. No request of one
-    /// packet is dropped for want of memory, where it is handled inline and its answer fits in one.
+    /// at the end of the poll, exactly where a fault of the link came in it. For each request that it
+    /// drops for want of memory, and for each session that starves, memory was refused. No request of
+    /// one packet is dropped so, where it is handled inline and its answer fits in one.
     pub fn poll<L: Link, K: Continuation, R: Recorder>(
         &mut self,
+        memory: &mut Memory,
         now: u64,
         link: &mut L,
         k: &mut K,
@@ -94,7 +98,7 @@ impl<V: Service, W: Workers> Endpoint<V, W> {
     ) -> Result<Turn, LinkFault>
         ensures polls { MakesPoll R.log K.given V.Service W.Workers (turn_of result) now
             (wire_of L.Link link.old) (wire_of L.Link link.new) self.old self.new rec.old rec.new
-            k.old k.new }
+            k.old k.new (memory.old ⟶ memory.new) }
         ensures goes_on { GoesOn R.log V.Service W.Workers self.old self.new rec.old rec.new }
         ensures busy { IfOk result (λ turn. turn.busy ≡ true →
             HasRisen (L.busies link.old) (L.busies link.new)) }
@@ -102,13 +106,14 @@ impl<V: Service, W: Workers> Endpoint<V, W> {
         ensures lists { NoneComes L.waiting L.received link.old link.new }
         ensures cause { HasCause (L.faults link.old) (L.faults link.new) result }
         ensures handed { GivesBackTo K.given self.old.handed self.new.handed k.old k.new }
+        ensures no_less { memory.old ≤ memory.new }
     {
         self.node.raise_clock(now);
         self.node.finish_all(&mut self.workers, rec);
-        let heard = self.node.hear_all(link, rec);
+        let heard = self.node.hear_all(memory, link, rec);
         let handled = self
             .node
-            .handle_all(self.alloc, &mut self.service, &mut self.workers, k, rec);
+            .handle_all(memory, &mut self.service, &mut self.workers, k, rec);
         let asked = self.node.watch(link, k, rec);
         self.node.post_sessions(rec);
         let sent = self.node.send_all(link, rec);

@@ -12,6 +12,7 @@ ghost use Rattle.session_mgmt.specs.Refusals.{refused, closing};
 ghost use Rattle.rpc_base.specs.declared.event.Event.TheVariants.{Closing};
 
 use crate::endpoint::Endpoint;
+use memory_count::Memory;
 use packet_header::Life;
 use rpc_base::{MOST_CREDITS, Peer, SESSION_NUMBERS, SessionNo, SessionState};
 use rpc_outside::{Recorder, Service};
@@ -27,6 +28,7 @@ impl<V: Service, W: Workers> Endpoint<V, W> {
     /// noted nowhere. A refusal makes no session.
     pub fn pair_client<R: Recorder>(
         &mut self,
+        memory: &mut Memory,
         peer: Peer,
         life: Life,
         server: SessionNo,
@@ -39,10 +41,10 @@ impl<V: Service, W: Workers> Endpoint<V, W> {
         requires most { credits ≤ MOST_CREDITS }
         ensures { OpensClient R.log V.Service W.Workers credits
             (PairsClient peer server credits life) result (self.old ⟶ self.new)
-            (rec.old ⟶ rec.new) }
+            (rec.old ⟶ rec.new) (memory.old ⟶ memory.new) }
     {
         self.node
-            .pair_client(self.alloc, peer, life, server, credits, rec)
+            .pair_client(memory, peer, life, server, credits, rec)
     }
 
     /// Makes the server end of a session with a peer that is connected from the start, with the
@@ -53,6 +55,7 @@ impl<V: Service, W: Workers> Endpoint<V, W> {
     /// noted nowhere. A refusal makes no session.
     pub fn pair_server<R: Recorder>(
         &mut self,
+        memory: &mut Memory,
         peer: Peer,
         life: Life,
         client: SessionNo,
@@ -65,9 +68,10 @@ impl<V: Service, W: Workers> Endpoint<V, W> {
         requires most { credits ≤ MOST_CREDITS }
         ensures { OpensServer R.log V.Service W.Workers credits
             (PairsServer peer client credits life) result (self.old ⟶ self.new)
-            (rec.old ⟶ rec.new) }
+            (rec.old ⟶ rec.new) (memory.old ⟶ memory.new) }
     {
-        self.node.pair_server(peer, life, client, credits, rec)
+        self.node
+            .pair_server(memory, peer, life, client, credits, rec)
     }
 
     /// Opens a session to a peer with the next number, 1 to 256 credits and a rate in bytes per
@@ -78,6 +82,7 @@ impl<V: Service, W: Workers> Endpoint<V, W> {
     /// nowhere. A refusal opens no session.
     pub fn connect<R: Recorder>(
         &mut self,
+        memory: &mut Memory,
         peer: Peer,
         credits: u16,
         rate: u32,
@@ -86,9 +91,9 @@ impl<V: Service, W: Workers> Endpoint<V, W> {
         requires some { 1 ≤ credits }
         requires most { credits ≤ MOST_CREDITS }
         ensures { OpensClient R.log V.Service W.Workers credits (Connects peer credits rate) result
-            (self.old ⟶ self.new) (rec.old ⟶ rec.new) }
+            (self.old ⟶ self.new) (rec.old ⟶ rec.new) (memory.old ⟶ memory.new) }
     {
-        self.node.connect(self.alloc, peer, credits, rate, rec)
+        self.node.connect(memory, peer, credits, rate, rec)
     }
 
     /// Begins to close a client session: its request to disconnect goes out in the next poll.

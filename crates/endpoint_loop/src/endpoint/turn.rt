@@ -1,15 +1,17 @@
 //! A turn: datagrams are received and delivered, and then the endpoint polls.
+ghost use Rattle.endpoint_node.specs.Changes.{◌⟶◌};
 ghost use Rattle.endpoint_node.specs.Handed.{GivesBackTo};
-ghost use Rattle.std.specs.Prelude.{◌≡◌, true, IfOk, is_err};
+ghost use Rattle.std.specs.Prelude.{◌≡◌, ◌≤◌, true, IfOk, is_err};
 ghost use Rattle.endpoint_loop.specs.Polls.{turn_of};
 ghost use Rattle.endpoint_loop.specs.Stands.{GoesOn};
 ghost use Rattle.endpoint_loop.specs.Turns.{MakesTurn, Receives};
-ghost use Rattle.rpc_outside.specs.Faults.{HasCause, HasRisen};
+ghost use Rattle.memory_count.specs.Faults.{HasCause, HasRisen};
 
 use crate::endpoint::Endpoint;
 use crate::endpoint::poll::{LinkFault, Turn};
 use crate::endpoint::senders::Senders;
 use endpoint_node::Continuation;
+use memory_count::Memory;
 use rpc_outside::{Failed, Got, Link, MOST_LINK_BYTES, Recorder, Service};
 use worker_crew::Workers;
 
@@ -48,6 +50,7 @@ impl<V: Service, W: Workers> Endpoint<V, W> {
     // A turn, but that it tells who sent datagrams, and the link forgets nobody.
     fn receive_and_poll<L: Link, K: Continuation, R: Recorder>(
         &mut self,
+        memory: &mut Memory,
         now: u64,
         senders: &mut Senders,
         link: &mut L,
@@ -55,16 +58,18 @@ impl<V: Service, W: Workers> Endpoint<V, W> {
         rec: &mut R,
     ) -> Result<Turn, LinkFault>
         ensures turns { MakesTurn R.log L.Link K.given V.Service W.Workers (turn_of result) now
-            link.old link.new self.old self.new rec.old rec.new k.old k.new }
+            link.old link.new self.old self.new rec.old rec.new k.old k.new
+            (memory.old ⟶ memory.new) }
         ensures goes_on { GoesOn R.log V.Service W.Workers self.old self.new rec.old rec.new }
         ensures busy { IfOk result (λ turn. turn.busy ≡ true →
             HasRisen (L.busies link.old) (L.busies link.new)) }
         ensures team { W.team self.new.workers ≡ W.team self.old.workers }
         ensures cause { HasCause (L.faults link.old) (L.faults link.new) result }
         ensures handed { GivesBackTo K.given self.old.handed self.new.handed k.old k.new }
+        ensures no_less { memory.old ≤ memory.new }
     {
         let received = self.receive(senders, link, rec);
-        let polled = self.poll(now, link, k, rec);
+        let polled = self.poll(memory, now, link, k, rec);
         match received {
             Ok(()) => polled,
             Err(_) => Err(LinkFault),
@@ -79,22 +84,25 @@ impl<V: Service, W: Workers> Endpoint<V, W> {
     /// poll.
     pub fn turn<L: Link, K: Continuation, R: Recorder>(
         &mut self,
+        memory: &mut Memory,
         now: u64,
         link: &mut L,
         k: &mut K,
         rec: &mut R,
     ) -> Result<Turn, LinkFault>
         ensures turns { MakesTurn R.log L.Link K.given V.Service W.Workers (turn_of result) now
-            link.old link.new self.old self.new rec.old rec.new k.old k.new }
+            link.old link.new self.old self.new rec.old rec.new k.old k.new
+            (memory.old ⟶ memory.new) }
         ensures goes_on { GoesOn R.log V.Service W.Workers self.old self.new rec.old rec.new }
         ensures busy { IfOk result (λ turn. turn.busy ≡ true →
             HasRisen (L.busies link.old) (L.busies link.new)) }
         ensures team { W.team self.new.workers ≡ W.team self.old.workers }
         ensures cause { HasCause (L.faults link.old) (L.faults link.new) result }
         ensures handed { GivesBackTo K.given self.old.handed self.new.handed k.old k.new }
+        ensures no_less { memory.old ≤ memory.new }
     {
         let mut senders = Senders::new();
-        let told = self.receive_and_poll(now, &mut senders, link, k, rec);
+        let told = self.receive_and_poll(memory, now, &mut senders, link, k, rec);
         self.leave_strangers(&senders, link);
         told
     }

@@ -6,7 +6,7 @@ use Rattle.endpoint_loop.proofs.endpoint.Endpoint.new.Goals as goal
 
 pub returns-clause-stands : goal.returns-clause-stands
 returns-clause-stands g c =
-    rw (c.in-Ok.ensures) (record {
+    rw (c.in-Ok.ensures.made) (record {
       run = record { steps = none; worked_once = λ t r. omega arith; answers = tt };
       serves = c.requires.service;
       staffed = record {

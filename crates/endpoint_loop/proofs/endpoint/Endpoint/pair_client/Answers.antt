@@ -7,18 +7,18 @@ use Rattle.endpoint_loop.proofs.endpoint.Endpoint.pair_client.Goals as goal
 
 pub returns : goal.returns
 returns g c = record {
-  number = rw (← c.self.view_is) c.pair_client.ensures.number;
-  makes = rw (← c.self.view_is) c.pair_client.ensures.makes;
-  accepted = rw (← c.self.view_is) c.pair_client.ensures.accepted;
-  refused = rw (← c.self.view_is) c.pair_client.ensures.refused;
-  leaves = rw (← c.self.view_is) (record { service = refl; workers = refl; jobs = c.pair_client.ensures.jobs });
+  number = rw (← c.self.view_is) c.pair_client.ensures.makes.number;
+  makes = rw (← c.self.view_is) c.pair_client.ensures.makes.makes;
+  accepted = rw (← c.self.view_is) c.pair_client.ensures.makes.accepted;
+  refused = rw (← c.self.view_is) c.pair_client.ensures.makes.refused;
+  leaves = rw (← c.self.view_is) (record { service = refl; workers = refl; jobs = c.pair_client.ensures.makes.jobs });
   goes_on = rw (← c.self.view_is) (paired-or _ _ _ _
       (λ makes. goes-on g.R.Recorder.log
       g.V.Service g.W.Workers (PairsClient c.args.peer c.args.server c.args.credits c.args.life) _ _ _ _ makes
       (client-group g.V.Service.mode_of c.args.peer c.args.server c.args.credits c.args.life
       (record { some = c.requires.some; few = c.requires.most }) c.requires.server)
       (client-still c.args.peer c.args.server c.args.credits c.args.life)
-      (record { service = refl; workers = refl; jobs = c.pair_client.ensures.jobs }))
+      (record { service = refl; workers = refl; jobs = c.pair_client.ensures.makes.jobs }))
       (λ still same. goes-nowhere g.R.Recorder.log
       g.V.Service g.W.Workers _ _ _ _ (ap (λ n. record {
         timed = timed_of n;
@@ -26,8 +26,9 @@ returns g c = record {
         service = c.self.inside.service;
         workers = c.self.inside.workers;
       }) same) still)
-      c.pair_client.result c.pair_client.ensures.makes c.pair_client.ensures.wanting c.pair_client.ensures.unchanged);
+      c.pair_client.result c.pair_client.ensures.makes.makes c.pair_client.ensures.makes.wanting c.pair_client.ensures.makes.unchanged);
   unchanged = search rules;
-  wanting = c.pair_client.ensures.wanting;
-  handed = rw (← c.self.view_is) c.pair_client.ensures.handed;
+  wanting = c.pair_client.ensures.makes.wanting;
+  handed = rw (← c.self.view_is) c.pair_client.ensures.makes.handed;
+  cause = c.pair_client.ensures.cause;
 }

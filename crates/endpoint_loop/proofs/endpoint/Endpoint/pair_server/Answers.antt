@@ -9,24 +9,24 @@ pub invariant_of-self : goal.invariant_of-self
 invariant_of-self g c = record {
   founded = c.self.invariant.founded;
   works = c.self.invariant.works;
-  served = c.pair_server.ensures.served g.V.Service.mode_of c.self.invariant.served;
-  background = rw (c.pair_server.ensures.jobs) c.self.invariant.background;
+  served = c.pair_server.ensures.makes.served g.V.Service.mode_of c.self.invariant.served;
+  background = rw (c.pair_server.ensures.makes.jobs) c.self.invariant.background;
 }
 
 pub returns : goal.returns
 returns g c = record {
-  number = rw (← c.self.view_is) c.pair_server.ensures.number;
-  makes = rw (← c.self.view_is) c.pair_server.ensures.makes;
-  accepted = rw (← c.self.view_is) c.pair_server.ensures.accepted;
-  refused = rw (← c.self.view_is) c.pair_server.ensures.refused;
-  leaves = rw (← c.self.view_is) (record { service = refl; workers = refl; jobs = c.pair_server.ensures.jobs });
+  number = rw (← c.self.view_is) c.pair_server.ensures.makes.number;
+  makes = rw (← c.self.view_is) c.pair_server.ensures.makes.makes;
+  accepted = rw (← c.self.view_is) c.pair_server.ensures.makes.accepted;
+  refused = rw (← c.self.view_is) c.pair_server.ensures.makes.refused;
+  leaves = rw (← c.self.view_is) (record { service = refl; workers = refl; jobs = c.pair_server.ensures.makes.jobs });
   goes_on = rw (← c.self.view_is) (paired-or _ _ _ _
       (λ makes. goes-on g.R.Recorder.log
       g.V.Service g.W.Workers (PairsServer c.args.peer c.args.client c.args.credits c.args.life) _ _ _ _ makes
       (server-group g.V.Service.mode_of c.args.peer c.args.client c.args.credits c.args.life
       (record { some = c.requires.some; few = c.requires.most }) c.requires.client)
       (server-still c.args.peer c.args.client c.args.credits c.args.life)
-      (record { service = refl; workers = refl; jobs = c.pair_server.ensures.jobs }))
+      (record { service = refl; workers = refl; jobs = c.pair_server.ensures.makes.jobs }))
       (λ still same. goes-nowhere g.R.Recorder.log
       g.V.Service g.W.Workers _ _ _ _ (ap (λ n. record {
         timed = timed_of n;
@@ -34,8 +34,9 @@ returns g c = record {
         service = c.self.inside.service;
         workers = c.self.inside.workers;
       }) same) still)
-      c.pair_server.result c.pair_server.ensures.makes c.pair_server.ensures.wanting c.pair_server.ensures.unchanged);
+      c.pair_server.result c.pair_server.ensures.makes.makes c.pair_server.ensures.makes.wanting c.pair_server.ensures.makes.unchanged);
   unchanged = search rules;
-  wanting = c.pair_server.ensures.wanting;
-  handed = rw (← c.self.view_is) c.pair_server.ensures.handed;
+  wanting = c.pair_server.ensures.makes.wanting;
+  handed = rw (← c.self.view_is) c.pair_server.ensures.makes.handed;
+  cause = c.pair_server.ensures.cause;
 }

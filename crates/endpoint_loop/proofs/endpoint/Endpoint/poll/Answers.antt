@@ -1,4 +1,4 @@
-use Rattle.std.proofs.Common.{◌≡◌, false, [], ap, ◌∙◌, refl, IfSome}
+use Rattle.std.proofs.Common.{◌≡◌, false, [], ap, ◌∙◌, refl, arith, IfSome}
 use Rattle.endpoint_node.specs.Handed.{timed_of}
 use Rattle.endpoint_loop.specs.Polls.{is_stopped, turn_of}
 use Rattle.endpoint_node.proofs.HandedBack.{gives-more, gives-same}
@@ -44,7 +44,8 @@ returns-clause-polls g c =
     c.hear_all-heard.new.rec c.handle_all-handled.new.rec c.watch-asked.new.rec
     c.post_sessions.new.rec c.send_all-sent.new.rec c.close.new.rec c.args.k.now
     c.handle_all-handled.new.k c.watch-asked.new.k c.args.link.now c.hear_all-heard.new.link
-    c.watch-asked.new.link c.send_all-sent.new.link c.self.invariant.background
+    c.watch-asked.new.link c.send_all-sent.new.link c.args.memory.now c.hear_all-heard.new.memory
+    c.handle_all-handled.new.memory c.self.invariant.background
     (rw (c.raise_clock.ensures) at c.finish_all.ensures.step.makes) c.finish_all.ensures.over
     c.finish_all.ensures.step.limit c.finish_all.ensures.step.given c.finish_all.ensures.step.waiting
     c.hear_all-heard.result c.watch-asked.result
@@ -106,3 +107,9 @@ returns-clause-handed g c =
     rw (← c.self.view_is) (gives-more g.K.Continuation.given _ _ _ _ _ _ before
     (gives-more g.K.Continuation.given _ _ _ _ _ _ c.handle_all-handled.ensures.rest.handed
     (gives-more g.K.Continuation.given _ _ _ _ _ _ c.watch-asked.ensures.step.rest.handed after)))
+
+pub returns-clause-no_less : goal.returns-clause-no_less
+returns-clause-no_less g c =
+    let heard = c.hear_all-heard.ensures.step.listens.wants.no_less in
+    let handled = c.handle_all-handled.ensures.handles.wants.no_less in
+    omega (arith, heard, handled)

@@ -7,7 +7,7 @@ pub returns-in-Ok-clause-turns : goal.returns-in-Ok-clause-turns
 returns-in-Ok-clause-turns g c =
     let p = c.poll-polled in
     makes-turn g.R.Recorder.log g.L.Link
-    g.K.Continuation.given g.V.Service g.W.Workers c.args.now false (turn_of p.result) _ _ _ _ _ _ _ _ _ _ _ _ c.in-Ok.ensures.receives
+    g.K.Continuation.given g.V.Service g.W.Workers c.args.now false (turn_of p.result) _ _ _ _ _ _ _ _ _ _ _ _ _ c.in-Ok.ensures.receives
     (record {
       sent = c.in-Ok.ensures.sent;
       busies = c.in-Ok.ensures.busies;
@@ -23,7 +23,7 @@ pub returns-in-Err-clause-turns : goal.returns-in-Err-clause-turns
 returns-in-Err-clause-turns g c =
     let p = c.poll-polled in
     makes-turn g.R.Recorder.log g.L.Link
-    g.K.Continuation.given g.V.Service g.W.Workers c.args.now true (turn_of p.result) _ _ _ _ _ _ _ _ _ _ _ _ c.in-Err.ensures.receives
+    g.K.Continuation.given g.V.Service g.W.Workers c.args.now true (turn_of p.result) _ _ _ _ _ _ _ _ _ _ _ _ _ c.in-Err.ensures.receives
     (record {
       sent = c.in-Err.ensures.sent;
       busies = c.in-Err.ensures.busies;
