@@ -5,6 +5,7 @@ ghost use Rattle.std.specs.Prelude.{slice_get, ℕ, Some, IfOk, IfErr, OnOk, OnE
 ghost use Rattle.std.specs.Prelude.{IfSome, IfNone, IsPermutation};
 ghost use Rattle.std.specs.List.{remove};
 ghost use Rattle.std.specs.VecDeque.{deque_capacity};
+ghost use Rattle.memory_count.specs.Faults.{HasCause};
 ghost use Rattle.worker_crew.specs.Jobs.{HasRoom, IsAnswered};
 ghost use Rattle.worker_crew.specs.Local.{answered};
 ghost use Rattle.message_buffer.specs.Buffer.{bytes_of};
@@ -14,9 +15,8 @@ ghost use Rattle.deferred_calls.specs.Moves.{with_answer};
 
 use crate::checked::Checked;
 use crate::job::{Deferred, HandleOut, Numbered};
-use rpc_base::NoMemory;
+use memory_count::{Memory, NoMemory};
 use rpc_outside::Duty;
-use std::alloc::Global;
 use std::collections::VecDeque;
 use std::marker::Model;
 use worker_board::Parcel;
@@ -60,8 +60,8 @@ impl<D: Duty> Model for Desk<D> {
 
 impl<D: Duty> Desk<D> {
     /// A desk by this duty, to which at most `jobs` jobs may be given and not taken. The memory for
-    /// them is taken here; `NoMemory` comes only where there is none.
-    pub fn new(alloc: Global, duty: D, jobs: u32) -> Result<Desk<D>, NoMemory>
+    /// them is taken here.
+    pub fn new(memory: &mut Memory, duty: D, jobs: u32) -> Result<Desk<D>, NoMemory>
     where
         D: Drop,
         ensures made { IfOk result (λ d. d ≡ record {
@@ -71,10 +71,11 @@ impl<D: Duty> Desk<D> {
           handled = [];
           answered = [];
         }) }
+        ensures cause { HasCause memory.old memory.new result }
     {
-        let waiting = VecDeque::with_capacity(alloc, jobs as usize)?;
-        let handled = VecDeque::with_capacity(alloc, jobs as usize)?;
-        let answered = VecDeque::with_capacity(alloc, jobs as usize)?;
+        let waiting = memory.queue(jobs as usize)?;
+        let handled = memory.queue(jobs as usize)?;
+        let answered = memory.queue(jobs as usize)?;
         Ok(Desk {
             duty,
             jobs,

@@ -1,10 +1,10 @@
 //! A job with its number, and the handle of a job.
 ghost use Rattle.std.specs.Prelude.{◌≡◌, ◌≤◌, IfOk};
+ghost use Rattle.memory_count.specs.Faults.{HasCause};
 ghost use Rattle.message_buffer.specs.Buffer.{bytes_of};
 
+use memory_count::{Memory, NoMemory};
 use message_buffer::{MOST_CAPACITY, MsgBuf};
-use rpc_base::NoMemory;
-use std::alloc::Global;
 use std::marker::Model;
 use std::snapshot::Snapshot;
 use worker_board::Parcel;
@@ -109,15 +109,16 @@ impl Deferred {
         out.len()
     }
 
-    /// A message of the bytes that are asked. `NoMemory` comes only where there is none for it.
-    pub fn copy_ask(&self, alloc: Global) -> Result<MsgBuf, NoMemory>
+    /// A message of the bytes that are asked.
+    pub fn copy_ask(&self, memory: &mut Memory) -> Result<MsgBuf, NoMemory>
         ensures asks { IfOk result (λ b. bytes_of b ≡ bytes_of self.now.parcel.ask) }
         ensures len { IfOk result (λ b. b.len ≡ self.now.parcel.ask.len) }
+        ensures cause { HasCause memory.old memory.new result }
     {
         let ask = &self.job.parcel.ask;
         let _most = ask.capacity();
         let len = ask.len();
-        let mut copy = MsgBuf::new(alloc, len)?;
+        let mut copy = MsgBuf::new(memory, len)?;
         copy.set_len(len);
         copy.write(0, ask.bytes());
         Ok(copy)

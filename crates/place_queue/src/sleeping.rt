@@ -1,7 +1,9 @@
-//! How an idle hand sleeps and is woken. Contracts claim nothing of it.
+//! How an idle hand sleeps and is woken. Contracts claim nothing of it but what its memory costs.
+ghost use Rattle.memory_count.specs.Faults.{HasCause};
+
 use crossbeam_utils::sync::{Parker, Unparker};
-use rpc_base::NoMemory;
-use std::alloc::Global;
+use memory_count::{Memory, NoMemory};
+use std::alloc::{AllocError, Global};
 use std::sync::atomic::{AtomicBool, Ordering};
 use std::sync::{Arc, Wait};
 
@@ -26,25 +28,39 @@ pub struct Wakers {
     closed: Arc<AtomicBool, Global>,
 }
 
+// A flag that isn't raised, for two to see.
+fn flag(memory: &mut Memory) -> Result<Arc<AtomicBool, Global>, NoMemory>
+    ensures cause { HasCause memory.old memory.new result }
+{
+    let made = Arc::new(memory.alloc(), AtomicBool::new(false)).map_err(AllocError::from);
+    memory.of(made)
+}
+
 impl Wakers {
     /// For no hand yet, with room for `hands`.
-    pub fn new(alloc: Global, hands: u8) -> Result<Wakers, NoMemory> {
-        let wakers = Vec::with_capacity(alloc, hands as usize)?;
-        let closed = Arc::new(alloc, AtomicBool::new(false))?;
+    pub fn new(memory: &mut Memory, hands: u8) -> Result<Wakers, NoMemory>
+        ensures cause { HasCause memory.old memory.new result }
+    {
+        let wakers = memory.list(hands as usize)?;
+        let closed = flag(memory)?;
         Ok(Wakers { wakers, closed })
     }
 
     /// By what one hand more sleeps.
-    pub fn sleeper(&mut self, alloc: Global) -> Result<Sleeper, NoMemory> {
-        let parker = Parker::new(alloc)?;
-        let unparker = parker.unparker().clone()?;
-        let idle = Arc::new(alloc, AtomicBool::new(false))?;
-        let closed = Arc::try_clone(&self.closed)?;
-        let seen = Arc::try_clone(&idle)?;
-        self.wakers.push(Waker {
+    pub fn sleeper(&mut self, memory: &mut Memory) -> Result<Sleeper, NoMemory>
+        ensures cause { HasCause memory.old memory.new result }
+    {
+        let made = Parker::new(memory.alloc());
+        let parker = memory.of(made)?;
+        let unparker = memory.of(parker.unparker().clone())?;
+        let idle = flag(memory)?;
+        let closed = memory.of(Arc::try_clone(&self.closed))?;
+        let seen = memory.of(Arc::try_clone(&idle))?;
+        let waker = Waker {
             unparker,
             idle: seen,
-        })?;
+        };
+        memory.push(&mut self.wakers, waker)?;
         Ok(Sleeper {
             parker,
             idle,

@@ -3,14 +3,14 @@ ghost use Rattle.std.specs.Prelude.{◌≡◌, ◌≢◌, ◌+◌, ◌<◌, ◌+
 ghost use Rattle.std.specs.Prelude.{IfNone, IfOk, IfSome, OnSome, slice_get};
 ghost use Rattle.std.specs.List.{remove};
 ghost use Rattle.std.specs.VecDeque.{deque_capacity};
+ghost use Rattle.memory_count.specs.Faults.{HasCause};
 ghost use Rattle.deferred_calls.specs.Moves.{Answers, HandsOut, IsFirstOf};
 ghost use Rattle.relays.specs.Relaying.{Settles, Stands};
 
 use crate::answering::answer_by;
 use client_core::Done;
 use deferred_calls::{Checked, Deferred, Desk};
-use rpc_base::NoMemory;
-use std::alloc::Global;
+use memory_count::{Memory, NoMemory};
 use std::collections::VecDeque;
 use std::marker::Model;
 
@@ -71,17 +71,17 @@ fn put_last(asked: &mut VecDeque<Deferred>, handle: Deferred)
 }
 
 impl Relays {
-    /// No job was asked so far; at most `jobs` may be at a time. The memory for them is taken here;
-    /// `NoMemory` comes only where there is none.
-    pub fn new(alloc: Global, jobs: u32) -> Result<Relays, NoMemory>
-        ensures { IfOk result (λ r. r ≡ record {
+    /// No job was asked so far; at most `jobs` may be at a time. The memory for them is taken here.
+    pub fn new(memory: &mut Memory, jobs: u32) -> Result<Relays, NoMemory>
+        ensures made { IfOk result (λ r. r ≡ record {
           limit = jobs;
           asked = [];
           relayed = 0;
           here = 0;
         }) }
+        ensures cause { HasCause memory.old memory.new result }
     {
-        let asked = VecDeque::with_capacity(alloc, jobs as usize)?;
+        let asked = memory.queue(jobs as usize)?;
         Ok(Relays {
             jobs,
             asked,

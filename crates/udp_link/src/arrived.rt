@@ -1,11 +1,11 @@
 //! The datagram that came last, and what of it isn't given out yet.
 ghost use Rattle.std.specs.Prelude.{◌≡◌, ◌≤◌, [], ◌∷◌, take, length, IfSome, MatchOption};
+ghost use Rattle.memory_count.specs.Faults.{HasCause};
 
 use crate::address::Address;
 use crate::socket::receive;
+use memory_count::{Memory, NoMemory};
 use packet_frames::{MOST_FRAME_BYTES, MOST_PACKET_BYTES, next_packet};
-use rpc_base::NoMemory;
-use std::alloc::Global;
 use std::io;
 use std::marker::Model;
 
@@ -29,11 +29,12 @@ impl Model for Arrived {
 }
 
 impl Arrived {
-    /// Nothing came. It takes all memory that it will need now; `NoMemory` comes only where there is
-    /// none.
-    pub fn new(alloc: Global) -> Result<Arrived, NoMemory> {
-        let mut bytes = Vec::new(alloc);
-        bytes.resize(MOST_FRAME_BYTES as usize, 0)?;
+    /// Nothing came. It takes all memory that it will need now.
+    pub fn new(memory: &mut Memory) -> Result<Arrived, NoMemory>
+        ensures cause { HasCause memory.old memory.new result }
+    {
+        let mut bytes = Vec::new(memory.alloc());
+        memory.of(bytes.resize(MOST_FRAME_BYTES as usize, 0))?;
         Ok(Arrived {
             bytes,
             len: 0,

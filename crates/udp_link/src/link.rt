@@ -1,7 +1,7 @@
 //! A link over a UDP socket, which waits nowhere but where it is told to.
 ghost use Rattle.std.specs.Prelude.{◌≡◌, ◌≤◌, ◌+◌, None, IfOk, IfSome, IsErr, OnErr, length};
 ghost use Rattle.rpc_outside.specs.declared.link.Taken.TheVariants.{Whole, Busy};
-ghost use Rattle.rpc_outside.specs.Faults.{HasCause, HasRisen};
+ghost use Rattle.memory_count.specs.Faults.{HasCause, HasRisen};
 
 use crate::address::Address;
 use crate::arrived::Arrived;
@@ -11,6 +11,7 @@ use crate::lives::connect_life;
 use crate::peers::Peers;
 use crate::socket::{send, wait};
 use crate::trouble::Trouble;
+use memory_count::{Memory, NoMemory};
 use packet_frames::{Frame, is_frame, next_packet};
 use packet_header::{FIRST_LIFE, Life, MAGIC};
 use rpc_base::{HEAD_BYTES, Peer};
@@ -27,6 +28,21 @@ struct Open {
     came: Arrived,
 }
 
+impl Open {
+    // No packet waits, and nothing came.
+    fn new(memory: &mut Memory, socket: UdpSocket) -> Result<Open, NoMemory>
+        ensures cause { HasCause memory.old memory.new result }
+    {
+        let frame = Frame::new(memory)?;
+        let came = Arrived::new(memory)?;
+        Ok(Open {
+            socket,
+            frame,
+            came,
+        })
+    }
+}
+
 /// A link over a UDP socket, which is bound once and never waits but where it is told to. Addresses
 /// are numeric, of IPv4 or IPv6, with a port. Peers have numbers, up to 256 of them at a time; those
 /// that an application named keep theirs, and others until they are forgotten. A number that was
@@ -37,7 +53,7 @@ struct Open {
 #[derive(Drop)]
 pub struct UdpLink<'a, N: Net> {
     net: &'a N,
-    alloc: Global,
+    memory: Memory,
     open: Option<Open>,
     peers: Peers,
     faults: u64,
@@ -68,13 +84,18 @@ fn life_of(datagram: &[u8]) -> Option<Life> {
 }
 
 // Who sent a datagram. Nobody can be answered at port 0, and there are no more than 256 peers.
-fn sender_of(peers: &mut Peers, address: &Address, datagram: &[u8]) -> Option<Peer> {
+fn sender_of(
+    memory: &mut Memory,
+    peers: &mut Peers,
+    address: &Address,
+    datagram: &[u8],
+) -> Option<Peer> {
     if address.port() == 0 {
         return None;
     }
     match peers.known(address) {
         Some(peer) => Some(peer),
-        None => peers.add(address, life_of(datagram)?),
+        None => peers.add(memory, address, life_of(datagram)?),
     }
 }
 
@@ -86,7 +107,7 @@ impl<'a, N: Net> UdpLink<'a, N> {
     {
         UdpLink {
             net,
-            alloc,
+            memory: Memory::new(alloc),
             open: None,
             peers: Peers::new(alloc),
             faults: 0,
@@ -98,6 +119,13 @@ impl<'a, N: Net> UdpLink<'a, N> {
             hidden: None,
             trouble: None,
         }
+    }
+
+    /// Its memory, which tells how often it was refused.
+    pub fn memory(&self) -> &Memory
+        ensures { result.now ≡ self.now.memory }
+    {
+        &self.memory
     }
 
     /// Why the call failed that failed last.
@@ -250,7 +278,7 @@ impl<'a, N: Net> UdpLink<'a, N> {
             return;
         };
         let datagram = open.came.datagram();
-        let Some(peer) = sender_of(&mut self.peers, &self.sender, datagram) else {
+        let Some(peer) = sender_of(&mut self.memory, &mut self.peers, &self.sender, datagram) else {
             open.came.clear();
             return;
         };
@@ -291,14 +319,10 @@ impl<'a, N: Net> Link for UdpLink<'a, N> {
             return self.fail(Trouble::Waits(error.kind()));
         }
         enlarge(&socket);
-        let (Ok(frame), Ok(came)) = (Frame::new(self.alloc), Arrived::new(self.alloc)) else {
+        let Ok(open) = Open::new(&mut self.memory, socket) else {
             return self.fail(Trouble::NoMemory);
         };
-        self.open = Some(Open {
-            socket,
-            frame,
-            came,
-        });
+        self.open = Some(open);
         Ok(())
     }
 
@@ -306,7 +330,7 @@ impl<'a, N: Net> Link for UdpLink<'a, N> {
         let Ok(addr) = addr.parse::<SocketAddr>() else {
             return self.fail(Trouble::NoPeerAddress);
         };
-        match self.peers.named(&Address::of(addr)) {
+        match self.peers.named(&mut self.memory, &Address::of(addr)) {
             Some(peer) => Ok(peer),
             None => self.fail(Trouble::NoNumber(addr)),
         }

@@ -2,6 +2,7 @@
 ghost use Rattle.std.specs.Prelude.{◌≤◌, ◌<◌, length, IfSome};
 
 use crate::address::Address;
+use memory_count::Memory;
 use packet_frames::{LEAST_FRAME_BYTES, MOST_FRAME_BYTES, USUAL_FRAME_BYTES};
 use packet_header::{FIRST_LIFE, Life};
 use rpc_base::Peer;
@@ -162,23 +163,25 @@ impl Peers {
     /// A number for the peer of this address, which has none and sends in this life: the one that it
     /// had, where no other peer has it since; else one whose peers asked to connect in no greater
     /// life. None comes where there is no such number, or no memory for one more.
-    pub fn add(&mut self, address: &Address, life: Life) -> Option<Peer> {
+    pub fn add(&mut self, memory: &mut Memory, address: &Address, life: Life) -> Option<Peer> {
         let number = match self.find(address) {
             Ok(at) => *self.sorted.get(at)?,
-            Err(_) => self.take(address, life)?,
+            Err(_) => self.take(memory, address, life)?,
         };
         self.stand(Peer(number), Standing::Alone);
         Some(Peer(number))
     }
 
     // A free number becomes that of this address, which had none.
-    fn take(&mut self, address: &Address, life: Life) -> Option<u8> {
-        let number = self.free_number(life)?;
+    fn take(&mut self, memory: &mut Memory, address: &Address, life: Life) -> Option<u8> {
+        let number = self.free_number(memory, life)?;
         self.sorted.retain(|other| *other != number);
         let at = self.find(address).err()?;
-        if at > self.sorted.len() || self.sorted.insert(at, number).is_err() {
+        if at > self.sorted.len() {
             return None;
         }
+        let inserted = self.sorted.insert(at, number);
+        memory.kept(inserted).ok()?;
         let place = self.places.get_mut(usize::from(number))?;
         place.address = *address;
         Some(number)
@@ -186,11 +189,11 @@ impl Peers {
 
     /// The number of the peer of this address, which keeps it. None comes where it has none, and 256
     /// others have one or there is no memory for one more.
-    pub fn named(&mut self, address: &Address) -> Option<Peer> {
+    pub fn named(&mut self, memory: &mut Memory, address: &Address) -> Option<Peer> {
         let known = self.known(address);
         let peer = match known {
             Some(peer) => peer,
-            None => self.add(address, Life(FIRST_LIFE))?,
+            None => self.add(memory, address, Life(FIRST_LIFE))?,
         };
         self.keep(peer);
         Some(peer)
@@ -214,7 +217,7 @@ impl Peers {
     }
 
     // A number that is no peer's and is free for this life, with a place.
-    fn free_number(&mut self, life: Life) -> Option<u8> {
+    fn free_number(&mut self, memory: &mut Memory, life: Life) -> Option<u8> {
         if let Some(number) = self.best_free(life) {
             return u8::try_from(number).ok();
         }
@@ -222,7 +225,7 @@ impl Peers {
         if next >= MOST_PEERS {
             return None;
         }
-        self.places.push(Place::new()).ok()?;
+        memory.push(&mut self.places, Place::new()).ok()?;
         u8::try_from(next).ok()
     }
 

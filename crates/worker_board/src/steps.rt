@@ -2,6 +2,7 @@
 //! No other file of the crate can take a step, since the table and the kinds are private here.
 ghost use Rattle.std.specs.Prelude.{◌≡◌, ◌∷◌, ◌<◌, [], length, replicate, None, IfOk};
 ghost use Rattle.atomic_table.specs.Table.{Joins, Splits, opening, rest};
+ghost use Rattle.memory_count.specs.Faults.{HasCause};
 ghost use Rattle.worker_board.specs.declared.view.Role.TheVariants.{Spent};
 ghost use Rattle.worker_board.specs.Moves.{Finished, Looked, Named, Numbered, Opened, Readied};
 ghost use Rattle.worker_board.specs.Moves.{Released, Reopened, Summed, TookBack, Tried};
@@ -14,12 +15,13 @@ use crate::Parcel;
 use crate::rule::Law;
 use crate::view::View;
 use atomic_table::{Seat, Table};
+use memory_count::{Memory, NoMemory};
 use moves::{
     Finishes, Looks, Names, Numbers, Opens, Readies, Releases, Reopens, SendsOut, Sums, TakesBack,
     TakesIn, Tries,
 };
 use rpc_outside::Duty;
-use std::alloc::{AllocError, Global};
+use std::alloc::Global;
 
 /// A seat at the words of a board.
 pub type BoardSeat = Seat<Option<Parcel>, View>;
@@ -36,17 +38,19 @@ impl<D: Duty> Steps<D> {
 
     /// As many empty slots as places, a word for each, and the seat of the dispatcher.
     pub fn vacant(
-        alloc: Global,
+        memory: &mut Memory,
         words: &[u64],
         places: usize,
-    ) -> Result<(Steps<D>, BoardSeat), AllocError>
+    ) -> Result<(Steps<D>, BoardSeat), NoMemory>
         requires { BoardLaw D.answer
             (opening words.now (replicate places None) (first_view places)) }
-        ensures { IfOk result (λ made. ((words_id made.0).words ≡ length words.now)
+        ensures made { IfOk result (λ made. ((words_id made.0).words ≡ length words.now)
             × ((words_id made.0).slots ≡ places) × (made.1.table_id ≡ words_id made.0)
             × (made.1.id ≡ 0) × (made.1.me ≡ (first_view places, []))) }
+        ensures cause { HasCause memory.old memory.new result }
     {
-        let (table, seat) = Table::vacant(alloc, words, places, &places)?;
+        let made = Table::vacant(memory.alloc(), words, places, &places);
+        let (table, seat) = memory.of(made)?;
         Ok((Steps { table }, seat))
     }
 

@@ -7,7 +7,7 @@ use mathlib.Core.Logic.{dite}
 use native.Mathlib.Decide.{ℕ_discrete}
 use Rattle.rpc_base.specs.Totals.{only}
 use Rattle.rpc_base.proofs.TotalsLemmas.{only-same, only-other}
-use Rattle.rpc_outside.specs.Faults.{HasRisen, end_of_count}
+use Rattle.memory_count.specs.Faults.{HasRisen, HasRisenBy, end_of_count}
 use Rattle.worker_board.specs.declared.view.View.{View}
 use Rattle.worker_board.specs.Counts.{times, removed}
 use Rattle.worker_board.specs.Moves.{taken_in}
@@ -16,7 +16,7 @@ use Rattle.worker_board.proofs.CountsLemmas.{total-append, times-removed}
 use Rattle.place_queue.specs.declared.knows.Numbered.{Numbered}
 use Rattle.worker_crew.specs.CrewIds.{CrewId}
 use Rattle.worker_crew.specs.Hands.{HandName}
-use Rattle.worker_crew.specs.Crews.{AllOn, numbered, AreOut, HasRisenBy}
+use Rattle.worker_crew.specs.Crews.{AllOn, numbered, AreOut}
 use Rattle.worker_crew.specs.Dispatching.{Dispatching}
 use Rattle.worker_crew.specs.Starting.{SameJobs, HaveGoneOut, Shared}
 

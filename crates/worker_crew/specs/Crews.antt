@@ -1,8 +1,7 @@
 -- A crew: its dispatcher, and its hands.
 use Rattle.std.specs.Prelude.{◌≡◌, ◌+◌, ◌≤◌, ℕ, Bool, true, false, List, [], ◌∷◌, ◌++◌, length, map}
-use Rattle.std.specs.Prelude.{min, Option, None, Some}
+use Rattle.std.specs.Prelude.{Option, None, Some}
 use Rattle.rpc_base.specs.Totals.{only, total}
-use Rattle.rpc_outside.specs.Faults.{end_of_count}
 use Rattle.worker_board.specs.declared.Parcel.{Parcel}
 use Rattle.worker_board.specs.Counts.{times}
 use Rattle.worker_board.specs.Tickets.{OfferNo}
@@ -84,11 +83,6 @@ GaveTicket old new = WentOut old.dispatching.places (newest_ticket new.dispatchi
 -- no ticket came or went
 abbrev pub SameTickets : CrewState → CrewState → Type 0
 SameTickets old new = (new.dispatching.put ≡ old.dispatching.put) × (new.later ≡ old.later)
-
--- a count rose by so many, or stands at its end
-pub record HasRisenBy (count old new : ℕ) : Type 0 where
-  pub no_less : old ≤ new
-  pub rose : min (old + count) end_of_count ≤ new
 
 -- a crew doesn't tell which of its jobs wait, nor which are worked
 abbrev pub untold : CrewState → Option (List Parcel)

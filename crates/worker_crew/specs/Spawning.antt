@@ -1,6 +1,6 @@
 -- What a spawner answers.
 use Rattle.std.specs.Prelude.{◌≡◌, ℕ, List, ◌++◌, ◌∷◌, [], Option, Some, None, Result, Ok, Err}
-use Rattle.rpc_outside.specs.Faults.{HasRisen}
+use Rattle.memory_count.specs.Faults.{HasRisen}
 
 module _ {H N : Type 0} (name : H → N) (n : N) (refused later : ℕ) (out left : List N) where
   -- the hand of this name is out, or was handed back and counted

@@ -4,13 +4,14 @@ ghost use Rattle.std.specs.Prelude.{slice_get, option_to_list, true, Some, None,
 ghost use Rattle.std.specs.Prelude.{IfNone, IfSome, IfOk, IfErr, OnOk, OnErr, IsPermutation};
 ghost use Rattle.std.specs.List.{remove};
 ghost use Rattle.std.specs.VecDeque.{deque_capacity};
+ghost use Rattle.memory_count.specs.Faults.{HasCause};
 ghost use Rattle.worker_crew.specs.Jobs.{job_of, HasRoom, IsAnswered, IsFull, TakesFirst, FoundUnfinished};
 ghost use Rattle.worker_crew.specs.Local.{Works, answered, given_to, out_of};
 
 use crate::workers::{Finished, Workers};
-use rpc_base::{MOST_GIVEN, NoMemory, RequestNo, SessionNo};
+use memory_count::{Memory, NoMemory};
+use rpc_base::{MOST_GIVEN, RequestNo, SessionNo};
 use rpc_outside::Duty;
-use std::alloc::Global;
 use std::collections::VecDeque;
 use std::marker::Model;
 use worker_board::Parcel;
@@ -63,8 +64,8 @@ impl<D: Duty> Model for LocalWorkers<D> {
 
 impl<D: Duty> LocalWorkers<D> {
     /// Workers by this duty, to which at most `jobs` jobs may be given and not taken. The memory
-    /// for them is taken here; `NoMemory` comes only where there is none, and never for no jobs.
-    pub fn new(alloc: Global, duty: D, jobs: u32) -> Result<LocalWorkers<D>, NoMemory>
+    /// for them is taken here; `NoMemory` never comes for no jobs.
+    pub fn new(memory: &mut Memory, duty: D, jobs: u32) -> Result<LocalWorkers<D>, NoMemory>
     where
         D: Drop,
         ensures made { IfOk result (λ w. w ≡ record {
@@ -74,9 +75,10 @@ impl<D: Duty> LocalWorkers<D> {
           worked = [];
         }) }
         ensures succeeds { jobs ≡ 0 → IsOk result }
+        ensures cause { HasCause memory.old memory.new result }
     {
-        let waiting = VecDeque::with_capacity(alloc, jobs as usize)?;
-        let worked = VecDeque::with_capacity(alloc, jobs as usize)?;
+        let waiting = memory.queue(jobs as usize)?;
+        let worked = memory.queue(jobs as usize)?;
         Ok(LocalWorkers {
             duty,
             jobs,

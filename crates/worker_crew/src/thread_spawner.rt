@@ -1,7 +1,7 @@
 //! Hands on threads of their own.
 ghost use Rattle.std.specs.Prelude.{◌≡◌, [], map};
 ghost use Rattle.std.specs.Result.{ForErr, ForOk};
-ghost use Rattle.rpc_outside.specs.Faults.{HasRisen};
+ghost use Rattle.memory_count.specs.Faults.{HasRisen};
 ghost use Rattle.worker_crew.specs.Hands.{name_of};
 ghost use Rattle.worker_crew.specs.Launching.{child_name, Launched};
 ghost use Rattle.worker_crew.specs.Spawning.{Started, CameBack};

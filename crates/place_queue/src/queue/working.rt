@@ -1,6 +1,7 @@
 //! What is done with a queue. No contract says that a call which takes a handle returns.
 ghost use Rattle.std.specs.Prelude.{◌≡◌, ◌<◌, ◌≤◌, ◌+◌, ◌-◌, ◌^◌, ◌++◌, ◌∷◌, [], length, map};
 ghost use Rattle.std.specs.Prelude.{IfOk, IfSome, IfNone, true, false};
+ghost use Rattle.memory_count.specs.Faults.{HasCause};
 ghost use Rattle.place_queue.specs.Order.{AllTold};
 ghost use Rattle.place_queue.specs.Ends.{queue_of, room_of, put_end, put_by, ends_out, told_to};
 ghost use Rattle.place_queue.specs.Ends.{take_end, taken_by, SamePutter};
@@ -10,21 +11,22 @@ use crate::knows::Numbered;
 use crate::rule::{Puts, SendsOut, Settles, Takes, TakesIn};
 use crate::sleeping::Sleeper;
 use crossbeam_queue::RuledArrayQueue;
-use rpc_base::NoMemory;
-use std::alloc::Global;
+use memory_count::{Memory, NoMemory};
 use std::sync::Wait;
 use worker_board::Ticket;
 
 impl PlaceQueue {
     /// An empty queue with room for `places` tickets, and the dispatcher's end of it.
-    pub fn new(alloc: Global, places: u32) -> Result<(PlaceQueue, Putter), NoMemory>
+    pub fn new(memory: &mut Memory, places: u32) -> Result<(PlaceQueue, Putter), NoMemory>
         requires { 0 < places }
         ensures room { IfOk result (λ r. room_of r.0 ≡ places) }
         ensures ours { IfOk result (λ r. put_end r.1 ≡ queue_of r.0) }
         ensures empty { IfOk result (λ r. (put_by r.1 ≡ []) × (told_to r.1 ≡ [])
             × (ends_out r.1 ≡ 0)) }
+        ensures cause { HasCause memory.old memory.new result }
     {
-        let (line, pass) = RuledArrayQueue::ruled(alloc, places as usize)?;
+        let made = RuledArrayQueue::ruled(memory.alloc(), places as usize);
+        let (line, pass) = memory.of(made)?;
         Ok((PlaceQueue { line }, Putter { pass, next: 0 }))
     }
 

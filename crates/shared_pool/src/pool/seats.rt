@@ -1,5 +1,6 @@
 //! Pools and seats are made, and seats end.
-ghost use Rattle.std.specs.Prelude.{◌≡◌, ◌<◌, ◌≤◌, IfOk, All, length};
+ghost use Rattle.std.specs.Prelude.{◌≡◌, ◌<◌, ◌≤◌, IfOk, All, length, replicate};
+ghost use Rattle.memory_count.specs.Faults.{HasCause};
 ghost use Rattle.shared_pool.specs.Rule.{fresh, IsFilled};
 ghost use Rattle.shared_pool.specs.Moves.{split_off, taken_in};
 ghost use Rattle.shared_pool.specs.Seats.{IsSeatOf, places_of, size_of, view_of, HoldsNone};
@@ -8,29 +9,37 @@ use super::{PoolSeat, SharedPool};
 use crate::moves::{Joins, Splits};
 use crate::word::MOST_PLACES;
 use atomic_table::Table;
+use memory_count::{Memory, NoMemory};
 use message_buffer::{MOST_CAPACITY, MsgBuf};
-use rpc_base::NoMemory;
-use std::alloc::Global;
 
 /// So many buffers of this capacity, each at home.
-fn buffers(alloc: Global, count: u32, capacity: u32) -> Result<Vec<Option<MsgBuf>>, NoMemory>
+fn buffers(memory: &mut Memory, count: u32, capacity: u32) -> Result<Vec<Option<MsgBuf>>, NoMemory>
     requires { capacity ≤ MOST_CAPACITY }
     ensures count { IfOk result (λ slots. length slots.items ≡ count) }
     ensures filled { IfOk result (λ slots. All (IsFilled capacity) slots.items) }
+    ensures cause { HasCause memory.old memory.new result }
 {
-    let mut slots = Vec::with_capacity(alloc, count as usize)?;
+    let mut slots = memory.list(count as usize)?;
     for _i in 0..count {
-        let buffer = MsgBuf::new(alloc, capacity)?;
+        let buffer = MsgBuf::new(memory, capacity)?;
         slots.push_reserved(Some(buffer));
     }
     Ok(slots)
 }
 
+// A word for each place, none of which was ever lent.
+fn first_words(memory: &mut Memory, places: usize) -> Result<Vec<u64>, NoMemory>
+    ensures words { IfOk result (λ v. v.items ≡ replicate places 0) }
+    ensures cause { HasCause memory.old memory.new result }
+{
+    let made = Vec::from_elem(memory.alloc(), 0u64, places);
+    memory.of(made)
+}
+
 impl SharedPool {
     /// A pool of `places` buffers of this capacity, all at home, and a seat that has made no step.
-    /// `NoMemory` comes only where there is no memory for them.
     pub fn new(
-        alloc: Global,
+        memory: &mut Memory,
         places: u32,
         capacity: u32,
     ) -> Result<(SharedPool, PoolSeat), NoMemory>
@@ -40,11 +49,13 @@ impl SharedPool {
         ensures capacity { IfOk result (λ made. size_of made.0 ≡ capacity) }
         ensures seat { IfOk result (λ made. IsSeatOf made.0 made.1) }
         ensures view { IfOk result (λ made. view_of made.1 ≡ fresh capacity) }
+        ensures cause { HasCause memory.old memory.new result }
     {
-        let words = Vec::from_elem(alloc, 0u64, places as usize)?;
-        let slots = buffers(alloc, places, capacity)?;
-        let Ok((table, seat)) = Table::new(alloc, words.as_slice(), slots, &capacity) else {
-            return Err(NoMemory);
+        let words = first_words(memory, places as usize)?;
+        let slots = buffers(memory, places, capacity)?;
+        let made = Table::new(memory.alloc(), words.as_slice(), slots, &capacity);
+        let Ok((table, seat)) = made else {
+            return Err(memory.told());
         };
         let pool = SharedPool {
             table,

@@ -1,5 +1,6 @@
 //! Boards and seats are made, and hands come back.
-ghost use Rattle.std.specs.Prelude.{◌≡◌, ◌<◌, ◌≤◌, ◌++◌, IfOk};
+ghost use Rattle.std.specs.Prelude.{◌≡◌, ◌<◌, ◌≤◌, ◌++◌, IfOk, replicate};
+ghost use Rattle.memory_count.specs.Faults.{HasCause};
 ghost use Rattle.worker_board.specs.declared.view.Role.TheVariants.{Hand};
 ghost use Rattle.worker_board.specs.Rule.{first_view, fresh};
 ghost use Rattle.worker_board.specs.Moves.{taken_in, RanOnce};
@@ -10,22 +11,31 @@ ghost use Rattle.worker_board.specs.Seats.{HoldsNone, with_hand};
 use super::{Board, DispatchSeat, HandSeat};
 use crate::steps::Steps;
 use crate::word::MOST_PLACES;
-use rpc_base::NoMemory;
+use memory_count::{Memory, NoMemory};
 use rpc_outside::Duty;
-use std::alloc::Global;
+
+// A word for each place, none of which was ever offered.
+fn first_words(memory: &mut Memory, places: usize) -> Result<Vec<u64>, NoMemory>
+    ensures words { IfOk result (λ v. v.items ≡ replicate places 0) }
+    ensures cause { HasCause memory.old memory.new result }
+{
+    let made = Vec::from_elem(memory.alloc(), 0u64, places);
+    memory.of(made)
+}
 
 impl<D: Duty> Board<D> {
     /// A board with `places` places, none of which was ever offered, and the seat of its
-    /// dispatcher. `NoMemory` comes only where there is no memory for the places.
-    pub fn new(alloc: Global, places: u32) -> Result<(Board<D>, DispatchSeat), NoMemory>
+    /// dispatcher.
+    pub fn new(memory: &mut Memory, places: u32) -> Result<(Board<D>, DispatchSeat), NoMemory>
         requires places { (0 < places) × (places ≤ MOST_PLACES) }
         ensures places { IfOk result (λ made. places_of made.0 ≡ places) }
         ensures board { IfOk result (λ made. IsSeatOf made.0 made.1) }
         ensures view { IfOk result (λ made. view_of made.1 ≡ first_view places) }
+        ensures cause { HasCause memory.old memory.new result }
     {
         let count = places as usize;
-        let words = Vec::from_elem(alloc, 0u64, count)?;
-        let (steps, seat) = Steps::vacant(alloc, words.as_slice(), count)?;
+        let words = first_words(memory, count)?;
+        let (steps, seat) = Steps::vacant(memory, words.as_slice(), count)?;
         Ok((Board { steps, places }, DispatchSeat { seat }))
     }
 

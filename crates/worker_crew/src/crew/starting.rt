@@ -2,7 +2,8 @@
 ghost use Rattle.std.specs.Prelude.{◌≡◌, ◌≤◌, ◌<◌, ◌-◌, ◌+◌, ◌++◌, ◌↔◌, [], length, true, false, IfOk};
 ghost use Rattle.std.specs.Prelude.{OnErr, vec_len, vec_capacity, ℕ, List};
 ghost use Rattle.std.specs.VecDeque.{deque_capacity};
-ghost use Rattle.worker_crew.specs.Crews.{AreOut, AreStarted, HasRisenBy, KeepsTo};
+ghost use Rattle.memory_count.specs.Faults.{HasCause, HasRisenBy};
+ghost use Rattle.worker_crew.specs.Crews.{AreOut, AreStarted, KeepsTo};
 ghost use Rattle.worker_crew.specs.Crews.{has_hands, kept_by, names};
 ghost use Rattle.worker_crew.specs.Places.{TookNoneBack};
 ghost use Rattle.worker_crew.specs.Dispatching.{jobs_in};
@@ -16,20 +17,30 @@ use crate::manner::Manner;
 use crate::spawner::Spawner;
 use crate::workers::Finished;
 use circular_buffer::HeapCircularBuffer;
+use memory_count::{Memory, NoMemory};
 use place_queue::Wakers;
-use rpc_base::NoMemory;
 use rpc_outside::Duty;
 use std::alloc::Global;
 use std::collections::VecDeque;
 use std::sync::{Arc, Wait};
-use worker_board::MOST_PLACES;
+use worker_board::{MOST_PLACES, Ticket};
 
 /// A crew has no more hands.
 pub const MOST_HANDS: u8 = 16;
 
+// Room for so many tickets that find the queue full.
+fn no_tickets(memory: &mut Memory, room: usize) -> Result<HeapCircularBuffer<Ticket>, NoMemory>
+    ensures empty { IfOk result (λ later. later.items ≡ []) }
+    ensures room { IfOk result (λ later. later.capacity ≡ room) }
+    ensures cause { HasCause memory.old memory.new result }
+{
+    let made = HeapCircularBuffer::with_capacity(memory.alloc(), room);
+    memory.of(made)
+}
+
 // Makes hands with the numbers from 0 on, each with a parker of its own.
 fn make_hands<D: Duty + Drop>(
-    alloc: Global,
+    memory: &mut Memory,
     dispatcher: &mut Dispatcher<D>,
     duty: &Arc<D, Global>,
     wakers: &mut Wakers,
@@ -38,11 +49,12 @@ fn make_hands<D: Duty + Drop>(
     requires new { HaveGoneOut 0 [] dispatcher.old dispatcher.old }
     ensures made { IfOk result (λ made. HaveGoneOut count (names made.items) dispatcher.old
         dispatcher.new) }
+    ensures cause { HasCause memory.old memory.new result }
 {
-    let mut made = VecDeque::with_capacity(alloc, count as usize)?;
+    let mut made = memory.queue(count as usize)?;
     for number in 0..count {
-        let sleeper = wakers.sleeper(alloc)?;
-        let hand = dispatcher.hand(duty, sleeper, number)?;
+        let sleeper = wakers.sleeper(memory)?;
+        let hand = dispatcher.hand(memory, duty, sleeper, number)?;
         made.push_back_reserved(hand);
     }
     Ok(made)
@@ -129,8 +141,8 @@ impl<D: Duty + Drop, R: Wait> Crew<D, R> {
     /// where no hand was started they are retired, and the crew works by itself. Its memory is taken
     /// before a hand is started; where there is none the spawner is as before.
     pub fn start<P: Spawner<Hand<D>>>(
+        memory: &mut Memory,
         rt: R,
-        alloc: Global,
         duty: Arc<D, Global>,
         jobs: u32,
         hands: u8,
@@ -155,13 +167,14 @@ impl<D: Duty + Drop, R: Wait> Crew<D, R> {
         ensures unput { IfOk result (λ c. (c.dispatching.put ≡ []) × (c.later ≡ [])) }
         ensures keeps { IfOk result (λ c. KeepsTo c) }
         ensures wanting { OnErr result (spawner.new ≡ spawner.old) }
+        ensures cause { HasCause memory.old memory.new result }
     {
-        let mut dispatcher = Dispatcher::new(alloc, jobs)?;
-        let mut wakers = Wakers::new(alloc, hands)?;
-        let later = HeapCircularBuffer::with_capacity(alloc, jobs as usize)?;
-        let left = VecDeque::with_capacity(alloc, jobs as usize)?;
-        let kept = Vec::with_capacity(alloc, hands as usize)?;
-        let made = make_hands(alloc, &mut dispatcher, &duty, &mut wakers, hands)?;
+        let mut dispatcher = Dispatcher::new(memory, jobs)?;
+        let mut wakers = Wakers::new(memory, hands)?;
+        let later = no_tickets(memory, jobs as usize)?;
+        let left = memory.queue(jobs as usize)?;
+        let kept = memory.list(hands as usize)?;
+        let made = make_hands(memory, &mut dispatcher, &duty, &mut wakers, hands)?;
         let manner = share_out(&mut dispatcher, duty, made, kept, spawner);
         Ok(Crew {
             rt,

@@ -2,6 +2,7 @@
 ghost use Rattle.std.specs.Prelude.{◌≡◌, ◌<◌, ◌≤◌, [], ◌++◌, IfOk, OnErr};
 ghost use Rattle.std.specs.Prelude.{vec_capacity};
 ghost use Rattle.std.specs.Arc.{arc_value};
+ghost use Rattle.memory_count.specs.Faults.{HasCause};
 ghost use Rattle.place_queue.specs.Order.{AllTold};
 ghost use Rattle.worker_board.specs.Counts.{removed, times};
 ghost use Rattle.worker_board.specs.Moves.{RanOnce, taken_in};
@@ -12,28 +13,38 @@ ghost use Rattle.worker_crew.specs.Places.{AreFree};
 
 use super::Dispatcher;
 use crate::hand::Hand;
+use memory_count::{Memory, NoMemory};
 use place_queue::{PlaceQueue, Sleeper};
-use rpc_base::NoMemory;
 use rpc_outside::Duty;
 use std::alloc::{AllocError, Global};
 use std::sync::Arc;
 use worker_board::{Board, MOST_PLACES};
 
 // All places of a board that was never used.
-fn all_places(alloc: Global, places: u32) -> Result<Vec<u32>, AllocError>
-    ensures { IfOk result (λ v. AreFree places v.items × (places ≤ vec_capacity v)) }
+fn all_places(memory: &mut Memory, places: u32) -> Result<Vec<u32>, NoMemory>
+    ensures places { IfOk result (λ v. AreFree places v.items × (places ≤ vec_capacity v)) }
+    ensures cause { HasCause memory.old memory.new result }
 {
-    let mut free = Vec::with_capacity(alloc, places as usize)?;
+    let mut free = memory.list(places as usize)?;
     for place in 0..places {
         free.push_reserved(place);
     }
     Ok(free)
 }
 
+// A value that the crew and its hands own together.
+fn shared<T: Drop>(memory: &mut Memory, value: T) -> Result<Arc<T, Global>, NoMemory>
+    ensures value { IfOk result (λ a. arc_value a ≡ value) }
+    ensures cause { HasCause memory.old memory.new result }
+{
+    let made = Arc::new(memory.alloc(), value).map_err(AllocError::from);
+    memory.of(made)
+}
+
 impl<D: Duty> Dispatcher<D> {
     /// The dispatcher of a new board with `places` places, and of a new queue with as many. No job
     /// was given, and no ticket put.
-    pub(crate) fn new(alloc: Global, places: u32) -> Result<Dispatcher<D>, NoMemory>
+    pub(crate) fn new(memory: &mut Memory, places: u32) -> Result<Dispatcher<D>, NoMemory>
     where
         D: Drop,
         requires places { (0 < places) × (places ≤ MOST_PLACES) }
@@ -42,13 +53,14 @@ impl<D: Duty> Dispatcher<D> {
         ensures given { IfOk result (λ d. d.given ≡ 0) }
         ensures view { IfOk result (λ d. d.view ≡ first_view places) }
         ensures put { IfOk result (λ d. d.put ≡ []) }
+        ensures cause { HasCause memory.old memory.new result }
     {
-        let free = all_places(alloc, places)?;
-        let busy = Vec::with_capacity(alloc, places as usize)?;
-        let (board, seat) = Board::new(alloc, places)?;
-        let board = Arc::new(alloc, board)?;
-        let (queue, putter) = PlaceQueue::new(alloc, places)?;
-        let queue = Arc::new(alloc, queue)?;
+        let free = all_places(memory, places)?;
+        let busy = memory.list(places as usize)?;
+        let (board, seat) = Board::new(memory, places)?;
+        let board = shared(memory, board)?;
+        let (queue, putter) = PlaceQueue::new(memory, places)?;
+        let queue = shared(memory, queue)?;
         Ok(Dispatcher {
             board,
             queue,
@@ -64,10 +76,11 @@ impl<D: Duty> Dispatcher<D> {
     /// changes.
     pub(crate) fn hand(
         &mut self,
+        memory: &mut Memory,
         duty: &Arc<D, Global>,
         sleeper: Sleeper,
         number: u8,
-    ) -> Result<Hand<D>, AllocError>
+    ) -> Result<Hand<D>, NoMemory>
     where
         D: Drop,
         requires unused { IsUnused number self.old.view }
@@ -76,10 +89,11 @@ impl<D: Duty> Dispatcher<D> {
         ensures out { IfOk result (λ _. self.new
             ≡ record self.old { view = with_hand number self.old.view }) }
         ensures wanting { OnErr result (self.new ≡ self.old) }
+        ensures cause { HasCause memory.old memory.new result }
     {
-        let board = Arc::try_clone(&self.board)?;
-        let duty = Arc::try_clone(duty)?;
-        let queue = Arc::try_clone(&self.queue)?;
+        let board = memory.of(Arc::try_clone(&self.board))?;
+        let duty = memory.of(Arc::try_clone(duty))?;
+        let queue = memory.of(Arc::try_clone(&self.queue))?;
         let seat = self.board.hand(&mut self.seat, number);
         let taker = self.queue.taker(&mut self.putter);
         Ok(Hand::new(board, duty, queue, seat, taker, sleeper))

@@ -13,4 +13,5 @@ loop-number-preserved g c = (
       ∙ map-append (λ (h : Hand g.row.D.Denot). name_of h) _ _
       ∙ ap (λ (n : HandName). names c.loop-number.made.items ++ n ∷ []) c.in_ok-hand.ensures.name),
   omega arith,
+  c.in_ok-hand.ensures.cause ∙ c.in_ok-sleeper.ensures.cause ∙ c.loop-number.invariant.2,
 )

@@ -1,6 +1,7 @@
 -- the hands so far are out or kept, and those that are left come behind them
 use Rattle.std.proofs.Common.{◌+◌, ◌≤◌, ◌++◌, length, vec_len, vec_capacity}
-use Rattle.worker_crew.specs.Crews.{names, HasRisenBy}
+use Rattle.memory_count.specs.Faults.{HasRisenBy}
+use Rattle.worker_crew.specs.Crews.{names}
 use Rattle.worker_crew.specs.Starting.{Shared}
 use Rattle.worker_crew.proofs.crew.starting.start_each.Given as goal
 
