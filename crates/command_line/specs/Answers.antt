@@ -1,9 +1,7 @@
--- What reading words may answer: what they ask for, or at any time that memory ran out.
+-- What reading words may answer: what they ask for, or that memory was refused.
 use Rattle.std.specs.Prelude.{◌≡◌, ◌≤◌, ℕ, true, List, Option, Some, None, IfSome, Result, Ok}
-use Rattle.std.specs.Prelude.{Err, IfOk}
-use Rattle.std.specs.declared.alloc.AllocError.{AllocError}
-use Rattle.clap.specs.Words.{App, Text, app_of, found_of, rows_of}
-use Rattle.clap.specs.declared.builder.command.Command.{Command}
+use Rattle.std.specs.Prelude.{Err}
+use Rattle.clap.specs.Words.{App, Text, found_of, rows_of}
 use Rattle.clap.specs.declared.parser.matches.ArgMatches.{ArgMatches}
 use Rattle.command_line.specs.declared.task.Task.{Task}
 use Rattle.command_line.specs.declared.task.Task.TheVariants.{Sim, Drill, Serve, Load}
@@ -18,6 +16,15 @@ use Rattle.command_line.specs.Words.{LoadWords, ServeWords}
 abbrev pub IsNone : {A : Type 0} → WordsError → Option A → Type 0
 IsNone Usage said = said ≡ None
 IsNone NoMemory said = Unit {0}
+
+-- how often memory was refused at least: once where words ask for nothing for want of it
+abbrev pub lacks_by : WordsError → ℕ
+lacks_by Usage = 0
+lacks_by NoMemory = 1
+
+abbrev pub lacks : {A : Type 0} → Result A WordsError → ℕ
+lacks (Ok value) = 0
+lacks (Err error) = lacks_by error
 
 -- what was read is what the words say
 abbrev pub Reads : {A : Type 0} → Result A WordsError → Option A → Type 0
@@ -59,10 +66,6 @@ IsInRange (Drill seed calls) =
     (seed ≤ 9223372036854775807) × (1 ≤ calls) × (calls ≤ 10000)
 IsInRange (Serve words) = IsServeInRange words
 IsInRange (Load words) = IsLoadInRange words
-
--- a command for which there was memory is this one
-unfoldable pub IsMade : Result Command AllocError → App → Type 0
-IsMade made app = IfOk made (λ command. app_of command ≡ app)
 
 abbrev pub Takes : Result ArgMatches WordsError → App → List Text → Type 0
 Takes (Ok found) row words = taken row words ≡ Some (rows_of (found_of found))

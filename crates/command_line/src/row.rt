@@ -1,22 +1,24 @@
 //! The simple commands of the subcommands, by the kit's `clap`.
-ghost use Rattle.std.specs.Prelude.{◌≡◌, ◌≢◌, IfOk, map, true, false};
+ghost use Rattle.std.specs.Prelude.{◌≡◌, ◌↔◌, IfOk, map, true, false};
 ghost use Rattle.std.specs.String.{string_bytes};
-ghost use Rattle.clap.specs.Words.{App, Rule, app_of, is_simple_and_free, rule_of, with_rule};
+ghost use Rattle.clap.specs.Words.{app_of, is_simple_and_free, rule_of, with_rule};
 ghost use Rattle.clap.specs.declared.error.kind.ErrorKind.TheVariants.{OutOfMemory};
-ghost use Rattle.command_line.specs.Answers.{IsMade, Takes};
+ghost use Rattle.command_line.specs.Answers.{Takes, lacks, lacks_by};
 ghost use Rattle.command_line.specs.Rows.{audit_row, drill_row, flag, load_row, named, needed};
 ghost use Rattle.command_line.specs.Rows.{optional, positional, row, serve_row, sim_row};
 ghost use Rattle.command_line.specs.Rows.{with_call, with_life, with_waiting, with_way};
 ghost use Rattle.command_line.specs.Rows.{with_workers};
+ghost use Rattle.memory_count.specs.Faults.{HasCause, HasRisenBy};
 
 use crate::forms::{AUDIT, DRILL, LOAD, SERVE, SIM};
 use crate::task::WordsError;
 use clap::error::ErrorKind;
 use clap::{Arg, ArgAction, ArgMatches, Command};
-use std::alloc::{AllocError, Global};
+use memory_count::{Memory, NoMemory};
+use std::alloc::Global;
 
 /// A command, or that there was no memory for one of its arguments.
-pub type Made<'a> = Result<Command<'a>, AllocError>;
+pub type Made<'a> = Result<Command<'a>, NoMemory>;
 
 /// An argument without a name, that has to be given.
 fn positional<'a>(alloc: Global, id: &'a str) -> Arg<'a>
@@ -71,56 +73,75 @@ fn row<'a>(alloc: Global, name: &'a str, words: &'a str) -> Command<'a>
 }
 
 /// The command with one argument more.
-#[tactic(auto, unfolding(crate::specs::Answers::IsMade))]
-fn add<'a>(command: Made<'a>, arg: Arg<'a>) -> Made<'a>
+fn add<'a>(memory: &mut Memory, command: Command<'a>, arg: Arg<'a>) -> Made<'a>
     requires { arg.global ≡ false }
-    ensures { (app : App) (rule : Rule) → rule_of arg.entry ≡ rule → IsMade command.entry app
-        → IsMade result (with_rule app rule) }
+    ensures added { IfOk result (λ made. app_of made
+        ≡ with_rule (app_of command.entry) (rule_of arg.entry)) }
+    ensures cause { HasCause memory.old memory.new result }
 {
-    let command = command?;
-    let command = command.arg(arg)?;
-    Ok(command)
+    let added = command.arg(arg);
+    memory.of(added)
 }
 
-fn add_positional<'a>(alloc: Global, command: Made<'a>, id: &'a str) -> Made<'a>
-    ensures { (app : App) → IsMade command.entry app
-        → IsMade result (with_rule app (positional id.entry.now)) }
+fn add_positional<'a>(memory: &mut Memory, command: Command<'a>, id: &'a str) -> Made<'a>
+    ensures added { IfOk result (λ made. app_of made
+        ≡ with_rule (app_of command.entry) (positional id.entry.now)) }
+    ensures cause { HasCause memory.old memory.new result }
 {
-    add(command, positional(alloc, id))
+    let arg = positional(memory.alloc(), id);
+    add(memory, command, arg)
 }
 
-fn add_named<'a>(alloc: Global, command: Made<'a>, name: &'a str, value: &'a str) -> Made<'a>
-    ensures { (app : App) → IsMade command.entry app
-        → IsMade result (with_rule app (named name.entry.now)) }
+fn add_named<'a>(
+    memory: &mut Memory,
+    command: Command<'a>,
+    name: &'a str,
+    value: &'a str,
+) -> Made<'a>
+    ensures added { IfOk result (λ made. app_of made
+        ≡ with_rule (app_of command.entry) (named name.entry.now)) }
+    ensures cause { HasCause memory.old memory.new result }
 {
-    add(command, named(alloc, name, value))
+    let arg = named(memory.alloc(), name, value);
+    add(memory, command, arg)
 }
 
-fn add_needed<'a>(alloc: Global, command: Made<'a>, name: &'a str, value: &'a str) -> Made<'a>
-    ensures { (app : App) → IsMade command.entry app
-        → IsMade result (with_rule app (needed name.entry.now)) }
+fn add_needed<'a>(
+    memory: &mut Memory,
+    command: Command<'a>,
+    name: &'a str,
+    value: &'a str,
+) -> Made<'a>
+    ensures added { IfOk result (λ made. app_of made
+        ≡ with_rule (app_of command.entry) (needed name.entry.now)) }
+    ensures cause { HasCause memory.old memory.new result }
 {
-    add(command, needed(alloc, name, value))
+    let arg = needed(memory.alloc(), name, value);
+    add(memory, command, arg)
 }
 
 fn add_optional<'a>(
-    alloc: Global,
-    command: Made<'a>,
+    memory: &mut Memory,
+    command: Command<'a>,
     name: &'a str,
     value: &'a str,
     default: &'a str,
 ) -> Made<'a>
-    ensures { (app : App) → IsMade command.entry app
-        → IsMade result (with_rule app (optional name.entry.now default.entry.now)) }
+    ensures added { IfOk result (λ made. app_of made
+        ≡ with_rule (app_of command.entry) (optional name.entry.now default.entry.now)) }
+    ensures cause { HasCause memory.old memory.new result }
 {
-    add(command, optional(alloc, name, value, default))
+    let arg = optional(memory.alloc(), name, value, default);
+    add(memory, command, arg)
 }
 
-fn add_flag<'a>(alloc: Global, command: Made<'a>, name: &'a str) -> Made<'a>
-    ensures { (app : App) → IsMade command.entry app
-        → IsMade result (with_rule app (flag name.entry.now)) }
+fn add_flag<'a>(memory: &mut Memory, command: Command<'a>, name: &'a str) -> Made<'a>
+    ensures added { IfOk result (λ made. app_of made
+        ≡ with_rule (app_of command.entry) (flag name.entry.now)) }
+    ensures cause { HasCause memory.old memory.new result }
 {
-    add(command, flag(alloc, name))
+    let arg = flag(memory.alloc(), name);
+    add(memory, command, arg)
 }
 
 /// `sim`.
@@ -138,96 +159,114 @@ pub fn audit<'a>(alloc: Global) -> Command<'a>
 }
 
 /// `drill SEED CALLS`.
-pub fn drill<'a>(alloc: Global) -> Made<'a>
-    ensures { IfOk result (λ command. app_of command ≡ drill_row) }
+pub fn drill<'a>(memory: &mut Memory) -> Made<'a>
+    ensures row { IfOk result (λ command. app_of command ≡ drill_row) }
+    ensures cause { HasCause memory.old memory.new result }
 {
-    let seeded = add_positional(alloc, Ok(row(alloc, "drill", DRILL)), "SEED");
-    add_positional(alloc, seeded, "CALLS")
+    let empty = row(memory.alloc(), "drill", DRILL);
+    let seeded = add_positional(memory, empty, "SEED")?;
+    add_positional(memory, seeded, "CALLS")
 }
 
 /// The options that say how a run waits.
-fn add_waiting<'a>(alloc: Global, command: Made<'a>) -> Made<'a>
-    ensures { (app : App) → IsMade command.entry app → IsMade result (with_waiting app) }
+fn add_waiting<'a>(memory: &mut Memory, command: Command<'a>) -> Made<'a>
+    ensures added { IfOk result (λ made. app_of made ≡ with_waiting (app_of command.entry)) }
+    ensures cause { HasCause memory.old memory.new result }
 {
-    let timed = add_optional(alloc, command, "timeout", "MICROSECONDS", "5000");
-    add_flag(alloc, timed, "spin")
+    let timed = add_optional(memory, command, "timeout", "MICROSECONDS", "5000")?;
+    add_flag(memory, timed, "spin")
 }
 
 /// The option that says which life a run's node has.
-fn add_life<'a>(alloc: Global, command: Made<'a>) -> Made<'a>
-    ensures { (app : App) → IsMade command.entry app → IsMade result (with_life app) }
+fn add_life<'a>(memory: &mut Memory, command: Command<'a>) -> Made<'a>
+    ensures added { IfOk result (λ made. app_of made ≡ with_life (app_of command.entry)) }
+    ensures cause { HasCause memory.old memory.new result }
 {
-    add_optional(alloc, command, "life", "L", "1")
+    add_optional(memory, command, "life", "L", "1")
 }
 
 /// The options that say who works the jobs of `serve`.
-fn add_workers<'a>(alloc: Global, command: Made<'a>) -> Made<'a>
-    ensures { (app : App) → IsMade command.entry app → IsMade result (with_workers app) }
+fn add_workers<'a>(memory: &mut Memory, command: Command<'a>) -> Made<'a>
+    ensures added { IfOk result (λ made. app_of made ≡ with_workers (app_of command.entry)) }
+    ensures cause { HasCause memory.old memory.new result }
 {
-    let worked = add_optional(alloc, command, "workers", "W", "0");
-    add_named(alloc, worked, "relay", "ADDR")
+    let worked = add_optional(memory, command, "workers", "W", "0")?;
+    add_named(memory, worked, "relay", "ADDR")
 }
 
 /// `serve ADDR --turns T [--workers W] [--relay ADDR] [--life L] [--timeout MICROSECONDS]
 /// [--spin]`.
-pub fn serve<'a>(alloc: Global) -> Made<'a>
-    ensures { IfOk result (λ command. app_of command ≡ serve_row) }
+pub fn serve<'a>(memory: &mut Memory) -> Made<'a>
+    ensures row { IfOk result (λ command. app_of command ≡ serve_row) }
+    ensures cause { HasCause memory.old memory.new result }
 {
-    let addressed = add_positional(alloc, Ok(row(alloc, "serve", SERVE)), "ADDR");
-    let turning = add_needed(alloc, addressed, "turns", "T");
-    let worked = add_workers(alloc, turning);
-    let living = add_life(alloc, worked);
-    add_waiting(alloc, living)
+    let empty = row(memory.alloc(), "serve", SERVE);
+    let addressed = add_positional(memory, empty, "ADDR")?;
+    let turning = add_needed(memory, addressed, "turns", "T")?;
+    let worked = add_workers(memory, turning)?;
+    let living = add_life(memory, worked)?;
+    add_waiting(memory, living)
 }
 
 /// The arguments that say what a call of `load` is.
-fn add_call<'a>(alloc: Global, command: Made<'a>) -> Made<'a>
-    ensures { (app : App) → IsMade command.entry app → IsMade result (with_call app) }
+fn add_call<'a>(memory: &mut Memory, command: Command<'a>) -> Made<'a>
+    ensures added { IfOk result (λ made. app_of made ≡ with_call (app_of command.entry)) }
+    ensures cause { HasCause memory.old memory.new result }
 {
-    let counted = add_needed(alloc, command, "calls", "N");
-    let typed = add_needed(alloc, counted, "type", "Y");
-    let sized = add_needed(alloc, typed, "size", "Z");
-    add_needed(alloc, sized, "seed", "G")
+    let counted = add_needed(memory, command, "calls", "N")?;
+    let typed = add_needed(memory, counted, "type", "Y")?;
+    let sized = add_needed(memory, typed, "size", "Z")?;
+    add_needed(memory, sized, "seed", "G")
 }
 
 /// The options that say how the packets of `load` go.
-fn add_way<'a>(alloc: Global, command: Made<'a>) -> Made<'a>
-    ensures { (app : App) → IsMade command.entry app → IsMade result (with_way app) }
+fn add_way<'a>(memory: &mut Memory, command: Command<'a>) -> Made<'a>
+    ensures added { IfOk result (λ made. app_of made ≡ with_way (app_of command.entry)) }
+    ensures cause { HasCause memory.old memory.new result }
 {
-    let bound = add_optional(alloc, command, "bind", "ADDR", "127.0.0.1:0");
-    add_named(alloc, bound, "frame", "BYTES")
+    let bound = add_optional(memory, command, "bind", "ADDR", "127.0.0.1:0")?;
+    add_named(memory, bound, "frame", "BYTES")
 }
 
 /// `load ADDR --calls N --type Y --size Z --seed G --turns T [--bind ADDR] [--frame BYTES]
 /// [--life L] [--timeout MICROSECONDS] [--spin]`.
-pub fn load<'a>(alloc: Global) -> Made<'a>
-    ensures { IfOk result (λ command. app_of command ≡ load_row) }
+pub fn load<'a>(memory: &mut Memory) -> Made<'a>
+    ensures row { IfOk result (λ command. app_of command ≡ load_row) }
+    ensures cause { HasCause memory.old memory.new result }
 {
-    let addressed = add_positional(alloc, Ok(row(alloc, "load", LOAD)), "ADDR");
-    let asked = add_call(alloc, addressed);
-    let turning = add_needed(alloc, asked, "turns", "T");
-    let sent = add_way(alloc, turning);
-    let living = add_life(alloc, sent);
-    add_waiting(alloc, living)
+    let empty = row(memory.alloc(), "load", LOAD);
+    let addressed = add_positional(memory, empty, "ADDR")?;
+    let asked = add_call(memory, addressed)?;
+    let turning = add_needed(memory, asked, "turns", "T")?;
+    let sent = add_way(memory, turning)?;
+    let living = add_life(memory, sent)?;
+    add_waiting(memory, living)
 }
 
-/// What words that a command doesn't take are, by the kind of its error.
-fn refusal(kind: ErrorKind) -> WordsError
-    ensures { result ≡ WordsError.Usage → kind ≢ OutOfMemory }
+/// What words that a command doesn't take are, by the kind of its error: `clap` tells by a kind that
+/// there was no memory.
+fn refusal(memory: &mut Memory, kind: ErrorKind) -> WordsError
+    ensures kind { (result ≡ WordsError.NoMemory) ↔ (kind ≡ OutOfMemory) }
+    ensures cause { HasRisenBy (lacks_by result) memory.old memory.new }
 {
     match kind {
-        ErrorKind::OutOfMemory => WordsError::NoMemory,
+        ErrorKind::OutOfMemory => WordsError::from(memory.told()),
         _ => WordsError::Usage,
     }
 }
 
 /// What a command makes of the words.
-pub fn take<'a>(command: Command<'a>, words: &'a [String]) -> Result<ArgMatches<'a>, WordsError>
+pub fn take<'a>(
+    memory: &mut Memory,
+    command: Command<'a>,
+    words: &'a [String],
+) -> Result<ArgMatches<'a>, WordsError>
     requires { is_simple_and_free (app_of command) ≡ true }
-    ensures { Takes result (app_of command.entry) (map string_bytes words.entry.now) }
+    ensures takes { Takes result (app_of command.entry) (map string_bytes words.entry.now) }
+    ensures cause { HasRisenBy (lacks result) memory.old memory.new }
 {
     match command.try_get_matches_from(words) {
         Ok(matches) => Ok(matches),
-        Err(error) => Err(refusal(error.kind())),
+        Err(error) => Err(refusal(memory, error.kind())),
     }
 }

@@ -1,6 +1,6 @@
 //! What the words of a command line ask for.
+use memory_count::NoMemory;
 use packet_header::Life;
-use std::alloc::AllocError;
 use std::error::Error;
 use std::fmt;
 use std::marker::Model;
@@ -139,13 +139,13 @@ impl fmt::Display for WordsError {
 
 impl Error for WordsError {}
 
-impl From<AllocError> for WordsError {
+impl From<NoMemory> for WordsError {
     ghost use Rattle.std.specs.Prelude.{◌≡◌};
     ghost use Rattle.command_line.specs.declared.task.WordsError.TheVariants.{NoMemory};
 
     ghost from_gives = { λ a e. e ≡ NoMemory };
 
-    fn from(_: AllocError) -> Self {
+    fn from(_: NoMemory) -> Self {
         WordsError::NoMemory
     }
 }

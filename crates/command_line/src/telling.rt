@@ -1,13 +1,15 @@
 //! What a user reads where the words are not in the grammar.
+ghost use Rattle.memory_count.specs.Faults.{HasReason};
+
 use crate::forms::{AUDIT, DRILL, FORMS, LOAD, SERVE, SIM};
 use crate::number::{Number, TYPES, request_type, workers_of};
-use crate::row::{Made, audit, drill, load, serve, sim};
+use crate::row::{audit, drill, load, serve, sim};
 use crate::text::text_at;
 use crate::words::{
     CALLS, CALLS_OF_DRILL, FRAME, LIFE, SEED, SEED_OF_DRILL, SIZE, TIMEOUT, TURNS, WORKERS,
 };
-use clap::{ArgMatches, Error};
-use std::alloc::{AllocError, Global};
+use clap::{ArgMatches, Command, Error};
+use memory_count::{Memory, NoMemory};
 
 const NUMBERS_OF_DRILL: [Number; 2] = [SEED_OF_DRILL, CALLS_OF_DRILL];
 
@@ -15,29 +17,43 @@ const NUMBERS_OF_SERVE: [Number; 4] = [TURNS, WORKERS, LIFE, TIMEOUT];
 
 const NUMBERS_OF_LOAD: [Number; 7] = [CALLS, SIZE, SEED, TURNS, FRAME, LIFE, TIMEOUT];
 
+/// Puts a part at the end of a text.
+fn add(memory: &mut Memory, text: &mut String, part: &str) -> Result<(), NoMemory>
+    ensures cause { HasReason memory.old memory.new result }
+{
+    let pushed = text.push_str(part);
+    memory.of(pushed)
+}
+
 /// What `clap` says of words, in one line: its lines up to an empty one.
-fn first_paragraph(alloc: Global, error: &Error) -> Result<String, AllocError> {
-    let text = error.to_string(alloc)?;
+fn first_paragraph(memory: &mut Memory, error: &Error) -> Result<String, NoMemory>
+    ensures cause { HasReason memory.old memory.new result }
+{
+    let text = error.to_string(memory.alloc());
+    let text = memory.of(text)?;
     let whole = text.as_str();
     let front = whole.strip_prefix("error: ").unwrap_or(whole);
-    let mut line = String::new(alloc);
-    for part in front.lines().take_while(|part| !part.is_empty()) {
+    let mut line = String::new(memory.alloc());
+    'parts: for part in front.lines().take_while(|part| !part.is_empty()) {
         if !line.is_empty() {
-            line.push_str(" ")?;
+            add(memory, &mut line, " ")?;
         }
-        line.push_str(part.trim())?;
+        add(memory, &mut line, part.trim())?;
     }
     Ok(line)
 }
 
 /// The request types that `load` may ask, one after another.
-fn known_types(alloc: Global) -> Result<String, AllocError> {
-    let mut text = String::new(alloc);
-    for known in TYPES {
+fn known_types(memory: &mut Memory) -> Result<String, NoMemory>
+    ensures cause { HasReason memory.old memory.new result }
+{
+    let mut text = String::new(memory.alloc());
+    'types: for known in TYPES {
         if !text.is_empty() {
-            text.push_str(", ")?;
+            add(memory, &mut text, ", ")?;
         }
-        write!(text, "{known}")?;
+        let written = write!(text, "{known}");
+        memory.of(written)?;
     }
     Ok(text)
 }
@@ -52,75 +68,99 @@ fn is_wrong(number: &Number, matches: &ArgMatches<'_>) -> bool {
 
 /// What is wrong with a number.
 fn wrong_number(
-    alloc: Global,
+    memory: &mut Memory,
     matches: &ArgMatches<'_>,
     number: &Number,
-) -> Result<String, AllocError> {
+) -> Result<String, NoMemory>
+    ensures cause { HasReason memory.old memory.new result }
+{
     let text = text_at(matches, number.id).unwrap_or("");
     let shown = number.shown;
     let low = number.low;
     let high = number.high;
-    format!(in alloc; "{shown} is a number from {low} to {high}, not {text:?}")
+    let alloc = memory.alloc();
+    memory.of(format!(in alloc; "{shown} is a number from {low} to {high}, not {text:?}"))
 }
 
 /// That a request type is none of its list.
-fn wrong_type(alloc: Global, text: &str) -> Result<String, AllocError> {
-    let types = known_types(alloc)?;
-    format!(in alloc; "--type is one of {types}, not {text:?}")
+fn wrong_type(memory: &mut Memory, text: &str) -> Result<String, NoMemory>
+    ensures cause { HasReason memory.old memory.new result }
+{
+    let types = known_types(memory)?;
+    let alloc = memory.alloc();
+    memory.of(format!(in alloc; "--type is one of {types}, not {text:?}"))
+}
+
+/// A copy of a text.
+fn copied(memory: &mut Memory, text: &str) -> Result<String, NoMemory>
+    ensures cause { HasReason memory.old memory.new result }
+{
+    let copy = String::from_str(memory.alloc(), text);
+    memory.of(copy)
 }
 
 /// Which number is none of its range, that the request type is none of its list, or that threads
 /// are to work jobs of which another server is asked.
 fn wrong_value(
-    alloc: Global,
+    memory: &mut Memory,
     matches: &ArgMatches<'_>,
     numbers: &[Number],
-) -> Result<String, AllocError> {
+) -> Result<String, NoMemory>
+    ensures cause { HasReason memory.old memory.new result }
+{
     for number in numbers {
         if is_wrong(number, matches) {
-            return wrong_number(alloc, matches, number);
+            return wrong_number(memory, matches, number);
         }
     }
     let has_relay = text_at(matches, "relay").is_some();
     match text_at(matches, "type") {
-        Some(text) if request_type(matches).is_none() => wrong_type(alloc, text),
+        Some(text) if request_type(matches).is_none() => wrong_type(memory, text),
         None if has_relay && workers_of(matches).is_none() => {
-            String::from_str(alloc, "--workers is 0 where --relay is given")
+            copied(memory, "--workers is 0 where --relay is given")
         }
-        _ => String::from_str(alloc, "out of memory"),
+        _ => copied(memory, "out of memory"),
     }
 }
 
 /// What is wrong with the words of a subcommand.
 fn wrong_in<'a>(
-    alloc: Global,
-    command: Made<'a>,
+    memory: &mut Memory,
+    command: Command<'a>,
     words: &'a [String],
     numbers: &[Number],
-) -> Result<String, AllocError> {
-    match command?.try_get_matches_from(words) {
-        Ok(matches) => wrong_value(alloc, &matches, numbers),
-        Err(error) => first_paragraph(alloc, &error),
+) -> Result<String, NoMemory>
+    ensures cause { HasReason memory.old memory.new result }
+{
+    match command.try_get_matches_from(words) {
+        Ok(matches) => wrong_value(memory, &matches, numbers),
+        Err(error) => first_paragraph(memory, &error),
     }
 }
 
 /// The same, and how it is called.
 fn wrong_words<'a>(
-    alloc: Global,
-    command: Made<'a>,
+    memory: &mut Memory,
+    command: Command<'a>,
     call: &str,
     words: &'a [String],
     numbers: &[Number],
-) -> Result<String, AllocError> {
-    let wrong = wrong_in(alloc, command, words, numbers)?;
-    format!(in alloc; "{wrong}; usage: {call}")
+) -> Result<String, NoMemory>
+    ensures cause { HasReason memory.old memory.new result }
+{
+    let wrong = wrong_in(memory, command, words, numbers)?;
+    let alloc = memory.alloc();
+    memory.of(format!(in alloc; "{wrong}; usage: {call}"))
 }
 
 /// How each subcommand is called, and what it does, a line each.
-pub fn usage(alloc: Global) -> Result<String, AllocError> {
-    let mut text = String::from_str(alloc, "usage:")?;
-    for (words, does) in FORMS {
-        write!(text, "\n  {words}\n      {does}")?;
+pub fn usage(memory: &mut Memory) -> Result<String, NoMemory>
+    ensures cause { HasReason memory.old memory.new result }
+{
+    let mut text = copied(memory, "usage:")?;
+    'forms: for (words, does) in FORMS {
+        let written = write!(text, "\n  {words}\n      {does}");
+        memory.of(written)?;
     }
     Ok(text)
 }
@@ -135,25 +175,50 @@ fn ask_for_help(words: &[String]) -> bool {
     }
 }
 
-/// What to tell of words that are not in the grammar: the word that is wrong and how its subcommand
-/// is called, in one line; how each is called, where the words ask for help or are none.
-pub fn complaint(alloc: Global, words: &[String]) -> Result<String, AllocError> {
-    if ask_for_help(words) {
-        return usage(alloc);
-    }
-    let Some((name, rest)) = words.split_first() else {
-        return usage(alloc);
-    };
-    match name.as_str() {
-        "sim" => wrong_words(alloc, Ok(sim(alloc)), SIM, rest, &[]),
-        "drill" => wrong_words(alloc, drill(alloc), DRILL, rest, &NUMBERS_OF_DRILL),
-        "serve" => wrong_words(alloc, serve(alloc), SERVE, rest, &NUMBERS_OF_SERVE),
-        "load" => wrong_words(alloc, load(alloc), LOAD, rest, &NUMBERS_OF_LOAD),
-        "audit" => wrong_words(alloc, Ok(audit(alloc)), AUDIT, rest, &[]),
+/// What is wrong with the words after the name of a subcommand.
+fn wrong_after(memory: &mut Memory, name: &str, rest: &[String]) -> Result<String, NoMemory>
+    ensures cause { HasReason memory.old memory.new result }
+{
+    match name {
+        "sim" => {
+            let command = sim(memory.alloc());
+            wrong_words(memory, command, SIM, rest, &[])
+        }
+        "drill" => {
+            let command = drill(memory)?;
+            wrong_words(memory, command, DRILL, rest, &NUMBERS_OF_DRILL)
+        }
+        "serve" => {
+            let command = serve(memory)?;
+            wrong_words(memory, command, SERVE, rest, &NUMBERS_OF_SERVE)
+        }
+        "load" => {
+            let command = load(memory)?;
+            wrong_words(memory, command, LOAD, rest, &NUMBERS_OF_LOAD)
+        }
+        "audit" => {
+            let command = audit(memory.alloc());
+            wrong_words(memory, command, AUDIT, rest, &[])
+        }
         other => {
-            format!(in alloc;
+            let alloc = memory.alloc();
+            memory.of(format!(in alloc;
                 "{other:?} is no subcommand; those are sim, drill, serve, load and audit"
-            )
+            ))
         }
     }
+}
+
+/// What to tell of words that are not in the grammar: the word that is wrong and how its subcommand
+/// is called, in one line; how each is called, where the words ask for help or are none.
+pub fn complaint(memory: &mut Memory, words: &[String]) -> Result<String, NoMemory>
+    ensures cause { HasReason memory.old memory.new result }
+{
+    if ask_for_help(words) {
+        return usage(memory);
+    }
+    let Some((name, rest)) = words.split_first() else {
+        return usage(memory);
+    };
+    wrong_after(memory, name.as_str(), rest)
 }

@@ -2,9 +2,10 @@
 ghost use Rattle.std.specs.Prelude.{◌≡◌, option_map, IfOk};
 ghost use Rattle.std.specs.String.{string_bytes};
 ghost use Rattle.clap.specs.Words.{first_of, found_of, rows_of};
+ghost use Rattle.memory_count.specs.Faults.{HasCause};
 
 use clap::ArgMatches;
-use std::alloc::{AllocError, Global};
+use memory_count::{Memory, NoMemory};
 
 /// The text that is the value of an argument.
 pub fn text_at<'a>(matches: &ArgMatches<'a>, id: &str) -> Option<&'a str>
@@ -16,16 +17,17 @@ pub fn text_at<'a>(matches: &ArgMatches<'a>, id: &str) -> Option<&'a str>
 
 /// A copy of that text; None where the argument has none.
 pub fn copy_at(
-    alloc: Global,
+    memory: &mut Memory,
     matches: &ArgMatches<'_>,
     id: &str,
-) -> Result<Option<String>, AllocError>
-    ensures { IfOk result (λ copy. option_map (λ text. string_bytes text) copy
+) -> Result<Option<String>, NoMemory>
+    ensures copy { IfOk result (λ copy. option_map (λ text. string_bytes text) copy
         ≡ first_of id.now (rows_of (found_of matches.now))) }
+    ensures cause { HasCause memory.old memory.new result }
 {
     let Some(text) = text_at(matches, id) else {
         return Ok(None);
     };
-    let copy = String::from_str(alloc, text)?;
-    Ok(Some(copy))
+    let copy = String::from_str(memory.alloc(), text);
+    Ok(Some(memory.of(copy)?))
 }

@@ -2,10 +2,11 @@
 ghost use Rattle.std.specs.Prelude.{◌≡◌, codes, map, IfOk, IfSome};
 ghost use Rattle.std.specs.String.{string_bytes};
 ghost use Rattle.clap.specs.Words.{found_of, rows_of};
-ghost use Rattle.command_line.specs.Answers.{IsFrameInRange, IsInRange, Reads};
+ghost use Rattle.command_line.specs.Answers.{IsFrameInRange, IsInRange, Reads, lacks};
 ghost use Rattle.command_line.specs.Numbers.{some_number_at};
 ghost use Rattle.command_line.specs.Tasks.{audit_in, drill_in, load_in, serve_in, sim_in, task_of};
 ghost use Rattle.command_line.specs.Tasks.{drill_of_rows, load_of_rows, serve_of_rows};
+ghost use Rattle.memory_count.specs.Faults.{HasRisenBy};
 
 use crate::idle::idle_of;
 use crate::number::{MOST_THREADS, Number, request_type, workers_of};
@@ -14,8 +15,8 @@ use crate::task::{LoadSpec, ServeSpec, Task, WordsError};
 use crate::text::{copy_at, text_at};
 use clap::ArgMatches;
 use drill_maker::MOST_CALLS;
+use memory_count::Memory;
 use packet_header::{FIRST_LIFE, Life};
-use std::alloc::Global;
 
 /// SEED of `drill`.
 pub const SEED_OF_DRILL: Number = Number {
@@ -92,20 +93,24 @@ pub const FRAME: Number = Number {
 };
 
 #[tactic(auto, unfolding(crate::specs::Tasks::sim_in))]
-fn read_sim(alloc: Global, words: &[String]) -> Result<Task, WordsError>
+fn read_sim(memory: &mut Memory, words: &[String]) -> Result<Task, WordsError>
     ensures value { Reads result (sim_in (map string_bytes words.now)) }
     ensures range { IfOk result IsInRange }
+    ensures cause { HasRisenBy (lacks result) memory.old memory.new }
 {
-    take(sim(alloc), words)?;
+    let command = sim(memory.alloc());
+    take(memory, command, words)?;
     Ok(Task::Sim)
 }
 
 #[tactic(auto, unfolding(crate::specs::Tasks::audit_in))]
-fn read_audit(alloc: Global, words: &[String]) -> Result<Task, WordsError>
+fn read_audit(memory: &mut Memory, words: &[String]) -> Result<Task, WordsError>
     ensures value { Reads result (audit_in (map string_bytes words.now)) }
     ensures range { IfOk result IsInRange }
+    ensures cause { HasRisenBy (lacks result) memory.old memory.new }
 {
-    take(audit(alloc), words)?;
+    let command = audit(memory.alloc());
+    take(memory, command, words)?;
     Ok(Task::Audit)
 }
 
@@ -113,6 +118,7 @@ fn read_audit(alloc: Global, words: &[String]) -> Result<Task, WordsError>
 fn drill_of(matches: &ArgMatches<'_>) -> Result<Task, WordsError>
     ensures value { Reads result (drill_of_rows (rows_of (found_of matches.now))) }
     ensures range { IfOk result IsInRange }
+    ensures wants_none { lacks result ≡ 0 }
 {
     let seed = SEED_OF_DRILL.read(matches).ok_or(WordsError::Usage)?;
     let calls = CALLS_OF_DRILL.read(matches).ok_or(WordsError::Usage)? as u32;
@@ -120,18 +126,21 @@ fn drill_of(matches: &ArgMatches<'_>) -> Result<Task, WordsError>
 }
 
 #[tactic(auto, unfolding(crate::specs::Tasks::drill_in))]
-fn read_drill(alloc: Global, words: &[String]) -> Result<Task, WordsError>
+fn read_drill(memory: &mut Memory, words: &[String]) -> Result<Task, WordsError>
     ensures value { Reads result (drill_in (map string_bytes words.now)) }
     ensures range { IfOk result IsInRange }
+    ensures cause { HasRisenBy (lacks result) memory.old memory.new }
 {
-    let matches = take(drill(alloc)?, words)?;
+    let command = drill(memory)?;
+    let matches = take(memory, command, words)?;
     drill_of(&matches)
 }
 
 // What the words of `serve` ask for.
-fn serve_of(alloc: Global, matches: &ArgMatches<'_>) -> Result<Task, WordsError>
+fn serve_of(memory: &mut Memory, matches: &ArgMatches<'_>) -> Result<Task, WordsError>
     ensures value { Reads result (serve_of_rows (rows_of (found_of matches.now))) }
     ensures range { IfOk result IsInRange }
+    ensures cause { HasRisenBy (lacks result) memory.old memory.new }
 {
     let Some(addr) = text_at(matches, "ADDR") else {
         return Err(WordsError::Usage);
@@ -140,8 +149,9 @@ fn serve_of(alloc: Global, matches: &ArgMatches<'_>) -> Result<Task, WordsError>
     let workers = workers_of(matches).ok_or(WordsError::Usage)?;
     let life = LIFE.read(matches).ok_or(WordsError::Usage)? as u32;
     let timeout = TIMEOUT.read(matches).ok_or(WordsError::Usage)? as u32;
-    let relay = copy_at(alloc, matches, "relay")?;
-    let addr = String::from_str(alloc, addr)?;
+    let relay = copy_at(memory, matches, "relay")?;
+    let addr = String::from_str(memory.alloc(), addr);
+    let addr = memory.of(addr)?;
     Ok(Task::Serve(ServeSpec {
         addr,
         turns,
@@ -154,12 +164,14 @@ fn serve_of(alloc: Global, matches: &ArgMatches<'_>) -> Result<Task, WordsError>
 }
 
 #[tactic(auto, unfolding(crate::specs::Tasks::serve_in))]
-fn read_serve(alloc: Global, words: &[String]) -> Result<Task, WordsError>
+fn read_serve(memory: &mut Memory, words: &[String]) -> Result<Task, WordsError>
     ensures value { Reads result (serve_in (map string_bytes words.now)) }
     ensures range { IfOk result IsInRange }
+    ensures cause { HasRisenBy (lacks result) memory.old memory.new }
 {
-    let matches = take(serve(alloc)?, words)?;
-    serve_of(alloc, &matches)
+    let command = serve(memory)?;
+    let matches = take(memory, command, words)?;
+    serve_of(memory, &matches)
 }
 
 // The frame that the words of `load` give, none where they leave it out; None where they give one
@@ -177,9 +189,10 @@ fn frame_of(matches: &ArgMatches<'_>) -> Option<Option<u32>>
 }
 
 // What the words of `load` ask for.
-fn load_of(alloc: Global, matches: &ArgMatches<'_>) -> Result<Task, WordsError>
+fn load_of(memory: &mut Memory, matches: &ArgMatches<'_>) -> Result<Task, WordsError>
     ensures value { Reads result (load_of_rows (rows_of (found_of matches.now))) }
     ensures range { IfOk result IsInRange }
+    ensures cause { HasRisenBy (lacks result) memory.old memory.new }
 {
     let Some(addr) = text_at(matches, "ADDR") else {
         return Err(WordsError::Usage);
@@ -195,8 +208,10 @@ fn load_of(alloc: Global, matches: &ArgMatches<'_>) -> Result<Task, WordsError>
     let frame = frame_of(matches).ok_or(WordsError::Usage)?;
     let life = LIFE.read(matches).ok_or(WordsError::Usage)? as u32;
     let timeout = TIMEOUT.read(matches).ok_or(WordsError::Usage)? as u32;
-    let bind = String::from_str(alloc, bind)?;
-    let addr = String::from_str(alloc, addr)?;
+    let bind = String::from_str(memory.alloc(), bind);
+    let bind = memory.of(bind)?;
+    let addr = String::from_str(memory.alloc(), addr);
+    let addr = memory.of(addr)?;
     Ok(Task::Load(LoadSpec {
         addr,
         calls,
@@ -213,29 +228,32 @@ fn load_of(alloc: Global, matches: &ArgMatches<'_>) -> Result<Task, WordsError>
 }
 
 #[tactic(auto, unfolding(crate::specs::Tasks::load_in))]
-fn read_load(alloc: Global, words: &[String]) -> Result<Task, WordsError>
+fn read_load(memory: &mut Memory, words: &[String]) -> Result<Task, WordsError>
     ensures value { Reads result (load_in (map string_bytes words.now)) }
     ensures range { IfOk result IsInRange }
+    ensures cause { HasRisenBy (lacks result) memory.old memory.new }
 {
-    let matches = take(load(alloc)?, words)?;
-    load_of(alloc, &matches)
+    let command = load(memory)?;
+    let matches = take(memory, command, words)?;
+    load_of(memory, &matches)
 }
 
 /// Reads the words after the program's name.
 #[tactic(auto, unfolding(crate::specs::Tasks::task_of))]
-pub fn read_words(alloc: Global, words: &[String]) -> Result<Task, WordsError>
+pub fn read_words(memory: &mut Memory, words: &[String]) -> Result<Task, WordsError>
     ensures value { Reads result (task_of (map string_bytes words.now)) }
     ensures range { IfOk result IsInRange }
+    ensures cause { HasRisenBy (lacks result) memory.old memory.new }
 {
     let Some((name, rest)) = words.split_first() else {
         return Err(WordsError::Usage);
     };
     match name.as_str() {
-        "sim" => read_sim(alloc, rest),
-        "drill" => read_drill(alloc, rest),
-        "serve" => read_serve(alloc, rest),
-        "load" => read_load(alloc, rest),
-        "audit" => read_audit(alloc, rest),
+        "sim" => read_sim(memory, rest),
+        "drill" => read_drill(memory, rest),
+        "serve" => read_serve(memory, rest),
+        "load" => read_load(memory, rest),
+        "audit" => read_audit(memory, rest),
         _ => Err(WordsError::Usage),
     }
 }

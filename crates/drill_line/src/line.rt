@@ -3,9 +3,10 @@ ghost use Rattle.std.specs.Prelude.{◌≡◌, ◌++◌, IfOk, OnOk};
 ghost use Rattle.std.specs.Fmt.{decimal};
 ghost use Rattle.std.specs.String.{string_bytes};
 ghost use Rattle.drill_line.specs.DrillLine.{count_of, counts_of, is_of, line_of};
+ghost use Rattle.memory_count.specs.Faults.{HasCause};
 
+use memory_count::{Memory, NoMemory};
 use rpc_base::{Event, Fact};
-use std::alloc::{AllocError, Global};
 
 /// What a drill counts beside all facts.
 #[derive(Clone, Copy, Debug, PartialEq, Eq)]
@@ -69,33 +70,38 @@ pub fn count(facts: &[Fact]) -> Counts
 }
 
 /// Puts a word and a number at the end of a text.
-fn add(text: &mut String, word: &str, number: u64) -> Result<(), AllocError>
-    ensures { OnOk result (string_bytes text.new ≡ string_bytes text.old ++ word.now
+fn add(memory: &mut Memory, text: &mut String, word: &str, number: u64) -> Result<(), NoMemory>
+    ensures added { OnOk result (string_bytes text.new ≡ string_bytes text.old ++ word.now
         ++ decimal number) }
+    ensures cause { HasCause memory.old memory.new result }
 {
-    text.push_str(word)?;
-    write!(text, "{number}")
+    let pushed = text.push_str(word);
+    memory.of(pushed)?;
+    let written = write!(text, "{number}");
+    memory.of(written)
 }
 
-/// The line that tells of a drill. `AllocError` comes only where there is no memory for it.
+/// The line that tells of a drill.
 #[tactic(auto, unfolding(crate::specs::DrillLine::line_of))]
 pub fn drill_line(
-    alloc: Global,
+    memory: &mut Memory,
     seed: u64,
     calls: u32,
     counts: Counts,
-) -> Result<String, AllocError>
-    ensures { IfOk result (λ line. string_bytes line ≡ line_of seed calls counts) }
+) -> Result<String, NoMemory>
+    ensures line { IfOk result (λ line. string_bytes line ≡ line_of seed calls counts) }
+    ensures cause { HasCause memory.old memory.new result }
 {
-    let mut line = String::new(alloc);
-    add(&mut line, "drill seed ", seed)?;
-    add(&mut line, " calls ", u64::from(calls))?;
-    add(&mut line, " ran ", counts.ran as u64)?;
-    add(&mut line, " ok ", counts.ok as u64)?;
-    add(&mut line, " facts ", counts.facts as u64)?;
-    add(&mut line, " rolled ", counts.rolled as u64)?;
-    add(&mut line, " dropped ", counts.dropped as u64)?;
-    add(&mut line, " overflowed ", counts.overflowed as u64)?;
-    line.push_str("\n")?;
+    let mut line = String::new(memory.alloc());
+    add(memory, &mut line, "drill seed ", seed)?;
+    add(memory, &mut line, " calls ", u64::from(calls))?;
+    add(memory, &mut line, " ran ", counts.ran as u64)?;
+    add(memory, &mut line, " ok ", counts.ok as u64)?;
+    add(memory, &mut line, " facts ", counts.facts as u64)?;
+    add(memory, &mut line, " rolled ", counts.rolled as u64)?;
+    add(memory, &mut line, " dropped ", counts.dropped as u64)?;
+    add(memory, &mut line, " overflowed ", counts.overflowed as u64)?;
+    let ended = line.push_str("\n");
+    memory.of(ended)?;
     Ok(line)
 }

@@ -2,10 +2,11 @@
 ghost use Rattle.std.specs.Prelude.{◌≡◌, ◌+◌, ◌≤◌, [], ◌∷◌, ◌++◌, All, length, IfOk, OnOk, OnErr};
 ghost use Rattle.drill_maker.specs.Draft.{IsDrilled, KeepsSessions};
 ghost use Rattle.drill_maker.specs.Drill.{nodes, numbered};
+ghost use Rattle.memory_count.specs.Faults.{HasCause};
 
-use rpc_base::NoMemory;
+use memory_count::{Memory, NoMemory};
 use script_grammar::{Command, Line, MOST_LINES, Script};
-use std::alloc::Global;
+use std::alloc::AllocError;
 use std::marker::Model;
 
 /// The line of the first command.
@@ -42,28 +43,30 @@ fn node_line(number: u32) -> Line
 }
 
 impl Draft {
-    /// Begins with the three nodes. `NoMemory` comes only where there is no memory for them.
-    pub fn new(alloc: Global) -> Result<Draft, NoMemory>
-        ensures { IfOk result (λ draft. draft ≡ nodes) }
+    /// Begins with the three nodes.
+    pub fn new(memory: &mut Memory) -> Result<Draft, NoMemory>
+        ensures begun { IfOk result (λ draft. draft ≡ nodes) }
+        ensures cause { HasCause memory.old memory.new result }
     {
-        let lines = vec![in alloc;
+        let lines = vec![in memory.alloc();
             node_line(FIRST_LINE),
             node_line(FIRST_LINE + 1),
             node_line(FIRST_LINE + 2),
-        ]?;
+        ];
+        let lines = memory.of(lines.map_err(AllocError::from))?;
         Ok(Draft { lines })
     }
 
-    /// Puts a command on the next line. `NoMemory` comes only where there is no memory for it, and
-    /// then nothing changed.
-    pub fn add(&mut self, command: Command) -> Result<(), NoMemory>
+    /// Puts a command on the next line. Where there is no memory for it nothing changes.
+    pub fn add(&mut self, memory: &mut Memory, command: Command) -> Result<(), NoMemory>
         requires room { length self.old + 2 ≤ MOST_LINES }
         requires drilled { IsDrilled command }
         ensures added { OnOk result (self.new ≡ self.old ++ command ∷ []) }
         ensures unchanged { OnErr result (self.new ≡ self.old) }
+        ensures cause { HasCause memory.old memory.new result }
     {
         let number = self.lines.len() as u32 + FIRST_LINE;
-        self.lines.push(Line { number, command })?;
+        memory.push(&mut self.lines, Line { number, command })?;
         Ok(())
     }
 

@@ -4,14 +4,15 @@ ghost use Rattle.drill_maker.specs.Draft.{IsDrilled};
 ghost use Rattle.drill_maker.specs.Draws.{draw};
 ghost use Rattle.drill_maker.specs.Drill.{drawn_ask, drawn_call, drawn_noise, drawn_noises};
 ghost use Rattle.drill_maker.specs.Drill.{node_of, session_of, type_of};
+ghost use Rattle.memory_count.specs.Faults.{HasCause};
 ghost use Rattle.script_grammar.specs.Conditions.{IsAskInRange};
 
 use crate::draft::Draft;
+use memory_count::{Memory, NoMemory};
 use rand_core::utils::NextWord;
 use rand_pcg::Pcg32;
-use rpc_base::{NoMemory, NodeId, Octets, SessionNo};
+use rpc_base::{NodeId, Octets, SessionNo};
 use script_grammar::{AskBytes, Command, MOST_LINES};
-use std::alloc::Global;
 
 /// The type of a tally.
 const TALLY: u8 = 3;
@@ -56,21 +57,31 @@ fn type_of(y: u32) -> u8
     if y == 4 { REVERSE_LATER } else { y as u8 + 1 }
 }
 
+/// These bytes, written out.
+fn given(memory: &mut Memory, bytes: &[u8]) -> Result<AskBytes, NoMemory>
+    ensures given { IfOk result (λ ask. ask ≡ AskBytes.Given bytes.now) }
+    ensures cause { HasCause memory.old memory.new result }
+{
+    let copy = Octets::copy(memory.alloc(), bytes);
+    Ok(AskBytes::Given(memory.of(copy)?))
+}
+
 /// The bytes of a call of this type.
 #[tactic(auto, unfolding(crate::specs::Drill::drawn_ask))]
-fn draw_ask(alloc: Global, rng: &mut Pcg32, req_type: u8) -> Result<AskBytes, NoMemory>
+fn draw_ask(memory: &mut Memory, rng: &mut Pcg32, req_type: u8) -> Result<AskBytes, NoMemory>
     ensures value { IfOk result (λ ask. ask ≡ (drawn_ask req_type rng.old).0) }
     ensures next { OnOk result (rng.new ≡ (drawn_ask req_type rng.old).1) }
     ensures range { IfOk result IsAskInRange }
+    ensures cause { HasCause memory.old memory.new result }
 {
     match req_type {
         TALLY => {
             let number = u64::from(draw(rng, 1000));
-            Ok(AskBytes::Given(Octets::copy(alloc, &number.to_be_bytes())?))
+            given(memory, &number.to_be_bytes())
         }
         FILL => {
             let number = draw(rng, 5000);
-            Ok(AskBytes::Given(Octets::copy(alloc, &number.to_be_bytes())?))
+            given(memory, &number.to_be_bytes())
         }
         _ => Ok(AskBytes::Count(draw(rng, 4096))),
     }
@@ -78,27 +89,28 @@ fn draw_ask(alloc: Global, rng: &mut Pcg32, req_type: u8) -> Result<AskBytes, No
 
 /// Adds a call, and a poll of its node.
 #[tactic(auto, unfolding(crate::specs::Drill::drawn_call))]
-pub fn add_call(alloc: Global, rng: &mut Pcg32, draft: &mut Draft) -> Result<(), NoMemory>
+pub fn add_call(memory: &mut Memory, rng: &mut Pcg32, draft: &mut Draft) -> Result<(), NoMemory>
     requires { length draft.old + 3 ≤ MOST_LINES }
     ensures added { OnOk result (draft.new ≡ draft.old ++ (drawn_call rng.old).0) }
     ensures next { OnOk result (rng.new ≡ (drawn_call rng.old).1) }
     ensures length { OnOk result (length draft.new ≡ length draft.old + 2) }
+    ensures cause { HasCause memory.old memory.new result }
 {
     let x = draw(rng, 3);
     let y = draw(rng, 5);
     let req_type = type_of(y);
-    let ask = draw_ask(alloc, rng, req_type)?;
+    let ask = draw_ask(memory, rng, req_type)?;
     let node = node_of(x);
     let session = session_of(x);
-    draft.add(Command::Call {
+    let call = Command::Call {
         node,
         session,
         req_type,
         ask,
         room: ROOM,
-    })?;
-    draft.add(Command::Poll { node })?;
-    Ok(())
+    };
+    draft.add(memory, call)?;
+    draft.add(memory, Command::Poll { node })
 }
 
 /// What the network, a node or the clock does meanwhile.
@@ -124,15 +136,21 @@ fn draw_noise(rng: &mut Pcg32) -> Command
 }
 
 /// Adds so many commands of noise.
-pub fn add_noises(rng: &mut Pcg32, draft: &mut Draft, count: u32) -> Result<(), NoMemory>
+pub fn add_noises(
+    memory: &mut Memory,
+    rng: &mut Pcg32,
+    draft: &mut Draft,
+    count: u32,
+) -> Result<(), NoMemory>
     requires { length draft.old + count + 1 ≤ MOST_LINES }
     ensures added { OnOk result (draft.new ≡ draft.old ++ (drawn_noises count rng.old).0) }
     ensures next { OnOk result (rng.new ≡ (drawn_noises count rng.old).1) }
     ensures length { OnOk result (length draft.new ≡ length draft.old + count) }
+    ensures cause { HasCause memory.old memory.new result }
 {
     for _i in 0..count {
         let noise = draw_noise(rng);
-        draft.add(noise)?;
+        draft.add(memory, noise)?;
     }
     Ok(())
 }

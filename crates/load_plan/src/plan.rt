@@ -4,11 +4,11 @@ ghost use Rattle.std.specs.Str.{bytes_eq};
 ghost use Rattle.command_line.specs.Answers.{IsLoadInRange};
 ghost use Rattle.load_plan.specs.Calls.{asked_bytes, calls_of, counted_from, is_right, manner_of};
 ghost use Rattle.load_plan.specs.Calls.{number_bytes, room_of};
+ghost use Rattle.memory_count.specs.Faults.{HasCause};
 
 use byteorder::{BigEndian, ByteOrder};
 use command_line::LoadSpec;
-use rpc_base::NoMemory;
-use std::alloc::{AllocError, Global};
+use memory_count::{Memory, NoMemory};
 use std::marker::Model;
 
 /// Byte values, after which counted bytes begin again.
@@ -78,39 +78,46 @@ impl Model for Plan {
         × (length p.counted.items ≡ p.size + 256) };
 }
 
-fn count_up(alloc: Global, n: u32) -> Result<Vec<u8>, AllocError>
-    ensures { IfOk result (λ v. v.items ≡ counted_from 0 n) }
+fn count_up(memory: &mut Memory, n: u32) -> Result<Vec<u8>, NoMemory>
+    ensures counted { IfOk result (λ v. v.items ≡ counted_from 0 n) }
+    ensures cause { HasCause memory.old memory.new result }
 {
-    (0..n).map(|j| (j % BYTE_VALUES) as u8).collect(alloc)
+    let bytes = (0..n).map(|j| (j % BYTE_VALUES) as u8);
+    match bytes.collect(memory.alloc()) {
+        Ok(counted) => Ok(counted),
+        Err(refused) => memory.of(Err(refused)),
+    }
 }
 
-fn number_of(alloc: Global, manner: Manner, size: u32) -> Result<Vec<u8>, AllocError>
-    ensures { IfOk result (λ v. v.items ≡ number_bytes manner size) }
+fn number_of(memory: &mut Memory, manner: Manner, size: u32) -> Result<Vec<u8>, NoMemory>
+    ensures number { IfOk result (λ v. v.items ≡ number_bytes manner size) }
+    ensures cause { HasCause memory.old memory.new result }
 {
     match manner {
         Manner::Tally => {
             let mut bytes = [0; 8];
             BigEndian::write_u64(&mut bytes, u64::from(size));
-            Vec::from_slice(alloc, &bytes)
+            memory.copied(&bytes)
         }
         Manner::Fill => {
             let mut bytes = [0; 4];
             BigEndian::write_u32(&mut bytes, size);
-            Vec::from_slice(alloc, &bytes)
+            memory.copied(&bytes)
         }
-        Manner::Echo | Manner::Reverse => Ok(Vec::new(alloc)),
+        Manner::Echo | Manner::Reverse => Ok(Vec::new(memory.alloc())),
     }
 }
 
 impl Plan {
     /// The calls that the words name.
-    pub fn of(alloc: Global, spec: &LoadSpec) -> Result<Plan, NoMemory>
+    pub fn of(memory: &mut Memory, spec: &LoadSpec) -> Result<Plan, NoMemory>
         requires { IsLoadInRange spec.now }
-        ensures { IfOk result (λ p. p ≡ calls_of spec.now) }
+        ensures calls { IfOk result (λ p. p ≡ calls_of spec.now) }
+        ensures cause { HasCause memory.old memory.new result }
     {
         let manner = Manner::of(spec.req_type);
-        let number = number_of(alloc, manner, spec.size)?;
-        let counted = count_up(alloc, spec.size + BYTE_VALUES)?;
+        let number = number_of(memory, manner, spec.size)?;
+        let counted = count_up(memory, spec.size + BYTE_VALUES)?;
         Ok(Plan {
             calls: spec.calls,
             req_type: spec.req_type,

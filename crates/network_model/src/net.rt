@@ -4,10 +4,12 @@ ghost use Rattle.std.specs.Prelude.{slice_get, IfOk, OnOk, OnErr, IfSome, IfNone
 ghost use Rattle.std.specs.List.{remove};
 ghost use Rattle.rpc_laws.specs.declared.tables.InFlight.{InFlight};
 ghost use Rattle.rpc_base.specs.declared.event.Event.{Event};
+ghost use Rattle.memory_count.specs.Faults.{HasCause};
 ghost use Rattle.rpc_laws.specs.InFlight.{flight_after_net};
 
 use crate::datagram::joined;
-use rpc_base::{NoMemory, NodeId, Octets};
+use memory_count::{Memory, NoMemory};
+use rpc_base::{NodeId, Octets};
 use rpc_laws::InFlight;
 use std::alloc::Global;
 use std::collections::VecDeque;
@@ -46,6 +48,7 @@ impl Net {
     /// there is no memory for it, and then nothing changed.
     pub fn send(
         &mut self,
+        memory: &mut Memory,
         from: NodeId,
         to: NodeId,
         head: &[u8],
@@ -55,18 +58,22 @@ impl Net {
             (self.new ≡ self.old ++ record { from = from; to = to; bytes = head.now ++ body.now }
             ∷ []) }
         ensures unchanged { OnErr result (self.new ≡ self.old) }
+        ensures cause { HasCause memory.old memory.new result }
     {
-        let bytes = joined(*self.copies.allocator(), head, body)?;
-        self.put(InFlight { from, to, bytes })?;
+        let bytes = joined(memory, head, body)?;
+        self.put(memory, InFlight { from, to, bytes })?;
         Ok(())
     }
 
     // Puts a copy at the end.
-    pub(crate) fn put(&mut self, copy: InFlight) -> Result<(), NoMemory>
+    pub(crate) fn put(&mut self, memory: &mut Memory, copy: InFlight) -> Result<(), NoMemory>
         ensures put { OnOk result (self.new ≡ self.old ++ copy ∷ []) }
         ensures unchanged { OnErr result (self.new ≡ self.old) }
+        ensures cause { HasCause memory.old memory.new result }
     {
-        self.copies.push_back(copy).map_err(|_| NoMemory)
+        memory
+            .push_back(&mut self.copies, copy)
+            .map_err(|_| NoMemory)
     }
 
     // The nearer side of the list closes up, so that copies near the front are taken out at once.
@@ -107,17 +114,18 @@ impl Net {
     /// Puts one more copy of copy `i` at the end, and tells whether there is such a copy.
     /// `NoMemory` comes only where there is no memory for it. Where no copy was put nothing
     /// changed.
-    pub fn repeat(&mut self, i: u32) -> Result<bool, NoMemory>
+    pub fn repeat(&mut self, memory: &mut Memory, i: u32) -> Result<bool, NoMemory>
         ensures repeated { OnOk result (self.new ≡ flight_after_net (Event.Repeated i) self.old) }
         ensures there { IfOk result (λ is_there. is_there ≡ nat_lt i (length self.old)) }
         ensures unchanged { OnErr result (self.new ≡ self.old) }
+        ensures cause { HasCause memory.old memory.new result }
     {
         let Some(first) = self.copy_at(i) else {
             return Ok(false);
         };
         let (from, to) = (first.from, first.to);
-        let bytes = Octets::copy(*self.copies.allocator(), first.bytes.bytes())?;
-        self.put(InFlight { from, to, bytes })?;
+        let bytes = Octets::from(memory.copied(first.bytes.bytes())?);
+        self.put(memory, InFlight { from, to, bytes })?;
         Ok(true)
     }
 }

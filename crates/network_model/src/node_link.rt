@@ -1,13 +1,14 @@
 //! The network as the link of one node.
 ghost use Rattle.std.specs.Prelude.{◌≡◌, ◌≢◌, ◌++◌, ◌∷◌, [], Ok, None, Some, map, IfOk, IsOk, OnErr, OnOk};
 ghost use Rattle.network_model.specs.Sending.{copy_from};
-ghost use Rattle.rpc_outside.specs.Faults.{HasCause};
+ghost use Rattle.memory_count.specs.Faults.{HasCause};
 ghost use Rattle.rpc_outside.specs.declared.link.Got.TheVariants.{Nothing};
 ghost use Rattle.rpc_outside.specs.declared.link.Taken.TheVariants.{Whole};
 
 use crate::datagram::joined;
 use crate::net::Net;
-use rpc_base::{NoMemory, NodeId, Octets, Peer};
+use memory_count::{Memory, NoMemory};
+use rpc_base::{NodeId, Octets, Peer};
 use rpc_laws::InFlight;
 use rpc_outside::{Failed, Got, Link, MOST_LINK_BYTES, Taken};
 use std::alloc::Global;
@@ -15,11 +16,11 @@ use std::marker::Model;
 
 /// The link by which one node sends into the network: a peer's number is its node's. It is never
 /// busy, and fails where memory is wanting. Nothing comes from it, since a script says what
-/// arrives. Contracts see what was sent, and how often it failed.
+/// arrives. Contracts see what was sent, and how often its memory was refused.
 #[derive(Debug, Drop)]
 pub struct NodeLink {
     sent: Vec<(Peer, Octets)>,
-    faults: u64,
+    memory: Memory,
 }
 
 impl Model for NodeLink {
@@ -27,7 +28,7 @@ impl Model for NodeLink {
 
     ghost Value = { Sending };
 
-    ghost view = { λ l. record { sent = l.sent.items; faults = l.faults } };
+    ghost view = { λ l. record { sent = l.sent.items; faults = l.memory } };
 }
 
 impl NodeLink {
@@ -37,21 +38,30 @@ impl NodeLink {
     {
         NodeLink {
             sent: Vec::new(alloc),
-            faults: 0,
+            memory: Memory::new(alloc),
         }
+    }
+
+    /// Its memory, which tells how often it was refused.
+    pub fn memory(&self) -> &Memory
+        ensures { result.now ≡ self.now.faults }
+    {
+        &self.memory
     }
 
     /// Puts what was sent into the network as of node `me`, in order, behind what is in flight.
     /// Nothing is copied. `NoMemory` comes only where there is no memory for the places.
-    pub fn send_into(self, me: NodeId, net: &mut Net) -> Result<(), NoMemory>
-        ensures { OnOk result (net.new ≡ net.old ++ map (copy_from me) self.sent) }
+    pub fn send_into(self, memory: &mut Memory, me: NodeId, net: &mut Net) -> Result<(), NoMemory>
+        ensures sent { OnOk result (net.new ≡ net.old ++ map (copy_from me) self.sent) }
+        ensures cause { HasCause memory.old memory.new result }
     {
         'datagrams: for (to, bytes) in self.sent {
-            net.put(InFlight {
+            let copy = InFlight {
                 from: me,
                 to: NodeId(to.0),
                 bytes,
-            })?;
+            };
+            net.put(memory, copy)?;
         }
         Ok(())
     }
@@ -98,8 +108,7 @@ impl Link for NodeLink {
         ensures unsent { OnErr result (self.new.sent ≡ self.old.sent) }
         ensures cause { HasCause self.old.faults self.new.faults result }
     {
-        if keep(&mut self.sent, to, head, body).is_err() {
-            self.faults = self.faults.saturating_add(1);
+        if keep(&mut self.memory, &mut self.sent, to, head, body).is_err() {
             return Err(Failed);
         }
         Ok(Taken::Whole)
@@ -136,12 +145,18 @@ impl Link for NodeLink {
 }
 
 // Keeps a datagram behind those that were sent before.
-fn keep(sent: &mut Vec<(Peer, Octets)>, to: Peer, head: &[u8], body: &[u8]) -> Result<(), NoMemory>
+fn keep(
+    memory: &mut Memory,
+    sent: &mut Vec<(Peer, Octets)>,
+    to: Peer,
+    head: &[u8],
+    body: &[u8],
+) -> Result<(), NoMemory>
     ensures kept { OnOk result
         (sent.new.items ≡ sent.old.items ++ (to, head.now ++ body.now) ∷ []) }
     ensures unchanged { OnErr result (sent.new.items ≡ sent.old.items) }
+    ensures cause { HasCause memory.old memory.new result }
 {
-    let bytes = joined(*sent.allocator(), head, body)?;
-    sent.push((to, bytes))?;
-    Ok(())
+    let bytes = joined(memory, head, body)?;
+    memory.push(sent, (to, bytes))
 }

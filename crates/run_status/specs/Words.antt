@@ -2,7 +2,9 @@
 use Rattle.std.specs.Prelude.{◌≡◌, ℕ, Bool, true, false}
 use Rattle.command_line.specs.declared.task.Idle.{Idle}
 use Rattle.command_line.specs.declared.task.Idle.TheVariants.{Sleep, Spin}
-use Rattle.rpc_outside.specs.Faults.{HasRisen}
+use Rattle.memory_count.specs.Faults.{HasRisen}
+use Rattle.run_status.specs.declared.going.Going.{Going}
+use Rattle.run_status.specs.declared.going.Going.TheVariants.{On, Over}
 use Rattle.run_status.specs.declared.status.Status.{Status}
 use Rattle.run_status.specs.declared.status.Status.TheVariants.{LinkFault, NoMemory}
 
@@ -16,3 +18,13 @@ abbrev pub WhyNot : (before now : ℕ) → Status → Type 0
 WhyNot before now LinkFault = HasRisen before now
 WhyNot before now NoMemory = now ≡ before
 WhyNot before now _ = ⊥
+
+-- how many wants of memory a status tells of
+abbrev pub lacks : Status → ℕ
+lacks NoMemory = 1
+lacks _ = 0
+
+-- and what a turn answers
+abbrev pub lacks_told : Going → ℕ
+lacks_told On = 0
+lacks_told (Over status) = lacks status

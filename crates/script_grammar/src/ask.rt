@@ -1,16 +1,17 @@
 //! The bytes that a call sends.
 ghost use Rattle.std.specs.Prelude.{◌≡◌, ◌*◌, ◌<◌, ◌≤◌, length, Some, IfSome, IfOk, IfErr, ok_or};
+ghost use Rattle.memory_count.specs.Faults.{HasRisenBy};
 ghost use Rattle.script_grammar.specs.Ask.{hex_digit, hex_byte, hex_bytes, count_in, given_in, ask_in};
 ghost use Rattle.script_grammar.specs.Conditions.{IsAskInRange};
-ghost use Rattle.script_grammar.specs.Told.{IsRefusal, IsTold};
+ghost use Rattle.script_grammar.specs.Told.{IsRefusal, IsTold, lacks};
 
 use crate::bad::BadWhy;
 use crate::line::AskBytes;
 use crate::numbers::number;
 use crate::refusal::Refusal;
 use crate::text::is_word;
+use memory_count::Memory;
 use rpc_base::Octets;
-use std::alloc::Global;
 
 /// No call of a script sends more bytes.
 pub const MOST_BYTES: u32 = 2_097_152;
@@ -53,17 +54,18 @@ fn count(word: &[u8]) -> Result<AskBytes, BadWhy>
 }
 
 /// The bytes that pairs of hexadecimal digits write.
-fn bytes_of(alloc: Global, word: &[u8]) -> Result<Vec<u8>, Refusal>
+fn bytes_of(memory: &mut Memory, word: &[u8]) -> Result<Vec<u8>, Refusal>
     ensures len { IfOk result (λ bytes. 2 * length bytes.items ≤ length word.now) }
     ensures ok { IfOk result (λ bytes. hex_bytes word.now ≡ Some bytes.items) }
     ensures err { IfErr result (λ refusal. IsRefusal refusal
         (ok_or (hex_bytes word.now) BadWhy.Hex)) }
+    ensures cause { HasRisenBy (lacks result) memory.old memory.new }
 {
-    let mut bytes = Vec::with_capacity(alloc, word.len() / 2)?;
+    let mut bytes = memory.list(word.len() / 2)?;
     let mut rest = word;
     while let [high, low, after @ ..] = rest {
         match hex_byte(*high, *low) {
-            Some(byte) => bytes.push(byte)?,
+            Some(byte) => memory.push(&mut bytes, byte)?,
             None => return Err(Refusal::Why(BadWhy::Hex)),
         }
         rest = after;
@@ -76,28 +78,30 @@ fn bytes_of(alloc: Global, word: &[u8]) -> Result<Vec<u8>, Refusal>
 
 /// The bytes that a word of hexadecimal digits writes, at most `MOST_DIGITS` of them.
 #[tactic(auto, unfolding(crate::specs::Ask::given_in))]
-fn given(alloc: Global, word: &[u8]) -> Result<AskBytes, Refusal>
+fn given(memory: &mut Memory, word: &[u8]) -> Result<AskBytes, Refusal>
     ensures value { IsTold result (given_in word.now) }
     ensures range { IfOk result IsAskInRange }
+    ensures cause { HasRisenBy (lacks result) memory.old memory.new }
 {
     if word.len() > MOST_DIGITS {
         return Err(Refusal::Why(BadWhy::Hex));
     }
-    let bytes = bytes_of(alloc, word)?;
+    let bytes = bytes_of(memory, word)?;
     Ok(AskBytes::Given(Octets::from(bytes)))
 }
 
 /// The bytes of a call, in one of their three forms.
 #[tactic(auto, unfolding(crate::specs::Ask::ask_in))]
-pub fn ask(alloc: Global, word: &[u8]) -> Result<AskBytes, Refusal>
+pub fn ask(memory: &mut Memory, word: &[u8]) -> Result<AskBytes, Refusal>
     ensures value { IsTold result (ask_in word.now) }
     ensures range { IfOk result IsAskInRange }
+    ensures cause { HasRisenBy (lacks result) memory.old memory.new }
 {
     if is_word(word, b"-") {
-        return Ok(AskBytes::Given(Octets::from(Vec::new(alloc))));
+        return Ok(AskBytes::Given(Octets::from(Vec::new(memory.alloc()))));
     }
     if word.starts_with(b"*") {
         return Ok(count(&word[1..])?);
     }
-    given(alloc, word)
+    given(memory, word)
 }

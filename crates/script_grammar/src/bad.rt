@@ -1,8 +1,7 @@
 //! Why a text is no script.
 ghost use Rattle.std.specs.Prelude.{◌≡◌};
 
-use rpc_base::NoMemory;
-use std::alloc::{AllocError, AllocFailed};
+use memory_count::NoMemory;
 use std::error::Error;
 use std::fmt;
 
@@ -108,26 +107,6 @@ impl From<NoMemory> for ReadError {
     ghost from_gives = { λ _ error. error ≡ ReadError.NoMemory };
 
     fn from(_error: NoMemory) -> Self {
-        ReadError::NoMemory
-    }
-}
-
-impl From<AllocError> for ReadError {
-    ghost use Rattle.script_grammar.specs.declared.bad.ReadError.{ReadError};
-
-    ghost from_gives = { λ _ error. error ≡ ReadError.NoMemory };
-
-    fn from(_error: AllocError) -> Self {
-        ReadError::NoMemory
-    }
-}
-
-impl<T: Drop> From<AllocFailed<T>> for ReadError {
-    ghost use Rattle.script_grammar.specs.declared.bad.ReadError.{ReadError};
-
-    ghost from_gives = { λ _ error. error ≡ ReadError.NoMemory };
-
-    fn from(_error: AllocFailed<T>) -> Self {
         ReadError::NoMemory
     }
 }

@@ -1,10 +1,11 @@
 //! Commands, from the words of their lines.
 ghost use Rattle.std.specs.Prelude.{◌≡◌, ◌≤◌, Ok, Err, IfOk, IfErr};
+ghost use Rattle.memory_count.specs.Faults.{HasRisenBy};
 ghost use Rattle.script_grammar.specs.Commands.{ring_in, ends_in, session_in, rate_in};
 ghost use Rattle.script_grammar.specs.Commands.{call_parts_in, only_node_in, only_number_in};
 ghost use Rattle.script_grammar.specs.Commands.{job_in, plain_in, call_in, command_in};
 ghost use Rattle.script_grammar.specs.Conditions.{IsInRange};
-ghost use Rattle.script_grammar.specs.Told.{IsTold};
+ghost use Rattle.script_grammar.specs.Told.{IsTold, lacks};
 ghost use Rattle.script_grammar.specs.Words.{words_of};
 
 use crate::ask::ask;
@@ -14,8 +15,8 @@ use crate::numbers::{node, number};
 use crate::refusal::Refusal;
 use crate::text::{Words, is_word};
 use crate::verb::{Verb, verb_of};
+use memory_count::Memory;
 use rpc_base::{NodeId, SessionNo};
-use std::alloc::Global;
 
 /// A ring has so many places at least.
 pub const LEAST_RING: u32 = rpc_base::LEAST_RING;
@@ -199,14 +200,15 @@ pub fn plain(verb: Verb, words: Words) -> Result<Command, BadWhy>
 
 /// What follows the word `call`.
 #[tactic(auto, unfolding(crate::specs::Commands::call_in))]
-fn call(alloc: Global, words: Words) -> Result<Command, Refusal>
+fn call(memory: &mut Memory, words: Words) -> Result<Command, Refusal>
     ensures value { IsTold result (call_in words.entry) }
     ensures range { IfOk result IsInRange }
+    ensures cause { HasRisenBy (lacks result) memory.old memory.new }
 {
     match call_parts(words) {
         Err(why) => Err(Refusal::Why(why)),
         Ok((node, session, req_type, word, room)) => {
-            let ask = ask(alloc, word)?;
+            let ask = ask(memory, word)?;
             Ok(Command::Call {
                 node,
                 session,
@@ -220,13 +222,14 @@ fn call(alloc: Global, words: Words) -> Result<Command, Refusal>
 
 /// The command of a line.
 #[tactic(auto, unfolding(crate::specs::Commands::command_in))]
-pub fn command(alloc: Global, line: &[u8]) -> Result<Command, Refusal>
+pub fn command(memory: &mut Memory, line: &[u8]) -> Result<Command, Refusal>
     ensures value { IsTold result (command_in (words_of line.now)) }
     ensures range { IfOk result IsInRange }
+    ensures cause { HasRisenBy (lacks result) memory.old memory.new }
 {
     let (word, words) = Words::of(line);
     if is_word(word, b"call") {
-        return call(alloc, words);
+        return call(memory, words);
     }
     match verb_of(word) {
         Some(verb) => Ok(plain(verb, words)?),

@@ -1,11 +1,12 @@
 //! The reader of scripts, line by line.
 ghost use Rattle.std.specs.Prelude.{◌≡◌, ◌+◌, ◌≤◌, ℕ, List, [], ◌∷◌, All, Ok, Err, IfOk, IfErr, OnOk, false};
+ghost use Rattle.memory_count.specs.Faults.{HasRisenBy};
 ghost use Rattle.script_grammar.specs.Conditions.{IsInRange};
 ghost use Rattle.script_grammar.specs.Lines.{lines_of};
 ghost use Rattle.script_grammar.specs.Reader.{said_of};
-ghost use Rattle.script_grammar.specs.Reading.{IsReading};
+ghost use Rattle.script_grammar.specs.Reading.{IsReading, lacks_read};
 ghost use Rattle.script_grammar.specs.Script.{is_passed_over, line_in, lines_in, script_of};
-ghost use Rattle.script_grammar.specs.Told.{IsTold};
+ghost use Rattle.script_grammar.specs.Told.{IsTold, lacks};
 
 use crate::bad::{BadScript, BadWhy, ReadError};
 use crate::before::{Before, FEWEST_NODES};
@@ -14,7 +15,7 @@ use crate::line::{Command, Line};
 use crate::refusal::Refusal;
 use crate::script::Script;
 use crate::text::{is_word, next_line};
-use std::alloc::Global;
+use memory_count::Memory;
 
 /// No script has more bytes.
 pub const MOST_BYTES: usize = 16_777_216;
@@ -39,11 +40,12 @@ fn is_passed_over(line: &[u8]) -> bool
 
 /// The command of a line, and what then stands before the next one.
 #[tactic(auto, unfolding(crate::specs::Script::line_in))]
-fn read_line(alloc: Global, before: Before, line: &[u8]) -> Result<(Command, Before), Refusal>
+fn read_line(memory: &mut Memory, before: Before, line: &[u8]) -> Result<(Command, Before), Refusal>
     ensures value { IsTold result (line_in before line.now) }
     ensures range { IfOk result (λ p. IsInRange p.0) }
+    ensures cause { HasRisenBy (lacks result) memory.old memory.new }
 {
-    let command = command(alloc, line)?;
+    let command = command(memory, line)?;
     match before.admit(&command) {
         Ok(after) => Ok((command, after)),
         Err(why) => Err(Refusal::Why(why)),
@@ -60,7 +62,7 @@ pub struct Reader {
 
 impl Reader {
     /// Reads the next line.
-    fn take(&mut self, alloc: Global, line: &[u8]) -> Result<(), ReadError>
+    fn take(&mut self, memory: &mut Memory, line: &[u8]) -> Result<(), ReadError>
         requires number { self.old.number ≤ 100001 }
         requires ranges { All (λ line. IsInRange line.command) self.old.lines.items }
         ensures taken { IfOk result (λ _. (rest : List (List ℕ))
@@ -69,6 +71,7 @@ impl Reader {
         ensures ranges { OnOk result (All (λ line. IsInRange line.command) self.new.lines.items) }
         ensures bad { IfErr result (λ error. (rest : List (List ℕ))
             → IsReading (Err error) (said_of self.old (line.now ∷ rest))) }
+        ensures cause { HasRisenBy (lacks_read result) memory.old memory.new }
     {
         if self.number > MOST_LINES {
             return Err(bad_at(self.number, BadWhy::Lines));
@@ -77,10 +80,10 @@ impl Reader {
             self.number += 1;
             return Ok(());
         }
-        match read_line(alloc, self.before, line) {
+        match read_line(memory, self.before, line) {
             Ok((command, after)) => {
                 let number = self.number;
-                self.lines.push(Line { number, command })?;
+                memory.push(&mut self.lines, Line { number, command })?;
                 self.before = after;
                 self.number += 1;
                 Ok(())
@@ -95,6 +98,7 @@ impl Reader {
         ensures ok { IfOk result (λ lines. (said_of self [] ≡ Ok lines.items)
             × (lines.items ≡ self.lines.items)) }
         ensures bad { IfErr result (λ error. IsReading (Err error) (said_of self [])) }
+        ensures memory { lacks_read result ≡ 0 }
     {
         if self.before.nodes < FEWEST_NODES {
             return Err(bad_at(self.number, BadWhy::Nodes));
@@ -104,21 +108,22 @@ impl Reader {
 }
 
 /// Reads what stands below the head.
-fn read_lines(alloc: Global, text: &[u8]) -> Result<Vec<Line>, ReadError>
+fn read_lines(memory: &mut Memory, text: &[u8]) -> Result<Vec<Line>, ReadError>
     ensures ok { IfOk result (λ lines. lines_in 2 (record { nodes = 0; begun = false })
         (lines_of text.now) ≡ Ok lines.items) }
     ensures ranges { IfOk result (λ lines. All (λ line. IsInRange line.command) lines.items) }
     ensures bad { IfErr result (λ error. IsReading (Err error)
         (lines_in 2 (record { nodes = 0; begun = false }) (lines_of text.now))) }
+    ensures cause { HasRisenBy (lacks_read result) memory.old memory.new }
 {
     let mut reader = Reader {
         number: FIRST_COMMAND,
         before: Before::START,
-        lines: Vec::new(alloc),
+        lines: Vec::new(memory.alloc()),
     };
     let mut text = text;
     while let Some((line, rest)) = next_line(text) {
-        reader.take(alloc, line)?;
+        reader.take(memory, line)?;
         text = rest;
     }
     reader.finish()
@@ -126,25 +131,27 @@ fn read_lines(alloc: Global, text: &[u8]) -> Result<Vec<Line>, ReadError>
 
 /// Reads the commands of a script, with their lines.
 #[tactic(auto, unfolding(crate::specs::Script::script_of, crate::specs::Script::text_in))]
-fn read_text(alloc: Global, bytes: &[u8]) -> Result<Vec<Line>, ReadError>
+fn read_text(memory: &mut Memory, bytes: &[u8]) -> Result<Vec<Line>, ReadError>
     ensures ok { IfOk result (λ lines. script_of bytes.now ≡ Ok lines.items) }
     ensures ranges { IfOk result (λ lines. All (λ line. IsInRange line.command) lines.items) }
     ensures bad { IfErr result (λ error. IsReading (Err error) (script_of bytes.now)) }
+    ensures cause { HasRisenBy (lacks_read result) memory.old memory.new }
 {
     if bytes.len() > MOST_BYTES {
         return Err(bad_at(0, BadWhy::TooLong));
     }
     match next_line(bytes) {
-        Some((head, rest)) if is_word(head, b"erpc-sim 1") => read_lines(alloc, rest),
+        Some((head, rest)) if is_word(head, b"erpc-sim 1") => read_lines(memory, rest),
         _ => Err(bad_at(1, BadWhy::First)),
     }
 }
 
 /// Reads a script. `Bad` names its first bad line, exactly where the grammar refuses it; `NoMemory`
-/// comes only where there is no memory for its commands.
-pub fn read(alloc: Global, bytes: &[u8]) -> Result<Script, ReadError>
-    ensures { IsReading result (script_of bytes.now) }
+/// comes only where memory for its commands was refused.
+pub fn read(memory: &mut Memory, bytes: &[u8]) -> Result<Script, ReadError>
+    ensures reading { IsReading result (script_of bytes.now) }
+    ensures cause { HasRisenBy (lacks_read result) memory.old memory.new }
 {
-    let lines = read_text(alloc, bytes)?;
+    let lines = read_text(memory, bytes)?;
     Ok(Script::of(lines))
 }

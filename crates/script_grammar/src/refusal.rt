@@ -2,8 +2,7 @@
 ghost use Rattle.std.specs.Prelude.{◌≡◌};
 
 use crate::bad::BadWhy;
-use rpc_base::NoMemory;
-use std::alloc::{AllocError, AllocFailed};
+use memory_count::NoMemory;
 
 /// A line is bad, or there is no memory for its command.
 #[derive(Clone, Copy)]
@@ -28,26 +27,6 @@ impl From<NoMemory> for Refusal {
     ghost from_gives = { λ _ refusal. refusal ≡ Refusal.NoMemory };
 
     fn from(_error: NoMemory) -> Self {
-        Refusal::NoMemory
-    }
-}
-
-impl From<AllocError> for Refusal {
-    ghost use Rattle.script_grammar.specs.declared.refusal.Refusal.{Refusal};
-
-    ghost from_gives = { λ _ refusal. refusal ≡ Refusal.NoMemory };
-
-    fn from(_error: AllocError) -> Self {
-        Refusal::NoMemory
-    }
-}
-
-impl<T: Drop> From<AllocFailed<T>> for Refusal {
-    ghost use Rattle.script_grammar.specs.declared.refusal.Refusal.{Refusal};
-
-    ghost from_gives = { λ _ refusal. refusal ≡ Refusal.NoMemory };
-
-    fn from(_error: AllocFailed<T>) -> Self {
         Refusal::NoMemory
     }
 }

@@ -13,8 +13,12 @@ loop-call-init c =
     let rng : c.seed_from_u64-rng.result ≡ seeded c.args.seed =
     c.seed_from_u64-rng.ensures ∙ seeded_by c.args.seed in
     let begun : c.add_pairs.new.draft ≡ nodes ++ pairs =
-    c.in_ok-add_pairs.ensures ∙ ap (λ (d : List Command). d ++ pairs) c.in_ok-draft.ensures in
-    (rw none begun, rw none rng, λ some. omega (arith, ap (λ (d : List Command). length d) begun))
+    c.in_ok-add_pairs.ensures.added ∙ ap (λ (d : List Command). d ++ pairs) c.in_ok-draft.ensures.begun in (
+      rw none begun,
+      rw none rng,
+      λ some. omega (arith, ap (λ (d : List Command). length d) begun),
+      refl,
+    )
 
 pub loop-call-preserved : goal.loop-call-preserved
 loop-call-preserved c =
@@ -40,6 +44,8 @@ loop-call-preserved c =
           (length c.add_rest_after.new.draft) (before.2 (omega arith))
           (omega (arith, c.in_ok-add_call.ensures.length, c.in_ok-add_noises.ensures.length))
           c.in_ok-add_rest_after.ensures.length c.in_ok-add_rest_after.ensures.none less,
+      c.in_ok-add_rest_after.ensures.cause ∙ c.in_ok-add_noises.ensures.cause
+          ∙ c.in_ok-add_call.ensures.cause ∙ before.3,
     )
 
 pub returns-clause-script : goal.returns-clause-script

@@ -9,3 +9,4 @@ invariant-loop-call l =
     (l.draft ≡ nodes ++ pairs ++ (drawn_calls l.calls l.call (seeded l.seed)).0)
     × (l.rng ≡ (drawn_calls l.calls l.call (seeded l.seed)).1)
     × (l.call < l.calls → 16 * length l.draft + 13 * (l.call % 16) ≤ 96 + 141 * l.call)
+    × (l.memory ≡ l.initial.memory)

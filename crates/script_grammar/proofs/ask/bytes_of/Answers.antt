@@ -6,8 +6,9 @@ use Rattle.script_grammar.proofs.ask.bytes_of.Goals as goal
 pub loop-rest-preserved : goal.loop-rest-preserved
 loop-rest-preserved c = (
   hex_more _ _ _ _ _ c.in-len2-up.len_at_least (sym c.hex_byte.ensures ∙ c.in-Some.is)
-      c.in_ok-push-in-Some.ensures.items c.loop-rest.invariant.0,
+      c.in_ok-push-in-Some.ensures.pushed c.loop-rest.invariant.0,
   grind (arith, common_steps),
+  search rules,
 )
 
 pub returns-in-None-clause-err : goal.returns-in-None-clause-err

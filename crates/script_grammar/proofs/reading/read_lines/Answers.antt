@@ -9,4 +9,5 @@ loop-line-init c = (
   rw c.new.ensures.items (put_nothing _),
   omega arith,
   λ k d l. absurd (omega (arith, ap (λ xs. length xs) c.new.ensures.items)),
+  omega arith,
 )

@@ -9,7 +9,7 @@ use Rattle.drill_maker.proofs.draft.Draft.add.Goals as goal
 pub invariant_of-self-2 : goal.invariant_of-self-2
 invariant_of-self-2 c =
     let lines = c.self.inside.lines.items in
-    subst (λ (ls : List Line). IsDraft ls) (sym c.in_ok-push.ensures.items)
+    subst (λ (ls : List Line). IsDraft ls) (sym c.in_ok-push.ensures.pushed)
     (draft_added lines c.args.command (c.len.result + 2) c.self.invariant (omega arith)
     (omega (
       arith,

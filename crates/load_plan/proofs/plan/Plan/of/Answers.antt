@@ -10,8 +10,8 @@ invariant_of-result c =
     let req_type = ap (λ (w : LoadWords). w.req_type) c.spec.view_is in (
       rw size c.requires.most_bytes,
       rw req_type c.requires.known_type,
-      rw c.of-manner.ensures at c.in_ok-number.ensures,
-      c.in_ok-counted.ensures,
-      ap length c.in_ok-counted.ensures
+      rw c.of-manner.ensures at c.in_ok-number.ensures.number,
+      c.in_ok-counted.ensures.counted,
+      ap length c.in_ok-counted.ensures.counted
           ∙ length-map-range_with_len (λ j. (0 + j) % 256) 0 (c.spec.inside.size + 256),
     )

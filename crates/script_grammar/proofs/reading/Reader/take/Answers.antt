@@ -14,7 +14,7 @@ returns-then-is_passed_over-clause-taken c = λ rest. passes_over _ _ _ _ rest (
 pub returns-in_ok-push-in-Ok-clause-taken : goal.returns-in_ok-push-in-Ok-clause-taken
 unfolding said_of
 returns-in_ok-push-in-Ok-clause-taken c =
-    λ rest. takes _ _ _ _ _ _ _ rest (omega arith) (cc) c.in-Ok.ensures.value c.in_ok-push-in-Ok.ensures.items
+    λ rest. takes _ _ _ _ _ _ _ rest (omega arith) (cc) c.in-Ok.ensures.value c.in_ok-push-in-Ok.ensures.pushed
 
 pub returns-in-Err-Why-clause-bad : goal.returns-in-Err-Why-clause-bad
 unfolding said_of
