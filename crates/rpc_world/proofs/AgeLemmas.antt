@@ -47,7 +47,7 @@ use Rattle.script_grammar.specs.declared.line.Command.TheVariants.{Settle}
 use Rattle.sim_script.specs.FollowsScript.{AtNode, Carries, Does, Joins, Makes, OfNet, Pairs}
 use Rattle.sim_script.specs.FollowsScript.{PairsBy, PairsEnds, PollsFirst, PollsNode, Restarts}
 use Rattle.sim_script.specs.FollowsScript.{Round}
-use Rattle.sim_script.specs.FollowsScript.{Settles, Ticks, Times, Unless, WorksFirst, WorksNode}
+use Rattle.sim_script.specs.FollowsScript.{Settles, Times, Unless, WorksFirst, WorksNode}
 use Rattle.sim_script.specs.FollowsScript.{ask_bytes, is_polled, noted, or_missed}
 use Rattle.world_laws.proofs.RunLemmas.{Groups, life-stays}
 use Rattle.world_laws.proofs.WorkSteps.{all-groups, works-group}

@@ -7,6 +7,8 @@ pub mod LeftLemmas
 pub mod LineLemmas
 pub mod NetLemmas
 pub mod PairLemmas
+pub mod PeerLemmas
+pub mod PeerSteps
 pub mod PlainLemmas
 pub mod PollingLemmas
 pub mod QuietLemmas
@@ -16,4 +18,5 @@ pub mod StageLemmas
 pub mod StandLemmas
 pub mod StaysLemmas
 pub mod StepLemmas
+pub mod WantLemmas
 pub mod WorkingLemmas

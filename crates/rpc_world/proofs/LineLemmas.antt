@@ -4,7 +4,7 @@ use Rattle.std.proofs.Common.{List, [], ◌∷◌, get_or, length}
 use Rattle.std.proofs.Common.{refl, sym, ap, subst, ◌∙◌, arith, length-append}
 use Rattle.std.proofs.lemmas.List.{get_or_append_left, get_or-append_right}
 use Rattle.rpc_base.specs.declared.fact.Fact.{Fact}
-use Rattle.rpc_world.specs.Answered.{End, Play, stage_of, told_end}
+use Rattle.rpc_world.specs.Answered.{Play, stage_of, told_end}
 use Rattle.rpc_world.specs.Performed.{Performed}
 use Rattle.rpc_world.specs.Before.{AllCanRestart, IsNumbered, Names}
 use Rattle.rpc_world.proofs.AgeLemmas.{AllAged, does-age}
@@ -108,7 +108,10 @@ pub record Stands (lines : List Line) (i : ℕ) (s : Play) : Type 0 where
 pub stands-first : (lines : List Line)
     → Stands lines 0 (record { ends = []; flight = []; worked = []; clock = 0 })
 stands-first lines = record {
-  numbered = record { playing = record { each = λ n e h. cc; theirs = tt }; few = omega arith };
+  numbered = record {
+    playing = record { each = λ n e h. cc; theirs = tt; peers = λ n e h. cc; copies = tt };
+    few = omega arith;
+  };
   there = λ is. (λ low. refl, λ high. omega (arith, high));
   clock = omega arith;
   aged = λ j z is. cc;

@@ -23,22 +23,39 @@ use Rattle.rpc_laws.specs.Working.{worked_of}
 use Rattle.sim_script.specs.FollowsScript.{Arrives, AtNode, Carries, Makes, OfNet, Ticks, is_wanting}
 use Rattle.rpc_world.specs.Answered.{End, Plainly, Play, stage_of, told_end, totals_of}
 use Rattle.rpc_world.specs.Before.{AllPlay, IsNumbered, IsPlaying}
+use Rattle.rpc_world.specs.Peers.{CopiesAmong, PeersAmong}
 use Rattle.rpc_world.specs.Performed.{Performed}
+use Rattle.rpc_world.proofs.PeerLemmas.{copies-more, found-all, left-copies, net-copies, peers-more}
 use Rattle.rpc_world.proofs.PlainLemmas.{plainly-append, plainly-made, plainly-net, plainly-quiet}
 use Rattle.rpc_world.proofs.StaysLemmas.{ends-long}
 use Rattle.rpc_world.proofs.StepLemmas.{AreTheirs, performed-as, place-in}
 use Rattle.work_laws.proofs.StayLaws.{new-knows}
 
 -- the copies in flight and the clock don't matter to the workers
-pub flight-plays : (s : Play) (flight : List InFlight) (clock : ℕ) → AllPlay s
+pub flight-plays : (s : Play) (flight : List InFlight) (clock : ℕ)
+    → CopiesAmong (length s.ends) flight → AllPlay s
     → AllPlay (record { ends = s.ends; flight = flight; worked = s.worked; clock = clock })
-flight-plays s flight clock a = record { each = a.each; theirs = a.theirs }
+flight-plays s flight clock among a =
+    record { each = a.each; theirs = a.theirs; peers = a.peers; copies = among }
 
-pub flight-numbered : (z s : Play) (flight : List InFlight) → z ≡ s → IsNumbered s
-    → IsNumbered (record z { flight = flight })
-flight-numbered z s flight view m =
+pub flight-numbered : (z s : Play) (i : ℕ) (flight : List InFlight) → z ≡ s
+    → flight ≡ remove z.flight i → IsNumbered s → IsNumbered (record z { flight = flight })
+flight-numbered z s i flight view is m =
     let n : IsNumbered z = subst (λ (y : Play). IsNumbered y) (sym view) m in
-    record { playing = flight-plays z flight z.clock n.playing; few = n.few }
+    let among = left-copies (length z.ends) i z.flight n.playing.copies in
+    record {
+      playing = flight-plays z flight z.clock (rw is among) n.playing;
+      few = n.few;
+    }
+
+-- a copy that was in flight goes from a node to a node
+pub copy-among : (z s : Play) (i : ℕ) (copy : InFlight) → z ≡ s
+    → slice_get z.flight i ≡ Some copy → IsNumbered s
+    → (copy.from < length z.ends) × (copy.to < length z.ends)
+copy-among z s i copy view at m =
+    let n : IsNumbered z = subst (λ (y : Play). IsNumbered y) (sym view) m in
+    found-all (λ (c : InFlight). (c.from < length z.ends) × (c.to < length z.ends)) z.flight i copy
+    n.playing.copies at
 
 -- an event of the network
 pub of-net : (e : Event) (z s : Play) (flight : List InFlight) (f g : List Fact) → z ≡ s
@@ -51,7 +68,8 @@ of-net e z s flight f g view whole is grew =
       grew = grew;
       does = record { facts = refl; left = rw is refl };
       plain = plainly-net e (totals_of z) whole;
-      keeps = λ a. flight-plays z flight z.clock a;
+      keeps = λ a. flight-plays z flight z.clock
+          (rw is (net-copies (length z.ends) e z.flight a.copies)) a;
     })
 
 pub ticks : (by : ℕ) (z s : Play) (clock : ℕ) (f g : List Fact) → z ≡ s → clock ≡ z.clock + by
@@ -63,7 +81,7 @@ ticks by z s clock f g view is grew =
       grew = grew;
       does = record { facts = refl; left = rw is refl };
       plain = plainly-net (Ticked by) (totals_of z) refl;
-      keeps = λ a. flight-plays z z.flight clock a;
+      keeps = λ a. flight-plays z z.flight clock a.copies a;
     })
 
 -- a copy is taken out of flight, and delivered
@@ -80,7 +98,8 @@ carried i copy z s t f g h view at grew p =
       does = record { copy = copy; is_copy = at; delivered = p.group; facts = refl; arrives = p.does };
       plain = plainly-append (of_net (Carried i) ∷ []) p.group (totals_of z) (totals_of z) (totals_of t)
           (plainly-net (Carried i) (totals_of z) refl) p.plain;
-      keeps = λ a. p.keeps (flight-plays z (remove z.flight i) z.clock a);
+      keeps = λ a. p.keeps (flight-plays z (remove z.flight i) z.clock
+          (left-copies (length z.ends) i z.flight a.copies) a);
     })
 
 -- no worked job is of a node to come
@@ -114,6 +133,9 @@ module _ (ring : ℕ) (z : Play) (e : End)
         (none-of (length z.ends) z.worked a.theirs) refl refl;
   })
 
+  more-ends : length z.ends ≤ length (z.ends ++ e ∷ [])
+  more-ends = let more = length-append z.ends (e ∷ []) in omega (arith, more)
+
   all-plays : AllPlay z → AllPlay (record z { ends = z.ends ++ e ∷ [] })
   all-plays a = record {
     each = add-placed (λ n y. IsPlaying z.worked n y) z.ends e (new-plays a) a.each;
@@ -122,6 +144,11 @@ module _ (ring : ℕ) (z : Play) (e : End)
         all-each (λ (w : WorkedJob). w.node < length z.ends)
         (λ (w : WorkedJob). w.node < length (z.ends ++ e ∷ [])) z.worked
         (λ w less. omega (arith, less, more)) a.theirs;
+    peers = add-placed (λ n y. PeersAmong (length (z.ends ++ e ∷ [])) y.timed.lists) z.ends e
+        (subst (λ (y : End). PeersAmong (length (z.ends ++ e ∷ [])) y.timed.lists) (sym made) (tt, tt, tt))
+        (λ n y at. peers-more (length z.ends) (length (z.ends ++ e ∷ [])) y.timed.lists more-ends
+        (a.peers n y at));
+    copies = copies-more (length z.ends) (length (z.ends ++ e ∷ [])) z.flight more-ends a.copies;
   }
 
   pub makes-node : (s : Play) (f g : List Fact) → z ≡ s

@@ -14,7 +14,7 @@ use Rattle.rpc_base.specs.declared.event.Event.{Event}
 use Rattle.rpc_base.specs.declared.event.Event.TheVariants.{PairedClient, PairedServer, NconnectNumbers, NconnectRing}
 use Rattle.rpc_base.specs.declared.fact.Fact.{Fact}
 use Rattle.rpc_base.specs.declared.limits.TheConstants.{SESSION_NUMBERS}
-use Rattle.rpc_base.proofs.PlaceLemmas.{set-other}
+use Rattle.rpc_base.proofs.PlaceLemmas.{set-here, set-other}
 use Rattle.rpc_laws.specs.declared.tables.Lists.{Lists}
 use Rattle.rpc_laws.specs.declared.tables.Timed.{Timed}
 use Rattle.rpc_laws.specs.declared.tables.WorkedJob.{WorkedJob}
@@ -26,9 +26,10 @@ use Rattle.sim_script.specs.FollowsScript.{Pairs, PairsEnds, is_wanting, noted}
 use Rattle.rpc_world.specs.Answered.{End, Plainly, Play, stage_of, told_end, totals_of}
 use Rattle.rpc_world.specs.Before.{AllPlay, IsPlaying}
 use Rattle.rpc_world.specs.Performed.{Performed, AsksServer, NotesRefusal, TakesEnd, TakesEnds}
+use Rattle.rpc_world.proofs.PeerSteps.{noted-names}
 use Rattle.rpc_world.proofs.PlainLemmas.{changes_served, plainly-append, plainly-quiet, kept-quiet}
 use Rattle.rpc_world.proofs.QuietLemmas.{IsStill, leaving-step}
-use Rattle.rpc_world.proofs.StepLemmas.{NodeStep, stepped_play, steps-play}
+use Rattle.rpc_world.proofs.StepLemmas.{NodeStep, place-in, stepped_play, steps-play}
 use Rattle.work_laws.proofs.StayLaws.{goes-stays}
 use Rattle.work_laws.specs.Known.{changes_jobs}
 use Rattle.worker_crew.specs.Local.{Local, out_of}
@@ -222,14 +223,21 @@ module _ (a b credits p q u v : ℕ) (z : Play) (client client2 server server2 :
 
   one-plays : AllPlay z → AllPlay one
   one-plays all =
+      let done = m.step (all.each a client is_a) in
       subst (λ (w : List Fact). AllPlay (stepped_play z a client2 w)) m.facts
-      (steps-play a z client client2 x is_a (m.step (all.each a client is_a)).own (λ p. (m.step p).plays) all)
+      (steps-play a z client client2 x is_a done.own (λ p. (m.step p).plays)
+      (λ i. noted-names (length z.ends) (λ l. PairedClient (length l.clients) b q credits v)
+      (λ l. place-in z.ends b server found_b) (told_end client) x (told_end client2) i done.step) all)
 
   both-play : AllPlay z → AllPlay both
   both-play all =
       let now = one-plays all in
+      let done = n.step (now.each b server is_b) in
       subst (λ (w : List Fact). AllPlay (stepped_play one b server2 w)) n.facts
-      (steps-play b one server server2 y is_b (n.step (now.each b server is_b)).own (λ p. (n.step p).plays) now)
+      (steps-play b one server server2 y is_b done.own (λ p. (n.step p).plays)
+      (λ i. noted-names (length one.ends) (λ l. PairedServer l.server_numbers a p credits u)
+      (λ l. place-in one.ends a client2 (set-here z.ends a client client2 is_a))
+      (told_end server) y (told_end server2) i done.step) now)
 
   pub ends-by : (s : Play) (f g h : List Fact) → z ≡ s → g ≡ f ++ x → h ≡ g ++ y
       → Performed (TakesEnds a b credits) s both f h

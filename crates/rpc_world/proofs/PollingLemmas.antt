@@ -2,7 +2,7 @@
 use Rattle.std.proofs.Common.{◌≡◌, ℕ, ◌≤◌, ◌⊎◌, inl, inr, Bool, true, false, Some}
 use Rattle.std.proofs.Common.{List, [], ◌∷◌, ◌++◌, map, length, refl, sym, ap, ap₂, subst, ◌∙◌, arith}
 use Rattle.std.proofs.Common.{append-nil, append_assoc}
-use Rattle.std.specs.Prelude.{option_map, slice_set}
+use Rattle.std.specs.Prelude.{option_map, slice_get, slice_set}
 use Rattle.std.proofs.lemmas.List.{map-append}
 use Rattle.std.proofs.lemmas.Simd.{map-map}
 use Rattle.end_laws.proofs.OwnFacts.{poll-own}
@@ -32,12 +32,12 @@ use Rattle.rpc_laws.specs.Queues.{replies}
 use Rattle.rpc_laws.specs.Service.{plain_serving}
 use Rattle.rpc_laws.specs.Steps.{Rel, Then}
 use Rattle.rpc_laws.specs.Working.{FinishesEach, FinishesWorked, worked_after_all}
-use Rattle.rpc_outside.specs.Faults.{HasRisen}
+use Rattle.memory_count.specs.Faults.{HasRisen}
 use Rattle.rpc_outside.specs.Linking.{Carried}
 use Rattle.rpc_outside.specs.PlainAnswer.{background_answer, plain_mode}
 use Rattle.sim_script.specs.FollowsScript.{AtNode, PollsNode}
 use Rattle.rpc_world.specs.Answered.{End, Play, ServesAll, Whole, stage_of, told_end}
-use Rattle.rpc_world.specs.Before.{IsPlaying, local_members}
+use Rattle.rpc_world.specs.Before.{AllPlay, IsPlaying, local_members}
 use Rattle.rpc_world.specs.Performed.{Performed}
 use Rattle.rpc_world.proofs.EndLemmas.{staffed-has, valid-told}
 use Rattle.rpc_world.proofs.PlainLemmas.{AllOf, all-owned, plainly-served}
@@ -47,6 +47,11 @@ use Rattle.work_laws.proofs.PollLaws.{polls-known}
 use Rattle.work_laws.specs.Known.{FinishesFirst, job_name, left_names, worked_as}
 use Rattle.work_laws.specs.Laws.{PollsKnown, PollsWith}
 use Rattle.worker_board.specs.declared.Parcel.{Parcel}
+
+-- an endpoint of the world has its jobs, where the world was taken apart
+pub plays-at : (m : ℕ) (z s : Play) (e : End) → z ≡ s → AllPlay s → slice_get z.ends m ≡ Some e
+    → IsPlaying s.worked m e
+plays-at m z s e view all at = all.each m e (ap (λ (y : Play). slice_get y.ends m) (sym view) ∙ at)
 
 -- a link that is never busy doesn't stop the sending, where it doesn't fail
 pub never-busy : (b : Bool) → (b ≡ true → HasRisen 0 0) → b ≡ false

@@ -100,7 +100,8 @@ module _ (n : ℕ) (s : Play) (e : End) (at : slice_get s.ends n ≡ Some e) whe
           left = left-anew me;
         };
         plain = anew-plain;
-        keeps = λ a. steps-play n s e fresh x at (refl, tt) fresh-plays a;
+        keeps = λ a. steps-play n s e fresh x at (refl, tt) fresh-plays
+            (λ i. record { names = (tt, tt); peers = (tt, tt, tt) }) a;
       }
 
 -- so it is where the world was taken apart and put together again

@@ -27,7 +27,10 @@ use Rattle.world_laws.proofs.FactLemmas.{set-same}
 use Rattle.work_laws.proofs.StayLaws.{node-at, others-knows}
 use Rattle.rpc_world.specs.Answered.{End, Plainly, Play, Quiet, Whole, stage_of, told_end, totals_of}
 use Rattle.rpc_world.specs.Before.{AllPlay, IsPlaying}
+use Rattle.rpc_world.specs.Peers.{CopiesAmong, PeersAmong}
 use Rattle.rpc_world.specs.Performed.{Performed}
+use Rattle.rpc_world.proofs.PeerLemmas.{sent-copies}
+use Rattle.rpc_world.proofs.PeerSteps.{Named, Names}
 use Rattle.rpc_world.proofs.PlainLemmas.{AllOf, plainly-quiet}
 
 -- what a recorder in memory shows
@@ -52,7 +55,7 @@ pub grew-both : (r q u : MemRecorder) (x y : List Fact) → Grew (log_of r) (log
 grew-both r q u x y g h = record {
   since = λ w. g.since (h.since w);
   told = λ w. h.told w ∙ ap (λ (fs : List Fact). Some (fs ++ y))
-      (grew-facts r.facts.items q.facts.items r.whole q.whole x g (h.since w))
+      (grew-facts r.facts.items q.facts.items (r.memory == 0) (q.memory == 0) x g (h.since w))
       ∙ ap Some (append_assoc r.facts.items x y);
 }
 
@@ -130,7 +133,8 @@ stepped_play s n new x = record {
 }
 
 module _ (n : ℕ) (s : Play) (e new : End) (x : List Fact) (at : slice_get s.ends n ≡ Some e)
-    (own : AllOf n x) (plays : IsPlaying s.worked n e → IsPlaying (worked_after_all s.worked x) n new) where
+    (own : AllOf n x) (plays : IsPlaying s.worked n e → IsPlaying (worked_after_all s.worked x) n new)
+    (names : PeersAmong (length s.ends) e.timed.lists → Named (length s.ends) x (told_end new)) where
   each-plays : AllPlay s → (m : ℕ) (y : End) → slice_get (slice_set s.ends n new) m ≡ Some y
       → IsPlaying (worked_after_all s.worked x) m y
   each-plays all m y here = elim (cases_eq m n) [
@@ -150,17 +154,33 @@ module _ (n : ℕ) (s : Play) (e new : End) (x : List Fact) (at : slice_get s.en
         }
   ]
 
+  each-among : AllPlay s → (m : ℕ) (y : End) → slice_get (slice_set s.ends n new) m ≡ Some y
+      → PeersAmong (length s.ends) y.timed.lists
+  each-among all m y here = elim (cases_eq m n) [
+    | inl same ↦
+        let found : slice_get (slice_set s.ends n new) n ≡ Some y =
+        subst (λ k. slice_get (slice_set s.ends n new) k ≡ Some y) same here in
+        let is : new ≡ y = some-one new y (slice_get (slice_set s.ends n new) n) (set-here s.ends n e new at) found in
+        subst (λ (z : End). PeersAmong (length s.ends) z.timed.lists) is (names (all.peers n e at)).peers
+    | inr apart ↦ all.peers m y (sym (set-other s.ends n m new apart) ∙ here)
+  ]
+
   pub steps-play : AllPlay s → AllPlay (stepped_play s n new x)
   steps-play all = record {
     each = each-plays all;
     theirs = subst (λ k. AreTheirs k (worked_after_all s.worked x)) (sym (length-slice_set s.ends n new))
         (theirs-all (length s.ends) n x s.worked (place-in s.ends n e at) own all.theirs);
+    peers = λ m y here. subst (λ k. PeersAmong k y.timed.lists) (sym (length-slice_set s.ends n new))
+        (each-among all m y here);
+    copies = subst (λ k. CopiesAmong k (flight_after_all s.flight x)) (sym (length-slice_set s.ends n new))
+        (sent-copies (length s.ends) n x s.flight (place-in s.ends n e at) own
+        (names (all.peers n e at)).names all.copies);
   }
 
-pub at-node : (P : Rel) (n : ℕ) (s : Play) (e new : End) (x f g : List Fact) → AllPlay s
-    → slice_get s.ends n ≡ Some e → (IsPlaying s.worked n e → NodeStep P n s.worked e new x)
+pub at-node : (P : Rel) (n : ℕ) (s : Play) (e new : End) (x f g : List Fact)
+    → Names (length s.ends) P → AllPlay s → slice_get s.ends n ≡ Some e → (IsPlaying s.worked n e → NodeStep P n s.worked e new x)
     → g ≡ f ++ x → Performed (AtNode P n) s (stepped_play s n new x) f g
-at-node P n s e new x f g all at step grew =
+at-node P n s e new x f g names all at step grew =
     let done = step (all.each n e at) in
     record {
       group = x;
@@ -181,20 +201,21 @@ at-node P n s e new x f g all at step grew =
           (sym (map-set (λ (y : End). y.service) s.ends n new))
           (done.plain (totals_of s) (slice_get-map (λ (y : End). y.service) s.ends n
           ∙ ap (λ o. option_map (λ (y : End). y.service) o) at));
-      keeps = λ a. steps-play n s e new x at done.own (λ p. (step p).plays) a;
+      keeps = λ a. steps-play n s e new x at done.own (λ p. (step p).plays)
+          (λ i. names (told_end e) x (told_end new) i done.step) a;
     }
 
 -- so it is where the world was taken apart and put together again
 pub stepped : (P : Rel) (n : ℕ) (s z : Play) (e new : End) (x f g : List Fact) (from : ℕ) (t : Play)
-    → z ≡ s → AllPlay s → slice_get z.ends n ≡ Some e
+    → z ≡ s → Names (length s.ends) P → AllPlay s → slice_get z.ends n ≡ Some e
     → (IsPlaying s.worked n e → NodeStep P n s.worked e new x) → g ≡ f ++ x → from ≡ length f
     → t ≡ stepped_play z n new (drop from g) → Performed (AtNode P n) s t f g
-stepped P n s z e new x f g from t view all at step grew is_from is =
+stepped P n s z e new x f g from t view names all at step grew is_from is =
     let back = since f x g from grew is_from in
     let same : stepped_play s n new x ≡ t =
     ap (λ (y : Play). stepped_play y n new x) (sym view) ∙ (ap (stepped_play z n new) (sym back) ∙ sym is) in
     subst (λ (u : Play). Performed (AtNode P n) s u f g) same
-    (at-node P n s e new x f g all (ap (λ (y : Play). slice_get y.ends n) (sym view) ∙ at) step grew)
+    (at-node P n s e new x f g names all (ap (λ (y : Play). slice_get y.ends n) (sym view) ∙ at) step grew)
 
 -- the same group, as another relation has it
 pub performed-as : (P Q : Stage → List Fact → Stage → Type 0) (s t : Play) (f g : List Fact)

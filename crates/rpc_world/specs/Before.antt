@@ -9,6 +9,7 @@ use Rattle.rpc_laws.specs.declared.tables.WorkedJob.{WorkedJob}
 use Rattle.rpc_laws.specs.NodeLists.{limits_of}
 use Rattle.rpc_outside.specs.PlainAnswer.{background_answer}
 use Rattle.rpc_world.specs.Answered.{End, Play, told_end}
+use Rattle.rpc_world.specs.Peers.{CopiesAmong, PeersAmong}
 use Rattle.script_grammar.specs.declared.line.Command.{Command}
 use Rattle.script_grammar.specs.declared.line.Command.TheVariants.{Node}
 use Rattle.script_grammar.specs.declared.before.TheConstants.{MOST_NODES}
@@ -37,10 +38,14 @@ pub record IsPlaying (worked : List WorkedJob) (n : ℕ) (e : End) : Type 0 wher
   pub staffed : IsStaffed background_answer (staff_of local_members e.workers) e.timed
   pub knows : KnowsWork worked (told_end e) e.workers
 
--- so it is of each endpoint, and each job that was worked is one of theirs
+-- so it is of each endpoint, and each job that was worked is one of theirs. Their peers are among
+-- them, and each copy in flight goes from one of them to one
 pub record AllPlay (s : Play) : Type 0 where
   pub each : (n : ℕ) (e : End) → slice_get s.ends n ≡ Some e → IsPlaying s.worked n e
   pub theirs : AllByRecursion (λ w. w.node < length s.ends) s.worked
+  pub peers : (n : ℕ) (e : End) → slice_get s.ends n ≡ Some e
+      → PeersAmong (length s.ends) e.timed.lists
+  pub copies : CopiesAmong (length s.ends) s.flight
 
 -- and there are at most eight
 pub record IsNumbered (s : Play) : Type 0 where

@@ -1,11 +1,13 @@
 //! The jobs that were worked and aren't finished.
 ghost use Rattle.std.specs.Prelude.{◌≡◌, ◌==◌, not, OnOk};
+ghost use Rattle.memory_count.specs.Faults.{HasReason};
 ghost use Rattle.rpc_base.specs.Tables.{without_first};
 ghost use Rattle.rpc_laws.specs.Working.{is_worked, worked_after, worked_after_all};
 ghost use Rattle.rpc_laws.specs.Working.{worked_after_node};
 ghost use Rattle.std.specs.List.{filter, position};
 
-use rpc_base::{Event, Fact, Listed, NoMemory, NodeId, RequestNo, SessionNo, Who};
+use memory_count::{Memory, NoMemory};
+use rpc_base::{Event, Fact, Listed, NodeId, RequestNo, SessionNo, Who};
 use rpc_laws::WorkedJob;
 
 fn place_of(
@@ -46,16 +48,22 @@ fn leave_out(worked: &mut Listed<WorkedJob>, node: NodeId)
     }
 }
 
-fn keep_of(worked: &mut Listed<WorkedJob>, node: NodeId, event: &Event) -> Result<(), NoMemory>
-    ensures { OnOk result (worked.new ≡ worked_after_node node event.now worked.old) }
+fn keep_of(
+    memory: &mut Memory,
+    worked: &mut Listed<WorkedJob>,
+    node: NodeId,
+    event: &Event,
+) -> Result<(), NoMemory>
+    ensures kept { OnOk result (worked.new ≡ worked_after_node node event.now worked.old) }
+    ensures cause { HasReason memory.old memory.new result }
 {
     match event {
         Event::Worked { session, request } => {
-            worked.push(WorkedJob {
+            memory.of(worked.push(WorkedJob {
                 node,
                 session: *session,
                 request: *request,
-            })
+            }))
         }
         Event::Ran {
             session,
@@ -73,21 +81,31 @@ fn keep_of(worked: &mut Listed<WorkedJob>, node: NodeId, event: &Event) -> Resul
     }
 }
 
-fn keep_one(worked: &mut Listed<WorkedJob>, fact: &Fact) -> Result<(), NoMemory>
-    ensures { OnOk result (worked.new ≡ worked_after worked.old fact.now) }
+fn keep_one(
+    memory: &mut Memory,
+    worked: &mut Listed<WorkedJob>,
+    fact: &Fact,
+) -> Result<(), NoMemory>
+    ensures kept { OnOk result (worked.new ≡ worked_after worked.old fact.now) }
+    ensures cause { HasReason memory.old memory.new result }
 {
     match &fact.who {
-        Who::Node(node) => keep_of(worked, *node, &fact.event),
+        Who::Node(node) => keep_of(memory, worked, *node, &fact.event),
         Who::Net => Ok(()),
     }
 }
 
 /// A job that was worked waits to be finished; one whose answer was taken doesn't.
-pub fn keep(worked: &mut Listed<WorkedJob>, facts: &[Fact]) -> Result<(), NoMemory>
-    ensures { OnOk result (worked.new ≡ worked_after_all worked.old facts.now) }
+pub fn keep(
+    memory: &mut Memory,
+    worked: &mut Listed<WorkedJob>,
+    facts: &[Fact],
+) -> Result<(), NoMemory>
+    ensures kept { OnOk result (worked.new ≡ worked_after_all worked.old facts.now) }
+    ensures cause { HasReason memory.old memory.new result }
 {
     for fact in facts {
-        keep_one(worked, fact)?;
+        keep_one(memory, worked, fact)?;
     }
     Ok(())
 }

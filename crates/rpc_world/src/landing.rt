@@ -1,25 +1,31 @@
 //! What a step of a node leaves: what it sent is in flight, and the jobs that it worked aren't
 //! finished.
-ghost use Rattle.std.specs.Prelude.{◌≡◌, ◌≤◌, ◌++◌, false, true, length, drop, map, OnOk};
+ghost use Rattle.std.specs.Prelude.{◌≡◌, ◌≤◌, ◌==◌, ◌++◌, true, length, drop, map, OnOk};
+ghost use Rattle.memory_count.specs.Faults.{HasReason};
 ghost use Rattle.network_model.specs.Sending.{copy_from};
 ghost use Rattle.rpc_laws.specs.InFlight.{flight_after_all};
 ghost use Rattle.rpc_laws.specs.Working.{worked_after_all};
-ghost use Rattle.rpc_world.specs.Answered.{Whole};
 ghost use Rattle.std.specs.List.{list_any};
 ghost use Rattle.sim_script.specs.FollowsScript.{is_wanting};
 
 use crate::finished::keep;
 use crate::network::launch;
 use crate::running::Running;
+use memory_count::{Memory, NoMemory};
 use network_model::NodeLink;
-use rpc_base::{DropReason, Event, Fact, NoMemory, NodeId};
+use rpc_base::{DropReason, Event, Fact, NodeId};
 use rpc_outside::MemRecorder;
 
-/// Ends a run where there was no memory for a fact.
-pub fn check_whole(rec: &MemRecorder) -> Result<(), NoMemory>
-    ensures { OnOk result (rec.now.whole ≡ true) }
+/// Ends a run where there was no memory for a fact: the recorder's refusals count.
+pub fn check_whole(memory: &mut Memory, rec: &MemRecorder) -> Result<(), NoMemory>
+    ensures whole { OnOk result ((rec.now.memory == 0) ≡ true) }
+    ensures cause { HasReason memory.old memory.new result }
 {
-    if rec.whole() { Ok(()) } else { Err(NoMemory) }
+    if rec.whole() {
+        return Ok(());
+    }
+    memory.add(rec.memory());
+    Err(NoMemory)
 }
 
 fn is_wanting(event: &Event) -> bool
@@ -41,38 +47,40 @@ fn tell_of_want(facts: &[Fact]) -> bool
     facts.iter().any(|fact| is_wanting(&fact.event))
 }
 
-/// Ends a run in which something was wanting since so many facts.
-pub fn check_wants(rec: &MemRecorder, before: usize) -> Result<(), NoMemory>
-    requires { rec.now.whole ≡ true → before ≤ length rec.now.facts.items }
-    ensures kept { OnOk result (rec.now.whole ≡ true) }
-    ensures whole { OnOk result (Whole (drop before rec.now.facts.items)) }
+/// Whether the facts since the first `before` tell that something was wanting.
+pub fn is_wanted(rec: &MemRecorder, before: usize) -> bool
+    requires { before ≤ length rec.now.facts.items }
+    ensures { result ≡ list_any (λ f. is_wanting f.event) (drop before rec.now.facts.items) }
 {
-    check_whole(rec)?;
-    if tell_of_want(&rec.facts()[before..]) {
-        return Err(NoMemory);
-    }
-    Ok(())
+    tell_of_want(&rec.facts()[before..])
 }
 
 /// What the facts since the first `before` say was sent goes into flight, and the jobs that they
 /// say were worked wait to be finished. `NoMemory` comes also where a fact was lost.
-pub fn land(stage: &mut Running, rec: &MemRecorder, before: usize) -> Result<(), NoMemory>
-    requires { rec.now.whole ≡ true → before ≤ length rec.now.facts.items }
-    ensures whole { OnOk result (rec.now.whole ≡ true) }
+pub fn land(
+    memory: &mut Memory,
+    stage: &mut Running,
+    rec: &MemRecorder,
+    before: usize,
+) -> Result<(), NoMemory>
+    requires { (rec.now.memory == 0) ≡ true → before ≤ length rec.now.facts.items }
+    ensures whole { OnOk result ((rec.now.memory == 0) ≡ true) }
     ensures stage { OnOk result (stage.new ≡ record stage.old {
       flight = flight_after_all stage.old.flight (drop before rec.now.facts.items);
       worked = worked_after_all stage.old.worked (drop before rec.now.facts.items);
     }) }
+    ensures cause { HasReason memory.old memory.new result }
 {
-    check_whole(rec)?;
-    launch(&mut stage.flight, &rec.facts()[before..])?;
-    keep(&mut stage.worked, &rec.facts()[before..])?;
+    check_whole(memory, rec)?;
+    launch(memory, &mut stage.flight, &rec.facts()[before..])?;
+    keep(memory, &mut stage.worked, &rec.facts()[before..])?;
     Ok(())
 }
 
 /// What a poll of the node leaves: what it sent, by its link, is in flight, and the jobs that the
 /// facts since the first `before` say were worked or finished are kept.
 pub fn land_sent(
+    memory: &mut Memory,
     stage: &mut Running,
     rec: &MemRecorder,
     before: usize,
@@ -80,12 +88,13 @@ pub fn land_sent(
     link: NodeLink,
 ) -> Result<(), NoMemory>
     requires { before ≤ length rec.now.facts.items }
-    ensures { OnOk result (stage.new ≡ record stage.old {
+    ensures stage { OnOk result (stage.new ≡ record stage.old {
       flight = stage.old.flight ++ map (copy_from node) link.sent;
       worked = worked_after_all stage.old.worked (drop before rec.now.facts.items);
     }) }
+    ensures cause { HasReason memory.old memory.new result }
 {
-    link.send_into(node, &mut stage.flight)?;
-    keep(&mut stage.worked, &rec.facts()[before..])?;
+    link.send_into(memory, node, &mut stage.flight)?;
+    keep(memory, &mut stage.worked, &rec.facts()[before..])?;
     Ok(())
 }

@@ -1,5 +1,6 @@
 //! Jobs of the nodes are worked.
 ghost use Rattle.std.specs.Prelude.{◌≡◌, ◌<◌, [], ◌∷◌, length, Some, OnOk};
+ghost use Rattle.memory_count.specs.Faults.{HasReason};
 ghost use Rattle.rpc_world.specs.Logged.{log_of};
 ghost use Rattle.rpc_laws.specs.Facts.{plain};
 ghost use Rattle.rpc_laws.specs.Working.{Works};
@@ -12,7 +13,8 @@ ghost use Rattle.rpc_world.specs.Worked.{WorksAllAt};
 use crate::landing::land;
 use crate::running::Running;
 use endpoint_loop::Endpoint;
-use rpc_base::{Event, NoMemory, NodeId, RequestNo, SessionNo, Who};
+use memory_count::{Memory, NoMemory};
+use rpc_base::{Event, NodeId, RequestNo, SessionNo, Who};
 use rpc_outside::{MemRecorder, PlainDuty, PlainService, Recorder};
 use worker_crew::LocalWorkers;
 
@@ -31,6 +33,7 @@ fn note_work(rec: &mut MemRecorder, me: NodeId, j: u32, named: Option<(SessionNo
 /// `work A J`: works that waiting job of the node, in the order of giving from 0, or notes that
 /// there is none.
 pub fn work_job(
+    memory: &mut Memory,
     stage: &mut Running,
     rec: &mut MemRecorder,
     node: NodeId,
@@ -38,16 +41,17 @@ pub fn work_job(
 ) -> Result<(), NoMemory>
     requires node { node < length stage.old.ends }
     requires numbered { IsNumbered stage.old }
-    ensures { OnOk result
+    ensures performed { OnOk result
         (Performed (AtNode (Works stage.old.worked job) node)
         stage.old stage.new rec.old.facts.items rec.new.facts.items) }
+    ensures cause { HasReason memory.old memory.new result }
 {
     let before = rec.facts().len();
     let working = stage.nodes.at_mut(usize::from(node.0));
     working.sound();
     let named = working.workers().work(job);
     note_work(rec, node, job, named);
-    land(stage, rec, before)?;
+    land(memory, stage, rec, before)?;
     Ok(())
 }
 
@@ -63,16 +67,22 @@ fn work_all(working: &mut Endpoint<PlainService, LocalWorkers<PlainDuty>>, rec: 
 }
 
 /// Works the jobs of the node that wait, the oldest first, until there is none.
-pub fn work_node(stage: &mut Running, rec: &mut MemRecorder, node: NodeId) -> Result<(), NoMemory>
+pub fn work_node(
+    memory: &mut Memory,
+    stage: &mut Running,
+    rec: &mut MemRecorder,
+    node: NodeId,
+) -> Result<(), NoMemory>
     requires node { node < length stage.old.ends }
     requires numbered { IsNumbered stage.old }
-    ensures { OnOk result
+    ensures performed { OnOk result
         (Performed (WorksNode node) stage.old stage.new rec.old.facts.items
         rec.new.facts.items) }
+    ensures cause { HasReason memory.old memory.new result }
 {
     let before = rec.facts().len();
     let working = stage.nodes.at_mut(usize::from(node.0));
     work_all(working, rec);
-    land(stage, rec, before)?;
+    land(memory, stage, rec, before)?;
     Ok(())
 }

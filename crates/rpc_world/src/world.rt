@@ -1,5 +1,6 @@
 //! The world that runs a script.
 ghost use Rattle.std.specs.Prelude.{◌≡◌, ◌≢◌, List, [], IfOk};
+ghost use Rattle.memory_count.specs.Faults.{HasReason};
 ghost use Rattle.rpc_base.specs.declared.fact.Fact.{Fact};
 ghost use Rattle.ring_laws.specs.PairsOnce.{PairsOnce};
 ghost use Rattle.lawful_history.specs.Lawful.{Lawful};
@@ -13,11 +14,11 @@ ghost use Rattle.world_laws.specs.NodeFacts.{facts_of};
 use crate::command::execute;
 use crate::running::Running;
 use endpoint_loop::Endpoint;
-use rpc_base::{Listed, NoMemory, NodeId};
+use memory_count::{Memory, NoMemory};
+use rpc_base::{Listed, NodeId};
 use rpc_laws::History;
 use rpc_outside::{MemRecorder, PlainDuty, PlainService};
 use sim_script::Script;
-use std::alloc::Global;
 use std::marker::Model;
 use worker_crew::LocalWorkers;
 
@@ -42,9 +43,9 @@ impl Model for World {
 }
 
 impl World {
-    /// Runs a script: its nodes over one network. `NoMemory` comes where there is no memory for the
-    /// history and the tables.
-    pub fn run(alloc: Global, script: &Script) -> Result<World, NoMemory>
+    /// Runs a script: its nodes over one network. `NoMemory` comes only where memory for the
+    /// history or the tables was refused.
+    pub fn run(memory: &mut Memory, script: &Script) -> Result<World, NoMemory>
         ensures follows { IfOk result (λ w. Follows script.now w) }
         // No other history follows the script.
         ensures one { IfOk result (λ w. (h : List Fact) → Follows script.now h → h ≡ w) }
@@ -55,20 +56,22 @@ impl World {
         ensures no_stall { IfOk result (λ w. NoStall script.now w) }
         // Of each node at the end.
         ensures requests { IfOk result (λ w. EndTells script.now w) }
+        ensures cause { HasReason memory.old memory.new result }
     {
-        let world = World::play(alloc, script)?;
+        let world = World::play(memory, script)?;
         Ok(world)
     }
 
     // Does one command after the other.
-    fn play(alloc: Global, script: &Script) -> Result<World, NoMemory>
+    fn play(memory: &mut Memory, script: &Script) -> Result<World, NoMemory>
         ensures follows { IfOk result (λ w. Follows script.now w) }
         ensures script { IfOk result (λ w. IsScript script.now) }
+        ensures cause { HasReason memory.old memory.new result }
     {
-        let mut rec = MemRecorder::new(alloc);
-        let mut stage = Running::new(alloc);
+        let mut rec = MemRecorder::new(memory.alloc());
+        let mut stage = Running::new(memory.alloc());
         for line in script.lines() {
-            execute(alloc, &mut stage, &mut rec, &line.command)?;
+            execute(memory, &mut stage, &mut rec, &line.command)?;
         }
         let Running { nodes, .. } = stage;
         Ok(World {

@@ -1,5 +1,6 @@
 use Rattle.std.proofs.Common.{◌≡◌, ◌∙◌, ap, length}
 use Rattle.rpc_laws.specs.Groups.{SetsRate}
+use Rattle.rpc_world.proofs.PeerSteps.{rates-names}
 use Rattle.rpc_world.proofs.QuietLemmas.{leaving-step, rates-still}
 use Rattle.rpc_world.proofs.StepLemmas.{grew-facts, grew-since, stepped}
 use Rattle.rpc_world.proofs.rating.rate_on.Goals as goal
@@ -9,14 +10,15 @@ land-requires c =
     let makes = c.set_rate-answer.ensures.call.makes in
     grew-since _ _ _ _ _ _ makes.grew (ap length c.facts-before.ensures)
 
-pub returns : goal.returns
-returns c =
+pub returns-clause-performed : goal.returns-clause-performed
+returns-clause-performed c =
     let is_n : c.from.result ≡ c.args.node = c.from.ensures ∙ c.node.view_is in
     let land = c.in_ok-land.ensures in
     let P = SetsRate c.args.session c.args.rate in
     let makes = c.set_rate-answer.ensures.call.makes in
     stepped P c.args.node c.args.stage.now _
-    c.at_mut-rating.result.now _ _ _ _ _ _ c.stage.view_is c.requires.numbered.playing
+    c.at_mut-rating.result.now _ _ _ _ _ _ c.stage.view_is (rates-names _ c.args.session c.args.rate)
+    c.requires.numbered.playing
     (rw is_n at c.at_mut-rating.ensures.value)
     (leaving-step P c.args.node c.args.stage.now.worked c.at_mut-rating.result.now _ makes.noted
     c.set_rate-answer.ensures.call.leaves

@@ -14,12 +14,14 @@ use Rattle.rpc_world.proofs.StandLemmas.{all-stand}
 use Rattle.rpc_world.proofs.world.World.play.Goals as goal
 
 pub loop-line-init : goal.loop-line-init
-loop-line-init c = rw (c.new-rec.ensures.facts, c.new-stage.ensures) ((refl, refl), plainly-none [], stands-first _)
+loop-line-init c =
+    rw (c.new-rec.ensures.facts, c.new-stage.ensures)
+    ((refl, refl), plainly-none [], stands-first _, omega arith)
 
 pub loop-line-preserved : goal.loop-line-preserved
 loop-line-preserved c =
     let within : c.loop-line.line-index < length c.lines-line-items.result.now = omega arith in
-    let p = c.in_ok-execute.ensures in
+    let p = c.in_ok-execute.ensures.performed in
     rw (
       take_more c.lines-line-items.result.now c.loop-line.line-index c.line-item.result within,
       ← c.line-item.is,
@@ -30,6 +32,7 @@ loop-line-preserved c =
       stands-after _ _ _ _ _ _ _ _
           c.lines-line-items.ensures.lines c.lines-line-items.ensures.script within c.line-item.is
           c.loop-line.invariant.2 p,
+      omega (arith, c.in_ok-execute.ensures.cause, c.loop-line.invariant.3),
     )
 
 pub returns-clause-follows : goal.returns-clause-follows
