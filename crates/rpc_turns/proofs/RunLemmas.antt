@@ -1,5 +1,5 @@
 -- Turns, one after another.
-use Rattle.std.proofs.Common.{◌≡◌, ℕ, ◌+◌, Option, List, [], ◌∷◌, ◌++◌, refl, sym, ap, ap₂}
+use Rattle.std.proofs.Common.{◌≡◌, ℕ, ◌+◌, List, [], ◌∷◌, ◌++◌, refl, sym, ap, ap₂}
 use Rattle.std.proofs.Common.{◌∙◌}
 use Rattle.std.proofs.Common.{subst, append_assoc, append-nil, length-append}
 use Rattle.std.specs.Prelude.{option_map}
@@ -12,7 +12,7 @@ use Rattle.rpc_outside.specs.Ticking.{Gives}
 use Rattle.rpc_outside.specs.declared.service.Service as Service
 use Rattle.server_core.proofs.FlushLemmas.{grew-none, grew-then}
 use Rattle.endpoint_loop.specs.Stands.{GoesOn, StandsFor}
-use Rattle.rpc_turns.specs.Moments.{Edges, Moment, Outside}
+use Rattle.rpc_turns.specs.Moments.{Moment, Outside}
 use Rattle.rpc_turns.specs.Turns.{GoesOnBy, RunsOn, Stands, TellsTurn}
 use Rattle.worker_crew.specs.declared.workers.Workers as Workers
 

@@ -3,6 +3,7 @@ use Rattle.std.proofs.Common.{◌≡◌, ℕ, Bool, true, false, cond, ltb, Opti
 use Rattle.std.proofs.Common.{length, refl, sym, ap, ap₂, ◌∙◌, subst, arith, append_assoc, append-nil}
 use Rattle.std.specs.Prelude.{IsTrue, ◌↔◌, map, option_map}
 use Rattle.std.specs.List.{filter}
+use Rattle.endpoint_node.specs.Changes.{Change}
 use Rattle.endpoint_node.specs.Jobs.{staff_of}
 use Rattle.rpc_outside.specs.Recording.{Log}
 use Rattle.client_core.specs.declared.outcome.Done.{Done}
@@ -203,8 +204,8 @@ counts-turn told s quiet rest then_rest is h = record {
 -- what a turn tells, of which it is known what it is
 module _ {V W L C R K : Type 0} (service : Service.Ghosts V) (workers : Workers.Ghosts W)
     (o : Outside L C R) (given : K → List Done → Type 0) (turn : Option Turn)
-    (old new : Moment (Rested V W) L C R) (from to : K)
-    (h : TakesTurn service workers o given turn old new from to) where
+    (old new : Moment (Rested V W) L C R) (from to : K) (memory : Change ℕ)
+    (h : TakesTurn service workers o given turn old new from to memory) where
   abbrev first : List Fact
   first = h.turns.takes.delivers.noted
 

@@ -2,7 +2,6 @@
 use Rattle.std.proofs.Common.{◌≡◌, [], ◌++◌, refl, sym, ap₂, ◌∙◌}
 use Rattle.std.proofs.lemmas.List.{map-append}
 use Rattle.client_core.specs.Shown.{done_fact}
-use Rattle.client_core.specs.declared.outcome.Done.{Done}
 use Rattle.endpoint_loop.specs.Endpoints.{Running}
 use Rattle.endpoint_node.proofs.HandedGiven.{gave-none, gave-then}
 use Rattle.endpoint_node.proofs.NoteEnds.{ends-append}
@@ -28,7 +27,7 @@ module _ {V W L C R : Type 0} (service : Service.Ghosts V) (workers : Workers.Gh
 
   -- another queue of the same calls, of the same endpoint
   pub gathers-as : (a b c : Running V W) (f g h : R) (j k l : Ended) → c ≡ b → h ≡ g
-      → l.dones.items ≡ k.dones.items → l.whole ≡ k.whole
+      → l.dones.items ≡ k.dones.items → l.memory ≡ k.memory
       → Gathers o.log service workers a b f g j k → Gathers o.log service workers a c f h j l
   gathers-as a b c f g h j k l same still items whole p = rw (same, still) (record {
     goes = p.goes;

@@ -1,5 +1,6 @@
 pub mod Buffers
 pub mod Chains
+pub mod Lacks
 pub mod Moments
 pub mod Plain
 pub mod Queue

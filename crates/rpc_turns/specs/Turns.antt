@@ -1,9 +1,10 @@
 -- Turns of an endpoint by a clock.
-use Rattle.std.specs.Prelude.{◌≡◌, ℕ, Option, List, [], ◌++◌, length, map, option_map}
+use Rattle.std.specs.Prelude.{◌≡◌, ℕ, Option, List, ◌++◌, length, map, option_map}
 use Rattle.std.specs.List.{filter}
 use Rattle.client_core.specs.Shown.{done_fact}
 use Rattle.client_core.specs.declared.outcome.Done.{Done}
 use Rattle.endpoint_loop.specs.declared.endpoint.poll.Turn.{Turn}
+use Rattle.endpoint_node.specs.Changes.{Change}
 use Rattle.endpoint_node.specs.Given.{Gave}
 use Rattle.endpoint_node.specs.Notes.{asked_in, is_end, sent_of}
 use Rattle.endpoint_loop.specs.Endpoints.{Running}
@@ -41,13 +42,14 @@ pub record GoesOnBy {R V W : Type 0} (log : R → Log) (service : Service.Ghosts
 -- endpoint made one turn then
 pub record TakesTurn {V W L C R K : Type 0} (service : Service.Ghosts V)
     (workers : Workers.Ghosts W) (o : Outside L C R) (given : K → List Done → Type 0)
-    (told : Option Turn) (old new : Moment (Rested V W) L C R) (from to : K) : Type 0 where
+    (told : Option Turn) (old new : Moment (Rested V W) L C R) (from to : K) (memory : Change ℕ)
+    : Type 0 where
   pub ready : L
   pub rests : Rests o.net (is_asleep old.run.rest) old.edges.link ready
   pub now : ℕ
   pub ticks : Gives o.gave old.edges.clock new.edges.clock now
   pub turns : MakesTurn o.log o.net given service workers told now ready new.edges.link
-      old.run.endpoint new.run.endpoint old.edges.rec new.edges.rec from to
+      old.run.endpoint new.run.endpoint old.edges.rec new.edges.rec from to memory
   pub counts : CountsTurn told new.run.endpoint.timed.lists old.run.rest new.run.rest
 
 -- what the facts of a turn tell besides: the calls that the continuation was given are those whose

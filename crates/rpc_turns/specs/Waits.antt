@@ -32,4 +32,4 @@ pub record GivesFirst {V W R : Type 0} (log : R → Log) (service : Service.Ghos
   pub queue : Ended
   pub gathers : Gathers log service workers old new before now from queue
   pub first : queue.dones.items ≡ done ∷ to.dones.items
-  pub whole : to.whole ≡ queue.whole
+  pub whole : to.memory ≡ queue.memory

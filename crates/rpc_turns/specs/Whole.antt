@@ -13,13 +13,14 @@ use Rattle.rpc_turns.specs.declared.ended.Ended.{Ended}
 use Rattle.rpc_turns.specs.declared.rest.Rest.{Rest}
 use Rattle.worker_crew.specs.declared.workers.Workers as Workers
 
--- its endpoint, what it does where nothing comes, what is around the endpoint, and the calls that
--- are over and weren't taken out yet
+-- its endpoint, what it does where nothing comes, what is around the endpoint, the calls that are
+-- over and weren't taken out yet, and how often memory was refused to it
 pub record Whole (V W L C R : Type 0) : Type 0 where
   pub endpoint : Running V W
   pub rest : Rest
   pub edges : Edges L C R
   pub ended : Ended
+  pub refused : ℕ
 
 -- where it stands
 abbrev pub rested_in : {V W L C R : Type 0} → Whole V W L C R → Moment (Rested V W) L C R

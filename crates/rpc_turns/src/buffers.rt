@@ -1,17 +1,18 @@
 //! The buffers of calls, which are used again.
 ghost use Rattle.std.specs.Prelude.{◌≡◌, ◌≤◌, length, IfOk};
+ghost use Rattle.memory_count.specs.Faults.{HasCause};
 ghost use Rattle.message_buffer.specs.Buffer.{bytes_of, capacity_of};
 ghost use Rattle.rpc_turns.specs.Buffers.{AreBuffersFor};
 
 use client_core::Done;
+use memory_count::{Memory, NoMemory};
 use message_buffer::{MOST_CAPACITY, MsgBuf};
-use rpc_base::{MOST_MESSAGE_BYTES, NoMemory};
+use rpc_base::MOST_MESSAGE_BYTES;
 use std::alloc::Global;
 
 /// The buffers of calls that are over, for further ones.
 #[derive(Debug, Drop)]
 pub struct Buffers {
-    alloc: Global,
     spare: Vec<(MsgBuf, MsgBuf)>,
 }
 
@@ -27,51 +28,61 @@ fn filled(mut req: MsgBuf, ask: &[u8]) -> MsgBuf
     req
 }
 
+// New buffers.
+fn made(memory: &mut Memory, ask: &[u8], room: u32) -> Result<(MsgBuf, MsgBuf), NoMemory>
+    requires ask { length ask.now ≤ MOST_MESSAGE_BYTES }
+    requires room { room ≤ MOST_CAPACITY }
+    ensures buffers { IfOk result (λ b. AreBuffersFor ask.now room b.0 b.1) }
+    ensures cause { HasCause memory.old memory.new result }
+{
+    let req = MsgBuf::new(memory, ask.len() as u32)?;
+    let resp = MsgBuf::new(memory, room)?;
+    Ok((filled(req, ask), resp))
+}
+
 impl Buffers {
     /// No buffers. Takes no memory.
     pub fn new(alloc: Global) -> Buffers {
         Buffers {
-            alloc,
             spare: Vec::new(alloc),
         }
-    }
-
-    // New buffers.
-    fn made(&self, ask: &[u8], room: u32) -> Result<(MsgBuf, MsgBuf), NoMemory>
-        requires ask { length ask.now ≤ MOST_MESSAGE_BYTES }
-        requires room { room ≤ MOST_CAPACITY }
-        ensures { IfOk result (λ b. AreBuffersFor ask.now room b.0 b.1) }
-    {
-        let req = MsgBuf::new(self.alloc, ask.len() as u32)?;
-        let resp = MsgBuf::new(self.alloc, room)?;
-        Ok((filled(req, ask), resp))
     }
 
     /// The buffers of a call that asks these bytes, at most 1,048,576, and whose answer may have
     /// `room` bytes, at most `MOST_CAPACITY`: those of a call that is over, where some are spare
     /// and they are large enough, or new ones. `NoMemory` comes only where there is none for them.
-    pub fn pair(&mut self, ask: &[u8], room: u32) -> Result<(MsgBuf, MsgBuf), NoMemory>
+    pub fn pair(
+        &mut self,
+        memory: &mut Memory,
+        ask: &[u8],
+        room: u32,
+    ) -> Result<(MsgBuf, MsgBuf), NoMemory>
         requires ask { length ask.now ≤ MOST_MESSAGE_BYTES }
         requires room { room ≤ MOST_CAPACITY }
-        ensures { IfOk result (λ b. AreBuffersFor ask.now room b.0 b.1) }
+        ensures buffers { IfOk result (λ b. AreBuffersFor ask.now room b.0 b.1) }
+        ensures cause { HasCause memory.old memory.new result }
     {
         let Some((req, resp)) = self.spare.pop() else {
-            return self.made(ask, room);
+            return made(memory, ask, room);
         };
         if (req.capacity() as usize) < ask.len() || resp.capacity() != room {
-            return self.made(ask, room);
+            return made(memory, ask, room);
         }
         Ok((filled(req, ask), resp))
     }
 
     /// Keeps these buffers for a further call, as long as there is memory to.
-    pub fn keep(&mut self, req: MsgBuf, resp: MsgBuf) {
-        let _kept = self.spare.push((req, resp));
+    pub fn keep(&mut self, memory: &mut Memory, req: MsgBuf, resp: MsgBuf)
+        ensures { memory.old ≤ memory.new }
+    {
+        let _kept = memory.push(&mut self.spare, (req, resp));
     }
 
     /// Keeps the buffers of a call that is over.
-    pub fn give_back(&mut self, done: Done) {
+    pub fn give_back(&mut self, memory: &mut Memory, done: Done)
+        ensures { memory.old ≤ memory.new }
+    {
         let Done { req, resp, .. } = done;
-        self.keep(req, resp);
+        self.keep(memory, req, resp);
     }
 }

@@ -1,9 +1,11 @@
 //! Sessions and calls of a run.
 ghost use Rattle.std.specs.Prelude.{◌≡◌, ◌≤◌, [], true, length, IfErr, IfOk, OnErr, OnOk};
+ghost use Rattle.memory_count.specs.Faults.{HasRisenBy};
 ghost use Rattle.endpoint_node.specs.Notes.{Makes};
 ghost use Rattle.message_buffer.specs.Buffer.{bytes_of, capacity_of};
 ghost use Rattle.rpc_base.specs.declared.state.SessionState.TheVariants.{Connected};
 ghost use Rattle.rpc_laws.specs.Groups.{Asks};
+ghost use Rattle.rpc_turns.specs.Lacks.{lacks};
 ghost use Rattle.rpc_turns.specs.Waits.{GivesFirst};
 ghost use Rattle.rpc_turns.specs.Whole.{Goes, state_in};
 ghost use Rattle.rpc_turns.specs.declared.error.RpcError.TheVariants.{TurnsSpent};
@@ -24,8 +26,12 @@ impl<V: Service, W: Workers, L: Link, C: Clock, R: Recorder> Running<V, W, L, C,
         ensures number { IfOk result (λ s. s ≡ length self.old.endpoint.timed.lists.clients) }
         ensures goes_on { Goes V.Service W.Workers R.log self.old self.new }
         ensures link { self.new.edges.link ≡ self.old.edges.link }
+        ensures cause { HasRisenBy (lacks result) self.old.refused self.new.refused }
     {
-        match self.endpoint.connect(peer, credits.count, 0, &mut self.rec) {
+        match self
+            .endpoint
+            .connect(&mut self.memory, peer, credits.count, 0, &mut self.rec)
+        {
             Ok(session) => Ok(session),
             Err(why) => Err(RpcError::from(why)),
         }
@@ -36,6 +42,7 @@ impl<V: Service, W: Workers, L: Link, C: Clock, R: Recorder> Running<V, W, L, C,
     pub fn connect(&mut self, addr: &str, credits: Credits) -> Result<SessionNo, RpcError>
         ensures number { IfOk result (λ s. s ≡ length self.old.endpoint.timed.lists.clients) }
         ensures goes_on { Goes V.Service W.Workers R.log self.old self.new }
+        ensures cause { HasRisenBy (lacks result) self.old.refused self.new.refused }
     {
         let peer = self.link.peer(addr)?;
         self.open(peer, credits)
@@ -43,7 +50,8 @@ impl<V: Service, W: Workers, L: Link, C: Clock, R: Recorder> Running<V, W, L, C,
 
     // Whether a session is connected, and not still Connecting.
     fn is_connected(&self, session: SessionNo) -> Result<bool, RpcError>
-        ensures { IfOk result (λ b. b ≡ true → state_in self.now session ≡ Connected) }
+        ensures connected { IfOk result (λ b. b ≡ true → state_in self.now session ≡ Connected) }
+        ensures never_memory { lacks result ≡ 0 }
     {
         match self.state(session) {
             SessionState::Connected => Ok(true),
@@ -56,6 +64,7 @@ impl<V: Service, W: Workers, L: Link, C: Clock, R: Recorder> Running<V, W, L, C,
     fn wait_connected(&mut self, session: SessionNo, turns: u32) -> Result<(), RpcError>
         ensures connected { OnOk result (state_in self.new session ≡ Connected) }
         ensures goes_on { Goes V.Service W.Workers R.log self.old self.new }
+        ensures cause { HasRisenBy (lacks result) self.old.refused self.new.refused }
     {
         'turns: for _turn in 0..turns {
             if self.is_connected(session)? {
@@ -78,6 +87,7 @@ impl<V: Service, W: Workers, L: Link, C: Clock, R: Recorder> Running<V, W, L, C,
         ensures connected { IfOk result (λ s. state_in self.new s ≡ Connected) }
         ensures number { IfOk result (λ s. s ≡ length self.old.endpoint.timed.lists.clients) }
         ensures goes_on { Goes V.Service W.Workers R.log self.old self.new }
+        ensures cause { HasRisenBy (lacks result) self.old.refused self.new.refused }
     {
         let session = self.connect(addr, credits)?;
         self.wait_connected(session, turns)?;
@@ -98,15 +108,21 @@ impl<V: Service, W: Workers, L: Link, C: Clock, R: Recorder> Running<V, W, L, C,
         ensures number { IfOk result (λ call. call ≡ self.old.endpoint.timed.lists.asked) }
         ensures goes_on { Goes V.Service W.Workers R.log self.old self.new }
         ensures unchanged { OnErr result (self.new.endpoint ≡ self.old.endpoint) }
+        ensures cause { HasRisenBy (lacks result) self.old.refused self.new.refused }
     {
-        match self
-            .endpoint
-            .ask(session, req_type, req, resp, 0, &mut self.rec)
-        {
+        match self.endpoint.ask(
+            &mut self.memory,
+            session,
+            req_type,
+            req,
+            resp,
+            0,
+            &mut self.rec,
+        ) {
             Ok(call) => Ok(call),
             Err(refused) => {
                 let Refused { why, req, resp } = refused;
-                self.buffers.keep(req, resp);
+                self.buffers.keep(&mut self.memory, req, resp);
                 Err(RpcError::from(why))
             }
         }
@@ -130,11 +146,12 @@ impl<V: Service, W: Workers, L: Link, C: Clock, R: Recorder> Running<V, W, L, C,
         ensures number { IfOk result (λ call. call ≡ self.old.endpoint.timed.lists.asked) }
         ensures goes_on { Goes V.Service W.Workers R.log self.old self.new }
         ensures unchanged { OnErr result (self.new.endpoint ≡ self.old.endpoint) }
+        ensures cause { HasRisenBy (lacks result) self.old.refused self.new.refused }
     {
         if ask.len() > MOST_MESSAGE_BYTES as usize {
             return Err(RpcError::TooLarge);
         }
-        let (req, resp) = self.buffers.pair(ask, room)?;
+        let (req, resp) = self.buffers.pair(&mut self.memory, ask, room)?;
         self.ask_with(session, req_type, req, resp)
     }
 
@@ -148,6 +165,7 @@ impl<V: Service, W: Workers, L: Link, C: Clock, R: Recorder> Running<V, W, L, C,
         ensures spent { IfErr result
             (λ why. why ≡ TurnsSpent → self.new.ended.dones.items ≡ []) }
         ensures goes_on { Goes V.Service W.Workers R.log self.old self.new }
+        ensures cause { HasRisenBy (lacks result) self.old.refused self.new.refused }
     {
         'turns: for _turn in 0..turns {
             if let Some(done) = self.ended() {
@@ -166,6 +184,8 @@ impl<V: Service, W: Workers, L: Link, C: Clock, R: Recorder> Running<V, W, L, C,
     pub fn disconnect(&mut self, session: SessionNo) -> Result<(), RpcError>
         ensures goes_on { Goes V.Service W.Workers R.log self.old self.new }
         ensures unchanged { OnErr result (self.new.endpoint ≡ self.old.endpoint) }
+        ensures never_memory { lacks result ≡ 0 }
+        ensures refused { self.new.refused ≡ self.old.refused }
     {
         match self.endpoint.disconnect(session, &mut self.rec) {
             Ok(()) => Ok(()),

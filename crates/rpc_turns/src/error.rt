@@ -1,9 +1,12 @@
 //! Why a call of a run fails.
 ghost use Rattle.std.specs.Prelude.{◌≡◌, ◌≢◌};
+ghost use Rattle.endpoint_node.specs.declared.node.calls.AskError.TheVariants.{NoMemory as AskWanting};
 ghost use Rattle.rpc_turns.specs.declared.error.RpcError.TheVariants.{Link, NoMemory as Wanting};
+ghost use Rattle.session_mgmt.specs.declared.answers.ConnectError.TheVariants.{NoMemory as ConnectWanting};
 
 use endpoint_loop::{AskError, LinkFault};
-use rpc_base::{NoMemory, SessionState};
+use memory_count::NoMemory;
+use rpc_base::SessionState;
 use rpc_outside::Failed;
 use session_mgmt::{CloseError, ConnectError};
 use std::error::Error;
@@ -72,7 +75,7 @@ impl From<NoMemory> for RpcError {
 }
 
 impl From<ConnectError> for RpcError {
-    ghost from_gives = { λ _ e. e ≢ Link };
+    ghost from_gives = { λ why e. (e ≢ Link) × (e ≡ Wanting → why ≡ ConnectWanting) };
 
     fn from(why: ConnectError) -> RpcError {
         match why {
@@ -84,7 +87,7 @@ impl From<ConnectError> for RpcError {
 }
 
 impl From<AskError> for RpcError {
-    ghost from_gives = { λ _ e. e ≢ Link };
+    ghost from_gives = { λ why e. (e ≢ Link) × (e ≡ Wanting → why ≡ AskWanting) };
 
     fn from(why: AskError) -> RpcError {
         match why {
@@ -96,7 +99,7 @@ impl From<AskError> for RpcError {
 }
 
 impl From<CloseError> for RpcError {
-    ghost from_gives = { λ _ e. e ≢ Link };
+    ghost from_gives = { λ _ e. (e ≢ Link) × (e ≢ Wanting) };
 
     fn from(why: CloseError) -> RpcError {
         match why {

@@ -1,6 +1,7 @@
 //! Endpoints whose jobs are worked on their own thread, or that have none.
 ghost use Rattle.std.specs.Prelude.{◌≡◌, ◌≢◌, ◌≤◌, ℕ, [], IfOk};
 ghost use Rattle.endpoint_node.specs.Packets.{WorksFor};
+ghost use Rattle.memory_count.specs.Faults.{HasCause};
 ghost use Rattle.rpc_base.specs.Limits.{Fits};
 ghost use Rattle.rpc_laws.specs.NodeLists.{new_node};
 ghost use Rattle.rpc_laws.specs.Lives.{first_life};
@@ -8,10 +9,10 @@ ghost use Rattle.rpc_laws.specs.Service.{rules_of};
 ghost use Rattle.rpc_turns.specs.Turns.{Stands};
 
 use endpoint_loop::Endpoint;
+use memory_count::{Memory, NoMemory};
 use packet_header::{FIRST_LIFE, Life};
-use rpc_base::{Limits, NoMemory, NodeId};
+use rpc_base::{Limits, NodeId};
 use rpc_outside::{Duty, Service};
-use std::alloc::Global;
 use worker_crew::{LocalWorkers, Workers};
 
 /// The duty of a service without background types: nothing is asked of it.
@@ -32,7 +33,7 @@ pub type NoWorkers = LocalWorkers<NoDuty>;
 /// workers to which no job was given, which take as many jobs, and which answer background requests
 /// as the service does. It noted nothing so far. `NoMemory` comes only where there is none for it.
 pub fn new_endpoint<V: Service + Drop, W: Workers + Drop>(
-    alloc: Global,
+    memory: &mut Memory,
     limits: Limits,
     service: V,
     workers: W,
@@ -46,9 +47,10 @@ pub fn new_endpoint<V: Service + Drop, W: Workers + Drop>(
     ensures service { IfOk result (λ e. e.service ≡ service) }
     ensures workers { IfOk result (λ e. e.workers ≡ workers) }
     ensures stands { IfOk result (Stands V.Service W.Workers limits []) }
+    ensures cause { HasCause memory.old memory.new result }
 {
     let life = Life(FIRST_LIFE);
-    match Endpoint::new(alloc, NodeId(0), life, limits, service, workers) {
+    match Endpoint::new(memory, NodeId(0), life, limits, service, workers) {
         Ok(endpoint) => Ok(endpoint),
         Err(_workers) => Err(NoMemory),
     }
@@ -56,13 +58,14 @@ pub fn new_endpoint<V: Service + Drop, W: Workers + Drop>(
 
 /// Workers for a service without background types, and with usual limits. `NoMemory` comes only
 /// where there is none for them.
-pub fn no_workers(alloc: Global, limits: Limits) -> Result<NoWorkers, NoMemory>
-    ensures { IfOk result (λ w. w ≡ record {
+pub fn no_workers(memory: &mut Memory, limits: Limits) -> Result<NoWorkers, NoMemory>
+    ensures made { IfOk result (λ w. w ≡ record {
       limit = limits.jobs;
       given = 0;
       waiting = [];
       worked = [];
     }) }
+    ensures cause { HasCause memory.old memory.new result }
 {
-    LocalWorkers::new(alloc, NoDuty, limits.jobs)
+    LocalWorkers::new(memory, NoDuty, limits.jobs)
 }

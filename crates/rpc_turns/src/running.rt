@@ -1,8 +1,9 @@
 //! A run that owns all that it is made of.
-ghost use Rattle.std.specs.Prelude.{◌≡◌, ◌≢◌, ◌++◌, ℕ, [], drop, option_to_list, IfOk};
+ghost use Rattle.std.specs.Prelude.{◌≡◌, ◌≢◌, ◌≤◌, ◌++◌, ℕ, [], drop, option_to_list, IfOk};
+ghost use Rattle.endpoint_node.specs.Changes.{◌⟶◌};
 ghost use Rattle.endpoint_node.specs.Handed.{GivesBackTo};
 ghost use Rattle.endpoint_loop.specs.Polls.{turn_of};
-ghost use Rattle.rpc_outside.specs.Faults.{HasCause};
+ghost use Rattle.memory_count.specs.Faults.{HasCause};
 ghost use Rattle.rpc_outside.specs.declared.service.Mode.TheVariants.{Background};
 ghost use Rattle.rpc_turns.specs.Moments.{edges_of, outside};
 ghost use Rattle.rpc_turns.specs.Plain.{Stands, limits_at};
@@ -20,8 +21,9 @@ use crate::rest::{Rest, rests_for};
 use crate::turn::take_turn;
 use client_core::Done;
 use endpoint_loop::{Endpoint, LinkFault, Turn};
+use memory_count::{Memory, NoMemory};
 use packet_header::{FIRST_LIFE, Life};
-use rpc_base::{Limits, NoMemory, SessionNo, SessionState, USUAL_TIMEOUT};
+use rpc_base::{Limits, SessionNo, SessionState, USUAL_TIMEOUT};
 use rpc_outside::{Clock, Duty, Failed, Link, NoRecord, PlainService, Recorder, Service};
 use std::alloc::Global;
 use std::marker::Model;
@@ -38,6 +40,7 @@ pub struct Running<V: Service, W: Workers, L: Link, C: Clock, R: Recorder> {
     pub(crate) rec: R,
     pub(crate) ended: Ended,
     pub(crate) buffers: Buffers,
+    pub(crate) memory: Memory,
 }
 
 // Written by hand, so that whoever lets one go makes a call, and proves nothing of its parts.
@@ -58,6 +61,7 @@ where
             rec: _rec,
             ended: _ended,
             buffers: _buffers,
+            memory: _memory,
         } = self;
     }
 }
@@ -73,6 +77,7 @@ impl<V: Service, W: Workers, L: Link, C: Clock, R: Recorder> Model for Running<V
       rest = r.rest;
       edges = edges_of r.link r.clock r.rec;
       ended = r.ended;
+      refused = r.memory;
     } };
 }
 
@@ -92,6 +97,7 @@ impl<V: Service, W: Workers, L: Link, C: Clock, R: Recorder> Running<V, W, L, C,
         ensures rest { result.rest ≡ rest }
         ensures edges { result.edges ≡ edges_of link clock rec }
         ensures ended { KeepsAll result.ended [] }
+        ensures refused { result.refused ≡ 0 }
     {
         Running {
             endpoint,
@@ -101,6 +107,7 @@ impl<V: Service, W: Workers, L: Link, C: Clock, R: Recorder> Running<V, W, L, C,
             rec,
             ended: Ended::new(alloc),
             buffers: Buffers::new(alloc),
+            memory: Memory::new(alloc),
         }
     }
 
@@ -113,6 +120,13 @@ impl<V: Service, W: Workers, L: Link, C: Clock, R: Recorder> Running<V, W, L, C,
             result }
     {
         self.link.bind(addr)
+    }
+
+    /// How often memory was refused to it. What it keeps of calls that are over isn't counted.
+    pub fn refused(&self) -> u64
+        ensures { result ≡ self.now.refused }
+    {
+        self.memory.refused()
     }
 
     /// The state of a client session: Unknown where its number was never used.
@@ -128,7 +142,7 @@ impl<V: Service, W: Workers, L: Link, C: Clock, R: Recorder> Running<V, W, L, C,
     pub fn turn(&mut self) -> Result<Turn, LinkFault>
         ensures takes { TakesTurn V.Service W.Workers (outside L.Link C.gave R.log) KeepsAll
             (turn_of result) (rested_in self.old) (rested_in self.new) self.old.ended
-            self.new.ended }
+            self.new.ended (self.old.refused ⟶ self.new.refused) }
         ensures tells { TellsTurn V.Service W.Workers (outside L.Link C.gave R.log) KeepsAll
             (endpoint_in self.old) (endpoint_in self.new) self.old.ended self.new.ended }
         ensures goes_on { Goes V.Service W.Workers R.log self.old self.new }
@@ -137,8 +151,10 @@ impl<V: Service, W: Workers, L: Link, C: Clock, R: Recorder> Running<V, W, L, C,
         ensures team { W.team self.new.endpoint.workers ≡ W.team self.old.endpoint.workers }
         ensures handed { GivesBackTo KeepsAll self.old.endpoint.handed self.new.endpoint.handed
             self.old.ended self.new.ended }
+        ensures no_less { self.old.refused ≤ self.new.refused }
     {
         take_turn(
+            &mut self.memory,
             &mut self.endpoint,
             &mut self.rest,
             &mut self.link,
@@ -162,19 +178,21 @@ impl<V: Service, W: Workers, L: Link, C: Clock, R: Recorder> Running<V, W, L, C,
         ensures items { self.old.ended.dones.items
             ≡ option_to_list result ++ self.new.ended.dones.items }
         ensures rest { self.new.ended.dones.items ≡ drop 1 self.old.ended.dones.items }
-        ensures whole { self.new.ended.whole ≡ self.old.ended.whole }
+        ensures whole { self.new.ended.memory ≡ self.old.ended.memory }
         ensures endpoint { self.new.endpoint ≡ self.old.endpoint }
         ensures rec { self.new.edges.rec ≡ self.old.edges.rec }
         ensures edges { self.new.edges ≡ self.old.edges }
+        ensures refused { self.new.refused ≡ self.old.refused }
     {
         self.ended.take()
     }
 
-    /// Keeps the buffers of a call that is over for a further one.
+    /// Keeps the buffers of a call that is over for a further one, where there is memory to.
     pub fn give_back(&mut self, done: Done)
-        ensures { self.new ≡ self.old }
+        ensures kept { self.new ≡ record self.old { refused = self.new.refused } }
+        ensures no_less { self.old.refused ≤ self.new.refused }
     {
-        self.buffers.give_back(done);
+        self.buffers.give_back(&mut self.memory, done);
     }
 
     /// Lets the run go, with its sessions, its buffers and its jobs.
@@ -206,6 +224,7 @@ impl<V: Service, W: Workers, L: Link, C: Clock, R: Recorder> Running<V, W, L, C,
             rec: _rec,
             ended: _ended,
             buffers: _buffers,
+            memory: _memory,
         } = self;
         endpoint.into_workers()
     }
@@ -219,7 +238,7 @@ impl<V: Service + Drop, L: Link + Drop, C: Clock + Drop> InlineRunning<V, L, C> 
     /// has no background types. It sleeps where nothing comes, and keeps no facts. `NoMemory` comes
     /// only where there is none for the endpoint.
     pub fn inline(
-        alloc: Global,
+        memory: &mut Memory,
         service: V,
         link: L,
         clock: C,
@@ -228,10 +247,12 @@ impl<V: Service + Drop, L: Link + Drop, C: Clock + Drop> InlineRunning<V, L, C> 
         requires service { V.stands service [] }
         ensures service { IfOk result (λ r. r.endpoint.service ≡ service) }
         ensures ended { IfOk result (λ r. KeepsAll r.ended []) }
+        ensures cause { HasCause memory.old memory.new result }
     {
         let limits = Limits::usual();
-        let workers = no_workers(alloc, limits)?;
-        let endpoint = new_endpoint(alloc, limits, service, workers)?;
+        let workers = no_workers(memory, limits)?;
+        let endpoint = new_endpoint(memory, limits, service, workers)?;
+        let alloc = memory.alloc();
         Ok(Running::over(alloc, endpoint, Rest::new(true), link, clock, NoRecord))
     }
 }
@@ -244,13 +265,20 @@ impl<H: Wait + Drop, L: Link + Drop, C: Clock + Drop> PlainRunning<H, L, C> {
     /// link and by this clock. Its crew has no hands, and works by itself; its calls wait by the handle `rt`. It
     /// sleeps where nothing comes, and keeps no facts. `NoMemory` comes only where there is none
     /// for the endpoint.
-    pub fn plain(rt: H, alloc: Global, link: L, clock: C) -> Result<PlainRunning<H, L, C>, NoMemory>
+    pub fn plain(
+        memory: &mut Memory,
+        rt: H,
+        link: L,
+        clock: C,
+    ) -> Result<PlainRunning<H, L, C>, NoMemory>
         ensures stands { IfOk result (λ r. Stands (limits_at USUAL_TIMEOUT) [] r.endpoint) }
         ensures ended { IfOk result (λ r. KeepsAll r.ended []) }
+        ensures cause { HasCause memory.old memory.new result }
     {
         let mut spawner = SerialSpawner::new();
         let (life, timeout) = (Life(FIRST_LIFE), USUAL_TIMEOUT as u32);
-        let endpoint = plain_endpoint(rt, alloc, life, timeout, 0, &mut spawner)?;
+        let endpoint = plain_endpoint(memory, rt, life, timeout, 0, &mut spawner)?;
+        let alloc = memory.alloc();
         Ok(Running::over(alloc, endpoint, Rest::new(true), link, clock, NoRecord))
     }
 }

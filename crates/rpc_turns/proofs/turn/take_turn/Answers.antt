@@ -17,7 +17,7 @@ returns-clause-takes g c = record {
 pub returns-clause-tells : goal.returns-clause-tells
 returns-clause-tells g c =
     turn-tells g.V.Service g.W.Workers (outside g.L.Link g.C.Clock.gave g.R.Recorder.log)
-    g.K.Continuation.given (turn_of c.turn-turned.result) _ _ _ _
+    g.K.Continuation.given (turn_of c.turn-turned.result) _ _ _ _ _
     (record {
       ready = c.sleep.new.link;
       rests = c.sleep.ensures;

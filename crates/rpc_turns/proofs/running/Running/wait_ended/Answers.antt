@@ -1,5 +1,5 @@
 -- turns, one after another, until a call is over
-use Rattle.std.proofs.Common.{◌≡◌, refl, sym}
+use Rattle.std.proofs.Common.{◌≡◌, refl, sym, arith}
 use Rattle.endpoint_loop.proofs.StandingLaw.{goes-nowhere}
 use Rattle.rpc_turns.proofs.RunLemmas.{on-then}
 use Rattle.rpc_turns.proofs.WaitLemmas.{gathers-as, gathers-none, gathers-then}
@@ -11,6 +11,7 @@ pub turns-init : goal.turns-init
 turns-init g c = (
   goes-nowhere g.R.Recorder.log g.V.Service g.W.Workers _ _ _ _ refl refl,
   gathers-none g.V.Service g.W.Workers (outside g.L.Link g.C.Clock.gave g.R.Recorder.log) _ _ _,
+  omega arith,
 )
 
 pub turns-preserved : goal.turns-preserved
@@ -29,6 +30,7 @@ turns-preserved g c =
           _ _ _ _ _ _ _ _ _ c.ended.ensures.endpoint c.ended.ensures.rec (sym none)
           c.ended.ensures.whole i.1)
           c.turn.ensures.tells,
+      omega (arith, i.2, c.ended.ensures.refused, c.turn.ensures.no_less),
     )
 
 pub returns-in_err-turn-clause-goes_on : goal.returns-in_err-turn-clause-goes_on
