@@ -1,9 +1,10 @@
 -- Calls are asked, one after another.
 use Rattle.std.proofs.Common.{◌≡◌, ◌⊎◌, inl, inr, ℕ, suc, ◌+◌, ◌<◌, ◌≤◌, false, Option, Some, None}
-use Rattle.std.proofs.Common.{List, [], ◌++◌, ltb, le-ltb, refl, sym, ◌∙◌, arith}
+use Rattle.std.proofs.Common.{List, [], ◌++◌, ltb, le-ltb, refl, sym, subst, ◌∙◌, arith}
 use Rattle.std.specs.Prelude.{Err}
 use Rattle.rpc_outside.specs.Recording.{Log}
 use Rattle.endpoint_node.specs.Asks.{IsAskedAs, refusal_of}
+use Rattle.endpoint_node.specs.Lacks.{lacks_for}
 use Rattle.endpoint_node.specs.declared.node.calls.AskError.{AskError}
 use Rattle.endpoint_node.specs.declared.node.calls.AskError.TheVariants.{NoMemory}
 use Rattle.endpoint_node.specs.declared.node.calls.Refused.{Refused}
@@ -13,6 +14,8 @@ use Rattle.endpoint_node.proofs.NoteEnds.{makes-as, makes-join}
 use Rattle.load_plan.specs.Calls.{Calls, asked_bytes, room_of}
 use Rattle.load_run.specs.Loading.{AsksCalls, AsksNext, Keeps, LoadsSoFar, Passes, pending_in}
 use Rattle.load_run.proofs.PassLemmas.{passes-none, passes-then}
+use Rattle.memory_count.proofs.Risen.{risen-one}
+use Rattle.memory_count.specs.Faults.{HasRisen, HasRisenBy}
 use Rattle.message_buffer.specs.Buffer.{Buffer}
 use Rattle.rpc_base.specs.declared.fact.Fact.{Fact}
 use Rattle.rpc_base.specs.declared.state.SessionState.{SessionState}
@@ -114,3 +117,9 @@ wants-memory len next req resp state r h few on =
         → r.why ≡ NoMemory
     by o free (inl e) = let never : None ≡ Some r.why = sym free ∙ e in cc
     by o free (inr h) = h.0
+
+-- and then memory was refused
+pub lacked : (why : AskError) (m n : ℕ) → why ≡ NoMemory → HasRisenBy (lacks_for why) m n
+    → HasRisen m n
+lacked why m n is risen =
+    risen-one m n (subst (λ (w : AskError). HasRisenBy (lacks_for w) m n) is risen)

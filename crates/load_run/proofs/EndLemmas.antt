@@ -1,6 +1,6 @@
 -- How the turns of a run end.
 use Rattle.std.proofs.Common.{◌≡◌, ◌≢◌, ◌⊎◌, ℕ, suc, ◌+◌, ◌<◌, ◌≤◌, Bool, true, false, cond}
-use Rattle.std.proofs.Common.{List, refl, sym, subst, ◌∙◌, inl, inr, arith}
+use Rattle.std.proofs.Common.{refl, sym, subst, ◌∙◌, inl, inr, arith}
 use Rattle.std.specs.Prelude.{◌==◌, ◌&&◌}
 use Rattle.std.proofs.lemmas.Bool.{eq-eqb, eqb-true}
 use Rattle.load_run.specs.Loading.{Answers, HasLoaded, LoadsOn, LoadsSoFar, LoadsTurns, TurnsEnd}
@@ -10,7 +10,7 @@ use Rattle.load_run.proofs.TurnLemmas.{loads-none, loads-then}
 use Rattle.rpc_turns.proofs.RunLemmas.{goes-none, goes-then}
 use Rattle.rpc_turns.specs.Moments.{Moment, Outside}
 use Rattle.rpc_turns.specs.Plain.{GoesOnBy}
-use Rattle.rpc_outside.specs.Faults.{HasRisen}
+use Rattle.memory_count.specs.Faults.{HasRisen}
 use Rattle.rpc_outside.specs.Writing.{Wrote, Written}
 use Rattle.run_status.specs.declared.going.Going.{Going}
 use Rattle.run_status.specs.declared.going.Going.TheVariants.{On, Over}

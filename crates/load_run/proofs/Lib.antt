@@ -1,8 +1,9 @@
 mod AskLemmas
 mod EndLemmas
+mod LackLemmas
 mod LoadLemmas
 mod OrderLemmas
 mod PassLemmas
+mod StartLemmas
 mod TallyLemmas
 mod TurnLemmas
-mod StartLemmas

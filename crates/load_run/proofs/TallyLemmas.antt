@@ -18,7 +18,7 @@ use Rattle.rpc_base.proofs.BasicLemmas.{not-true}
 use Rattle.rpc_base.specs.declared.event.Event.{Event}
 use Rattle.rpc_base.specs.declared.event.Event.TheVariants.{DoneOk, DoneTooSmall, DonePeerLost}
 use Rattle.rpc_base.specs.declared.fact.Fact.{Fact}
-use Rattle.rpc_outside.specs.Faults.{end_of_count, one_more}
+use Rattle.memory_count.specs.Faults.{end_of_count, one_more}
 
 same-or : (a b : Ending) → (a ≡ b) ⊎ (a ≢ b)
 same-or Right Right = inl refl

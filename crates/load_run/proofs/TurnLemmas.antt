@@ -1,11 +1,12 @@
 -- Turns of a run, each prepared and then made.
-use Rattle.std.proofs.Common.{◌≡◌, ◌≢◌, ℕ, ◌+◌, Bool, true, false, Option}
-use Rattle.std.proofs.Common.{List, [], ◌∷◌, ◌++◌, map, refl, sym, ap, subst, ◌∙◌, arith}
+use Rattle.std.proofs.Common.{◌≡◌, ◌≢◌, ℕ, ◌+◌, Option}
+use Rattle.std.proofs.Common.{[], ◌∷◌, ◌++◌, map, refl, sym, ap, subst, ◌∙◌, arith}
 use Rattle.std.proofs.Common.{append-nil}
 use Rattle.std.proofs.Common.{add-zero}
 use Rattle.std.specs.Prelude.{option_map, Result, Ok, Err, OnOk, OnErr}
 use Rattle.rpc_outside.specs.Recording.{Log}
 use Rattle.client_core.specs.Shown.{done_fact}
+use Rattle.endpoint_node.specs.Changes.{Change}
 use Rattle.endpoint_node.specs.Notes.{asked_in, is_asked, sent_of}
 use Rattle.endpoint_loop.specs.PlainMembers.{plain_members}
 use Rattle.endpoint_loop.specs.declared.endpoint.poll.Turn.{Turn}
@@ -19,7 +20,7 @@ use Rattle.load_run.specs.Tallies.{Counts}
 use Rattle.load_run.proofs.OrderLemmas.{order-none, order-then}
 use Rattle.load_run.proofs.TallyLemmas.{counts-none, counts-noted, counts-silent, counts-then}
 use Rattle.rpc_turns.proofs.RunLemmas.{goes-none, goes-then, runs-then}
-use Rattle.rpc_turns.specs.Moments.{Edges, Moment, Outside, edges_of, where_at}
+use Rattle.rpc_turns.specs.Moments.{Edges, Moment, Outside}
 use Rattle.rpc_turns.specs.Plain.{End, crew_members}
 use Rattle.rpc_turns.specs.Queue.{KeepsAll}
 use Rattle.rpc_turns.specs.Turns.{TakesTurn, TellsTurn}
@@ -53,7 +54,7 @@ module _ {L C R : Type 0} (o : Outside L C R) where
       old.run.session old.run.asked ready.asked
       → TellsTurn plain_members crew_members o KeepsAll (end_at (prepared old ready mid))
       (end_at new) none ended
-      → Gives o.gave old.edges.clock new.edges.clock now → KeepsAll none [] → ended.whole ≡ true
+      → Gives o.gave old.edges.clock new.edges.clock now → KeepsAll none [] → ended.memory ≡ 0
       → Counts (map (done_fact 0) ended.dones.items) ready.ledger new.run.ledger
       → Keeps old.run ready
       → new.run.asked ≡ ready.asked → new.run.session ≡ ready.session
@@ -147,15 +148,15 @@ module _ {L C R : Type 0} (o : Outside L C R) where
   }
 
 -- a count is either made or for want of memory
-pub counted-or : {T E : Type 0} (r : Result T E) (P : Type 0) (whole : Bool) → OnOk r P
-    → OnErr r (whole ≡ false) → whole ≡ true → P
-counted-or (Ok x) P whole made lost kept = made
-counted-or (Err e) P whole made lost kept = let no : true ≡ false = sym kept ∙ lost in cc
+pub counted-or : {T E : Type 0} (r : Result T E) (P : Type 0) (lost : ℕ) → OnOk r P
+    → OnErr r (lost ≢ 0) → lost ≡ 0 → P
+counted-or (Ok x) P lost made some none = made
+counted-or (Err e) P lost made some none = absurd (some none)
 
 -- and what is known of it, by the run that was prepared
 module _ {L C R : Type 0} (o : Outside L C R) (old : Moment LoadsSoFar L C R)
     (ready shown : LoadsSoFar) (mid : R) (edges : Edges L C R) (next : End) (rest : Rest)
-    (counted : Ledger) (none ended : Ended)
+    (counted : Ledger) (none ended : Ended) (memory : Change ℕ)
     (same : shown ≡ ready) (keeps : Keeps old.run ready) (empty : KeepsAll none []) where
   abbrev after : LoadsSoFar → Moment LoadsSoFar L C R
   after s = record {
@@ -169,7 +170,7 @@ module _ {L C R : Type 0} (o : Outside L C R) (old : Moment LoadsSoFar L C R)
   pub has-loaded : (told : Option Turn) → Prepares o.log old.run ready old.edges.rec mid
       → TakesTurn plain_members crew_members o KeepsAll told
       (rested_by shown.endpoint shown.rest then_edges) (rested_by next rest edges) none ended
-      → (ended.whole ≡ true → Counts (map (done_fact 0) ended.dones.items) shown.ledger counted)
+      memory → (ended.memory ≡ 0 → Counts (map (done_fact 0) ended.dones.items) shown.ledger counted)
       → HasLoaded o old (after shown)
   has-loaded told prepares takes counts = record {
     ready = ready;
@@ -180,9 +181,10 @@ module _ {L C R : Type 0} (o : Outside L C R) (old : Moment LoadsSoFar L C R)
     none = none;
     none_over = empty;
     ended = ended;
+    memory = memory;
     takes = subst (λ (s : LoadsSoFar). TakesTurn plain_members crew_members o KeepsAll told
-        (rested_by s.endpoint s.rest then_edges) (rested_by next rest edges) none ended) same
-        takes;
+        (rested_by s.endpoint s.rest then_edges) (rested_by next rest edges) none ended memory)
+        same takes;
     counts = λ kept.
         subst (λ (s : LoadsSoFar). Counts (map (done_fact 0) ended.dones.items) s.ledger counted)
         same (counts kept);
@@ -195,7 +197,7 @@ module _ {L C R : Type 0} (o : Outside L C R) (old : Moment LoadsSoFar L C R)
       → TellsTurn plain_members crew_members o KeepsAll
       (record { run = shown.endpoint; edges = then_edges }) (record { run = next; edges = edges })
       none ended
-      → Gives o.gave old.edges.clock edges.clock now → ended.whole ≡ true
+      → Gives o.gave old.edges.clock edges.clock now → ended.memory ≡ 0
       → Counts (map (done_fact 0) ended.dones.items) shown.ledger counted
       → LoadsOn o old (after shown) 1
   loads-turn now passes turn tick kept counts =

@@ -7,6 +7,7 @@ use Rattle.client_core.specs.Shown.{done_fact}
 use Rattle.count_line.specs.declared.word.Word.TheVariants as word
 use Rattle.count_line.specs.Line.{line_text}
 use Rattle.endpoint_loop.specs.declared.endpoint.poll.Turn.{Turn}
+use Rattle.endpoint_node.specs.Changes.{Change}
 use Rattle.endpoint_node.specs.Notes.{Makes, asked_in, is_asked, is_end, sent_of}
 use Rattle.endpoint_loop.specs.PlainMembers.{plain_members}
 use Rattle.endpoint_node.specs.Status.{pending_told}
@@ -38,7 +39,7 @@ use Rattle.rpc_laws.specs.Facts.{plain, with_bytes}
 use Rattle.rpc_laws.specs.Groups.{Asks, Disconnects, state_of}
 use Rattle.rpc_laws.specs.Sessions.{is_client}
 use Rattle.rpc_laws.specs.Steps.{Rel, Visits}
-use Rattle.rpc_outside.specs.Faults.{HasRisen}
+use Rattle.memory_count.specs.Faults.{HasRisen}
 use Rattle.rpc_outside.specs.Linking.{NoneComes}
 use Rattle.rpc_outside.specs.Recording.{Grew, Log}
 use Rattle.rpc_outside.specs.Writing.{Broke, Wrote, Written}
@@ -152,8 +153,8 @@ abbrev pub rested_by : {L C R : Type 0} → (endpoint : End) → Rest → Edges 
     → Moment (Rested ℕ CrewState) L C R
 rested_by endpoint rest edges = record { run = rested endpoint rest; edges = edges }
 
--- a turn was made: it was prepared, and the endpoint made a turn. The calls that were over then
--- were counted, where there was memory for each
+-- a turn was made: it was prepared, and the endpoint made a turn, while so often memory was refused.
+-- The calls that were over then were counted, where there was memory for each
 pub record HasLoaded {L C R : Type 0} (o : Outside L C R) (old new : Moment LoadsSoFar L C R)
     : Type 0 where
   pub ready : LoadsSoFar
@@ -164,10 +165,11 @@ pub record HasLoaded {L C R : Type 0} (o : Outside L C R) (old new : Moment Load
   pub none : Ended
   pub none_over : KeepsAll none []
   pub ended : Ended
+  pub memory : Change ℕ
   pub takes : TakesTurn plain_members crew_members o KeepsAll told
       (rested_by ready.endpoint ready.rest (record old.edges { rec = mid }))
-      (rested_by new.run.endpoint new.run.rest new.edges) none ended
-  pub counts : ended.whole ≡ true
+      (rested_by new.run.endpoint new.run.rest new.edges) none ended memory
+  pub counts : ended.memory ≡ 0
       → Counts (map (done_fact 0) ended.dones.items) ready.ledger new.run.ledger
   pub then_is : new.run ≡ record ready {
     endpoint = new.run.endpoint;

@@ -8,7 +8,7 @@ use Rattle.load_run.specs.declared.tally.Tally.{Tally}
 use Rattle.rpc_base.specs.declared.event.Event.{Event}
 use Rattle.rpc_base.specs.declared.event.Event.TheVariants.{DoneOk, DoneTooSmall, DonePeerLost}
 use Rattle.rpc_base.specs.declared.fact.Fact.{Fact}
-use Rattle.rpc_outside.specs.Faults.{end_of_count}
+use Rattle.memory_count.specs.Faults.{end_of_count}
 
 -- whether a fact ends a call so: well, with a right answer or a wrong one; with an answer that was
 -- too large; or without its peer

@@ -1,6 +1,7 @@
 //! Calls are asked before a turn, and the session is closed once all are over.
 ghost use Rattle.std.specs.Prelude.{◌≡◌, ◌+◌, ◌<◌, OnErr, OnOk};
 ghost use Rattle.endpoint_node.specs.Notes.{Makes};
+ghost use Rattle.memory_count.specs.Faults.{HasReason};
 ghost use Rattle.load_plan.specs.Calls.{asked_bytes, room_of};
 ghost use Rattle.load_run.specs.Loading.{AsksMany, ClosesIdle, Keeps, Passes, Prepares, state_in};
 ghost use Rattle.load_run.specs.Loading.{unasked};
@@ -9,7 +10,8 @@ ghost use Rattle.rpc_base.specs.declared.state.SessionState.TheVariants.{Connect
 ghost use Rattle.rpc_laws.specs.Groups.{Asks};
 
 use crate::run::LoadRun;
-use rpc_base::{NoMemory, SessionState};
+use memory_count::{Memory, NoMemory};
+use rpc_base::SessionState;
 use rpc_outside::Recorder;
 use std::sync::Wait;
 
@@ -17,8 +19,8 @@ use std::sync::Wait;
 const MOST_PENDING: u64 = 64;
 
 impl<H: Wait> LoadRun<H> {
-    // Asks the next call. NoMemory comes only where there is none for it, and then nothing happened.
-    fn ask_next<R: Recorder>(&mut self, rec: &mut R) -> Result<(), NoMemory>
+    // Asks the next call. NoMemory comes only where memory was refused, and then nothing happened.
+    fn ask_next<R: Recorder>(&mut self, memory: &mut Memory, rec: &mut R) -> Result<(), NoMemory>
         requires left { 0 < unasked self.old }
         requires connected { state_in self.old ≡ Connected }
         ensures asks { OnOk result (Makes R.log (Asks self.old.session
@@ -33,13 +35,14 @@ impl<H: Wait> LoadRun<H> {
         ensures keeps { Keeps self.old self.new }
         ensures goes_on { GoesOnBy R.log self.old.endpoint self.new.endpoint rec.old
             rec.new }
+        ensures cause { HasReason memory.old memory.new result }
     {
         let tag = u64::from(self.asked);
         let req_type = self.ledger.plan.req_type;
-        let (req, resp) = self.ledger.buffers(&mut self.buffers, tag)?;
+        let (req, resp) = self.ledger.buffers(memory, &mut self.buffers, tag)?;
         match self
             .endpoint
-            .ask(self.session, req_type, req, resp, tag, rec)
+            .ask(memory, self.session, req_type, req, resp, tag, rec)
         {
             Ok(_call) => {
                 self.asked += 1;
@@ -51,7 +54,7 @@ impl<H: Wait> LoadRun<H> {
     }
 
     // Asks calls while the session is Connected, until 64 are pending or all are asked.
-    fn ask_many<R: Recorder>(&mut self, rec: &mut R) -> Result<(), NoMemory>
+    fn ask_many<R: Recorder>(&mut self, memory: &mut Memory, rec: &mut R) -> Result<(), NoMemory>
         ensures asks { OnOk result (AsksMany R.log self.old self.new rec.old rec.new) }
         ensures passes { OnOk result (Passes R.log self.old.endpoint self.new.endpoint
             rec.old rec.new self.old.ledger.plan self.old.session self.old.asked
@@ -59,12 +62,13 @@ impl<H: Wait> LoadRun<H> {
         ensures keeps { Keeps self.old self.new }
         ensures goes_on { GoesOnBy R.log self.old.endpoint self.new.endpoint rec.old
             rec.new }
+        ensures cause { HasReason memory.old memory.new result }
     {
         'calls: while self.state() == SessionState::Connected
             && self.unasked() > 0
             && self.pending() < MOST_PENDING
         {
-            self.ask_next(rec)?;
+            self.ask_next(memory, rec)?;
         }
         Ok(())
     }
@@ -86,7 +90,11 @@ impl<H: Wait> LoadRun<H> {
     /// What is done before a turn of the endpoint: where the session is Connected, calls are asked
     /// until 64 are pending or all are asked, and then the session begins to close where none is
     /// pending.
-    pub(crate) fn prepare<R: Recorder>(&mut self, rec: &mut R) -> Result<(), NoMemory>
+    pub(crate) fn prepare<R: Recorder>(
+        &mut self,
+        memory: &mut Memory,
+        rec: &mut R,
+    ) -> Result<(), NoMemory>
         ensures prepares { OnOk result (Prepares R.log self.old self.new rec.old
             rec.new) }
         ensures passes { OnOk result (Passes R.log self.old.endpoint self.new.endpoint
@@ -95,11 +103,12 @@ impl<H: Wait> LoadRun<H> {
         ensures keeps { Keeps self.old self.new }
         ensures goes_on { GoesOnBy R.log self.old.endpoint self.new.endpoint rec.old
             rec.new }
+        ensures cause { HasReason memory.old memory.new result }
     {
         if self.state() != SessionState::Connected {
             return Ok(());
         }
-        self.ask_many(rec)?;
+        self.ask_many(memory, rec)?;
         self.close_idle(rec);
         Ok(())
     }

@@ -1,5 +1,6 @@
 //! A run of a client.
-ghost use Rattle.std.specs.Prelude.{◌≡◌, ◌<◌, ◌≤◌, ◌≢◌, IfErr, IfOk, OnErr, OnOk};
+ghost use Rattle.std.specs.Prelude.{◌≡◌, ◌<◌, ◌≤◌, ◌≢◌, IfErr, IfOk, MatchResult, OnErr};
+ghost use Rattle.std.specs.Prelude.{OnOk};
 ghost use Rattle.command_line.specs.Answers.{IsLoadInRange};
 ghost use Rattle.count_line.specs.Line.{line_text};
 ghost use Rattle.load_run.specs.Loading.{calls_line};
@@ -9,8 +10,8 @@ ghost use Rattle.load_run.specs.Loading.{pending_in, state_in, unasked};
 ghost use Rattle.rpc_turns.specs.Moments.{outside, where_at};
 ghost use Rattle.rpc_turns.specs.Plain.{GoesOnBy};
 ghost use Rattle.rpc_turns.specs.Rests.{TellsNothingNew};
-ghost use Rattle.run_status.specs.Words.{WhyNot};
-ghost use Rattle.rpc_outside.specs.Faults.{HasCause};
+ghost use Rattle.run_status.specs.Words.{WhyNot, lacks, lacks_told};
+ghost use Rattle.memory_count.specs.Faults.{HasCause, HasRisenBy};
 ghost use Rattle.rpc_outside.specs.Linking.{NoneComes};
 ghost use Rattle.run_status.specs.declared.going.Going.TheVariants.{On, Over};
 
@@ -19,11 +20,11 @@ use crate::tally::Tally;
 use command_line::LoadSpec;
 use count_line::{Count, Word, write_counts};
 use load_plan::Plan;
+use memory_count::Memory;
 use rpc_base::{Peer, SessionNo, SessionState};
 use rpc_outside::{Clock, Failed, Link, Recorder, Sink};
 use rpc_turns::{Buffers, Ended, PlainEndpoint, Rest, let_go, plain_endpoint, take_turn};
 use run_status::{Going, Status, sleeps};
-use std::alloc::Global;
 use std::marker::Model;
 use std::sync::Wait;
 use worker_crew::SerialSpawner;
@@ -35,7 +36,6 @@ pub const LOAD_CREDITS: u16 = 32;
 /// crew has no hands, and waits by the handle `H`.
 #[derive(Drop)]
 pub struct LoadRun<H: Wait> {
-    pub(crate) alloc: Global,
     pub(crate) endpoint: PlainEndpoint<H>,
     rest: Rest,
     pub(crate) session: SessionNo,
@@ -101,6 +101,7 @@ impl<H: Wait> LoadRun<H> {
     fn going(&self) -> Going
         ensures going { result ≡ going_at self.now }
         ensures left { result ≡ On → self.now.made < self.now.turns }
+        ensures wants_none { lacks_told result ≡ 0 }
     {
         match self.state() {
             SessionState::Closed | SessionState::Failed | SessionState::Broken => {
@@ -144,11 +145,11 @@ impl<H: Wait + Drop> LoadRun<H> {
     /// Binds the link to the client's address, and opens a session with the server at the other
     /// one, with 32 credits, of an endpoint of node 0 in the life of the words, with usual limits but
     /// for its timeout. Packets to the server go several in a datagram where the words name a frame.
-    /// `LinkFault` comes exactly where a fault of the link came, and `NoMemory` only where there was
-    /// no memory.
+    /// `LinkFault` comes exactly where a fault of the link came, and `NoMemory` only where memory was
+    /// refused.
     pub fn start<L: Link, R: Recorder>(
+        memory: &mut Memory,
         rt: H,
-        alloc: Global,
         spec: &LoadSpec,
         link: &mut L,
         rec: &mut R,
@@ -162,24 +163,25 @@ impl<H: Wait + Drop> LoadRun<H> {
         ensures quiet { OnOk result (L.faults link.new ≡ L.faults link.old) }
         ensures refused { IfErr result (WhyNot (L.faults link.old) (L.faults link.new)) }
         ensures unnoted { OnErr result (rec.new ≡ rec.old) }
+        ensures cause { MatchResult result (λ _. memory.old ≤ memory.new)
+            (λ why. HasRisenBy (lacks why) memory.old memory.new) }
     {
         let Ok(peer) = reach(spec, link) else {
             return Err(Status::LinkFault);
         };
-        let Ok(plan) = Plan::of(alloc, spec) else {
+        let Ok(plan) = Plan::of(memory, spec) else {
             return Err(Status::NoMemory);
         };
         let mut spawner = SerialSpawner::new();
         let (life, timeout) = (spec.life, spec.timeout);
-        let Ok(mut endpoint) = plain_endpoint(rt, alloc, life, timeout, 0, &mut spawner) else {
+        let Ok(mut endpoint) = plain_endpoint(memory, rt, life, timeout, 0, &mut spawner) else {
             return Err(Status::NoMemory);
         };
-        let Ok(session) = endpoint.connect(peer, LOAD_CREDITS, 0, rec) else {
+        let Ok(session) = endpoint.connect(memory, peer, LOAD_CREDITS, 0, rec) else {
             let_go(endpoint);
             return Err(Status::NoMemory);
         };
         Ok(LoadRun {
-            alloc,
             endpoint,
             rest: Rest::new(sleeps(spec.idle)),
             session,
@@ -188,7 +190,7 @@ impl<H: Wait + Drop> LoadRun<H> {
                 tally: Tally::new(),
             },
             asked: 0,
-            buffers: Buffers::new(alloc),
+            buffers: Buffers::new(memory.alloc()),
             turns: spec.turns,
             made: 0,
         })
@@ -197,12 +199,13 @@ impl<H: Wait + Drop> LoadRun<H> {
     /// Makes a turn: where the session is Connected, asks calls until 64 are pending or all are
     /// asked, and begins to close it where none is pending then; waits by the link where the run is
     /// asleep, takes one number of the clock, and makes one turn of the endpoint. It is over with
-    /// `LinkFault` exactly where a fault of the link came; with `NoMemory` only where there was none
-    /// for a call that is asked or is over; and otherwise exactly where the session is over, with
-    /// `Done` or `CallsFailed`, or all turns are made, with `TurnsSpent`. A turn is made only while
-    /// some are left.
+    /// `LinkFault` exactly where a fault of the link came; with `NoMemory` only where memory was
+    /// refused, for a call that is asked or is over; and otherwise exactly where the session is
+    /// over, with `Done` or `CallsFailed`, or all turns are made, with `TurnsSpent`. A turn is made
+    /// only while some are left.
     pub fn turn<L: Link, C: Clock, R: Recorder>(
         &mut self,
+        memory: &mut Memory,
         link: &mut L,
         clock: &mut C,
         rec: &mut R,
@@ -219,12 +222,14 @@ impl<H: Wait + Drop> LoadRun<H> {
             rec.new }
         ensures answers { Answers (L.faults link.old) (L.faults link.new) self.new result }
         ensures left { result ≡ On → self.new.made < self.new.turns }
+        ensures cause { HasRisenBy (lacks_told result) memory.old memory.new }
     {
-        let Ok(()) = self.prepare(rec) else {
+        let Ok(()) = self.prepare(memory, rec) else {
             return Going::Over(Status::NoMemory);
         };
-        let mut ended = Ended::new(self.alloc);
+        let mut ended = Ended::new(memory.alloc());
         let turned = take_turn(
+            memory,
             &mut self.endpoint,
             &mut self.rest,
             link,
@@ -233,7 +238,7 @@ impl<H: Wait + Drop> LoadRun<H> {
             rec,
         );
         self.made += 1;
-        match (turned, self.ledger.count(ended, &mut self.buffers)) {
+        match (turned, self.ledger.count(memory, ended, &mut self.buffers)) {
             (Err(_), _) => Going::Over(Status::LinkFault),
             (Ok(_), Err(_)) => Going::Over(Status::NoMemory),
             (Ok(_), Ok(())) => self.going(),

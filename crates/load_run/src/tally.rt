@@ -2,7 +2,7 @@
 ghost use Rattle.std.specs.Prelude.{◌≡◌, ◌≢◌};
 ghost use Rattle.load_run.specs.Tallies.{tally_at};
 ghost use Rattle.load_run.specs.declared.tally.Ending.{Ending};
-ghost use Rattle.rpc_outside.specs.Faults.{one_more};
+ghost use Rattle.memory_count.specs.Faults.{one_more};
 
 /// How a call of a load ended.
 #[derive(Clone, Copy, Debug, PartialEq, Eq)]

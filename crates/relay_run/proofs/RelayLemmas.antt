@@ -3,6 +3,7 @@ use Rattle.std.proofs.Common.{◌≡◌, ◌≢◌, inl, inr, ℕ, suc, ◌+◌,
 use Rattle.std.proofs.Common.{List, [], ◌++◌, refl, sym, ap, subst}
 use Rattle.std.proofs.Common.{◌∙◌, append-nil, arith}
 use Rattle.std.specs.Prelude.{◌==◌, option_map, IfErr, IfOk, Some, None, Result, Ok, Err}
+use Rattle.std.specs.Prelude.{MatchResult}
 use Rattle.std.proofs.lemmas.Bool.{eqb-false, eqb-true}
 use Rattle.command_line.specs.Words.{ServeWords}
 use Rattle.endpoint_loop.specs.PlainMembers.{plain_members}
@@ -16,11 +17,12 @@ use Rattle.relay_run.specs.Runs.{TurnsOn, UnlessNoMemory, end_at, going_after, l
 use Rattle.relay_run.specs.Runs.{plain_desk, relayer_at, relays_line}
 use Rattle.relay_turns.specs.Deferred.{KeepsDeferred, TurnsKeep, TurnsRun, new_book}
 use Rattle.relay_turns.specs.Deferred.{no_turn, one_more as turns_more}
-use Rattle.rpc_outside.specs.Faults.{HasRisen}
+use Rattle.memory_count.proofs.Risen.{none-risen-by}
+use Rattle.memory_count.specs.Faults.{HasRisen, HasRisenBy}
 use Rattle.rpc_outside.specs.PlainAnswer.{background_answer}
 use Rattle.rpc_outside.specs.Writing.{Written}
 use Rattle.rpc_turns.proofs.RunLemmas.{goes-none, goes-then, runs-then}
-use Rattle.relay_turns.specs.Turning.{RelaysTurn, UnlessWanting}
+use Rattle.relay_turns.specs.Turning.{RelaysTurn, UnlessWanting, lacks_for}
 use Rattle.relay_turns.specs.declared.turn.TurnFault.{TurnFault}
 use Rattle.relay_turns.specs.declared.turn.TurnFault.TheVariants.{LinkFault, NoMemory}
 use Rattle.rpc_base.specs.declared.fact.Fact.{Fact}
@@ -28,6 +30,7 @@ use Rattle.rpc_base.specs.declared.limits.Limits.{Limits}
 use Rattle.rpc_turns.specs.Moments.{Edges, Moment, Outside, where_at}
 use Rattle.rpc_turns.specs.Plain.{limits_at}
 use Rattle.rpc_turns.specs.Turns.{RunsOn}
+use Rattle.run_status.specs.Words.{lacks_told}
 use Rattle.run_status.specs.declared.going.Going.{Going}
 use Rattle.run_status.specs.declared.going.Going.TheVariants.{On, Over}
 use Rattle.run_status.specs.declared.status.Status.{Status}
@@ -81,6 +84,16 @@ left-after (Ok turn) made turns going same most on = by (made == turns) refl
     by : (t : Bool) → (made == turns) ≡ t → made < turns
     by true e = let over : going ≡ Over statuses.Done = rw e at same in cc
     by false e = let other = eqb-false made turns e in omega (arith, most, other)
+
+-- want of memory has its cause
+pub cause-after : (told : Result Turn TurnFault) (all_made : Bool) (going : Going) (old new : ℕ)
+    → going ≡ going_after told all_made
+    → MatchResult told (λ _. old ≤ new) (λ why. HasRisenBy (lacks_for why) old new)
+    → HasRisenBy (lacks_told going) old new
+cause-after (Err NoMemory) all_made going old new same risen = rw same risen
+cause-after (Err LinkFault) all_made going old new same risen = rw same risen
+cause-after (Ok turn) true going old new same no_less = rw same (none-risen-by old new no_less)
+cause-after (Ok turn) false going old new same no_less = rw same (none-risen-by old new no_less)
 
 module _ {L C R : Type 0} (o : Outside L C R) where
   abbrev At : Type 0

@@ -25,7 +25,7 @@ use Rattle.rpc_base.specs.declared.limits.TheConstants.{USUAL_JOBS}
 use Rattle.rpc_laws.specs.Facts.{plain}
 use Rattle.rpc_laws.specs.NodeLists.{new_node}
 use Rattle.rpc_laws.specs.declared.tables.Counted.{Counted}
-use Rattle.rpc_outside.specs.Faults.{HasRisen}
+use Rattle.memory_count.specs.Faults.{HasRisen}
 use Rattle.rpc_outside.specs.Linking.{NoneComes}
 use Rattle.rpc_outside.specs.PlainAnswer.{background_answer}
 use Rattle.rpc_outside.specs.Recording.{Grew, Log}

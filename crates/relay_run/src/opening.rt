@@ -1,5 +1,6 @@
 //! The endpoint over a desk, and its session with the other server.
 ghost use Rattle.std.specs.Prelude.{◌≡◌, ◌≤◌, [], None, IfErr, IfOk, OnErr, OnOk};
+ghost use Rattle.memory_count.specs.Faults.{HasCause, HasReason};
 ghost use Rattle.relay_run.specs.Runs.{IsNew, Opens};
 ghost use Rattle.rpc_base.specs.Limits.{Fits};
 ghost use Rattle.rpc_laws.specs.Groups.{client_refusal};
@@ -7,10 +8,10 @@ ghost use Rattle.rpc_turns.specs.Plain.{limits_at};
 
 use deferred_calls::Desk;
 use endpoint_loop::Endpoint;
+use memory_count::{Memory, NoMemory};
 use packet_header::Life;
-use rpc_base::{Limits, MOST_TIMEOUT, NoMemory, NodeId, Peer, USUAL_JOBS, USUAL_RING};
+use rpc_base::{Limits, MOST_TIMEOUT, NodeId, Peer, USUAL_JOBS, USUAL_RING};
 use rpc_outside::{PlainDuty, PlainService, Recorder};
-use std::alloc::Global;
 
 /// The credits of the session with the other server.
 pub const RELAY_CREDITS: u16 = 32;
@@ -21,7 +22,7 @@ pub type RelayEndpoint = Endpoint<PlainService, Desk<PlainDuty>>;
 // The endpoint of node 0 in this life with limits that fit over a desk to which no job was given.
 // The desk comes back where there is no memory.
 fn endpoint_over(
-    alloc: Global,
+    memory: &mut Memory,
     life: Life,
     limits: Limits,
     desk: Desk<PlainDuty>,
@@ -37,38 +38,41 @@ fn endpoint_over(
     } }
     ensures made { IfOk result (IsNew life limits) }
     ensures wanting { IfErr result (λ back. back ≡ desk) }
+    ensures cause { HasCause memory.old memory.new result }
 {
-    Endpoint::new(alloc, NodeId(0), life, limits, PlainService::new(), desk)
+    Endpoint::new(memory, NodeId(0), life, limits, PlainService::new(), desk)
 }
 
 /// The endpoint of node 0 in this life with a ring of 1,024 places, 64 jobs and this timeout, of 1
 /// to 60,000,000 microseconds, which noted nothing so far, over a desk. `NoMemory` comes only where
-/// there is none for the desk or the endpoint.
+/// memory was refused for the desk or the endpoint.
 pub(crate) fn desk_endpoint(
-    alloc: Global,
+    memory: &mut Memory,
     life: Life,
     timeout: u32,
 ) -> Result<RelayEndpoint, NoMemory>
     requires life { 1 ≤ life }
     requires some { 1 ≤ timeout }
     requires most { timeout ≤ MOST_TIMEOUT }
-    ensures { IfOk result (IsNew life (limits_at timeout)) }
+    ensures made { IfOk result (IsNew life (limits_at timeout)) }
+    ensures cause { HasReason memory.old memory.new result }
 {
     let limits = Limits {
         ring: USUAL_RING,
         jobs: USUAL_JOBS,
         timeout: u64::from(timeout),
     };
-    let desk = Desk::new(alloc, PlainDuty, USUAL_JOBS)?;
-    match endpoint_over(alloc, life, limits, desk) {
+    let desk = Desk::new(memory, PlainDuty, USUAL_JOBS)?;
+    match endpoint_over(memory, life, limits, desk) {
         Ok(endpoint) => Ok(endpoint),
         Err(_desk) => Err(NoMemory),
     }
 }
 
-/// Opens the session with the other server, with 32 credits. `NoMemory` comes only where there is
-/// none for it, and then nothing is noted.
+/// Opens the session with the other server, with 32 credits. `NoMemory` comes only where memory
+/// was refused, and then nothing is noted.
 pub(crate) fn open_session<R: Recorder>(
+    memory: &mut Memory,
     endpoint: &mut RelayEndpoint,
     peer: Peer,
     rec: &mut R,
@@ -76,8 +80,9 @@ pub(crate) fn open_session<R: Recorder>(
     requires free { client_refusal RELAY_CREDITS endpoint.old.timed.lists ≡ None }
     ensures opens { OnOk result (Opens R.log peer endpoint.old endpoint.new rec.old rec.new) }
     ensures unnoted { OnErr result (rec.new ≡ rec.old) }
+    ensures cause { HasReason memory.old memory.new result }
 {
-    match endpoint.connect(peer, RELAY_CREDITS, 0, rec) {
+    match endpoint.connect(memory, peer, RELAY_CREDITS, 0, rec) {
         Ok(_session) => Ok(()),
         Err(_wanting) => Err(NoMemory),
     }

@@ -1,16 +1,16 @@
 //! A run of a server that asks its background calls of another one.
-ghost use Rattle.std.specs.Prelude.{◌≡◌, ◌<◌, IfErr, IfOk, OnErr, OnOk};
+ghost use Rattle.std.specs.Prelude.{◌≡◌, ◌<◌, ◌≤◌, IfErr, IfOk, MatchResult, OnErr, OnOk};
 ghost use Rattle.command_line.specs.Answers.{IsServeInRange};
 ghost use Rattle.count_line.specs.Line.{line_text};
 ghost use Rattle.endpoint_loop.specs.PlainMembers.{plain_members};
 ghost use Rattle.relay_run.specs.Runs.{Answers, HasRelayed, IsRelaying, Reaches, StartsRelaying};
 ghost use Rattle.relay_run.specs.Runs.{UnlessNoMemory, going_after, line_of, one_more, plain_desk};
 ghost use Rattle.relay_run.specs.Runs.{relays_line};
-ghost use Rattle.rpc_outside.specs.Faults.{HasCause};
+ghost use Rattle.memory_count.specs.Faults.{HasCause, HasRisenBy};
 ghost use Rattle.rpc_outside.specs.Linking.{NoneComes};
 ghost use Rattle.rpc_turns.specs.Moments.{outside, where_at};
 ghost use Rattle.rpc_turns.specs.Turns.{RunsOn};
-ghost use Rattle.run_status.specs.Words.{WhyNot};
+ghost use Rattle.run_status.specs.Words.{WhyNot, lacks, lacks_told};
 ghost use Rattle.run_status.specs.declared.going.Going.TheVariants.{On};
 ghost use Rattle.serve_run.specs.Serving.{Writes};
 
@@ -18,6 +18,7 @@ use crate::opening::{RelayEndpoint, desk_endpoint, let_go, open_session};
 use command_line::ServeSpec;
 use count_line::{Count, Word, write_counts};
 use endpoint_loop::Turn;
+use memory_count::Memory;
 use relay_turns::{TurnFault, relay_turn};
 use relays::Relays;
 use rpc_base::{Peer, USUAL_JOBS};
@@ -25,13 +26,11 @@ use rpc_laws::Counted;
 use rpc_outside::{Clock, Failed, Link, Recorder, Sink};
 use rpc_turns::Rest;
 use run_status::{Going, Status, sleeps};
-use std::alloc::Global;
 use std::marker::Model;
 
 /// A server's endpoint, with the jobs that it asked of another server, and its turns counted. It
 /// must be ended by `finish` or `stop`.
 pub struct RelayRun {
-    alloc: Global,
     endpoint: RelayEndpoint,
     rest: Rest,
     relays: Relays,
@@ -121,9 +120,9 @@ impl RelayRun {
     /// Binds the link to the server's address, for an endpoint of node 0 in the life of the words,
     /// with usual limits but for its timeout, and opens a session with the other server, with 32
     /// credits. `LinkFault` comes exactly where a fault of the link came, and `NoMemory` only where
-    /// there was no memory.
+    /// memory was refused.
     pub fn start<L: Link, R: Recorder>(
-        alloc: Global,
+        memory: &mut Memory,
         spec: &ServeSpec,
         other: &str,
         link: &mut L,
@@ -139,24 +138,25 @@ impl RelayRun {
         ensures lists { NoneComes L.waiting L.received link.old link.new }
         ensures busies { L.busies link.new ≡ L.busies link.old }
         ensures unnoted { OnErr result (rec.new ≡ rec.old) }
+        ensures cause { MatchResult result (λ _. memory.old ≤ memory.new)
+            (λ why. HasRisenBy (lacks why) memory.old memory.new) }
     {
         let Ok(peer) = reach(spec, other, link) else {
             return Err(Status::LinkFault);
         };
-        let Ok(relays) = Relays::new(alloc, USUAL_JOBS) else {
+        let Ok(relays) = Relays::new(memory, USUAL_JOBS) else {
             return Err(Status::NoMemory);
         };
-        let Ok(mut endpoint) = desk_endpoint(alloc, spec.life, spec.timeout) else {
+        let Ok(mut endpoint) = desk_endpoint(memory, spec.life, spec.timeout) else {
             relays.finish();
             return Err(Status::NoMemory);
         };
-        let Ok(()) = open_session(&mut endpoint, peer, rec) else {
+        let Ok(()) = open_session(memory, &mut endpoint, peer, rec) else {
             let_go(endpoint);
             relays.finish();
             return Err(Status::NoMemory);
         };
         Ok(RelayRun {
-            alloc,
             endpoint,
             rest: Rest::new(sleeps(spec.idle)),
             relays,
@@ -168,11 +168,12 @@ impl RelayRun {
     /// Makes a turn: waits by the link where the run is asleep, takes one number of the clock, and
     /// makes one turn of the endpoint then; answers each job whose call is over; and asks each job
     /// that it was given of the other server, or works it here where its call is refused. It is
-    /// over with `NoMemory` only where there was none for a call that is asked or is over; else
+    /// over with `NoMemory` only where memory was refused for a call that is asked or is over; else
     /// with `LinkFault` exactly where a fault of the link came; and else with `Done` exactly where
     /// this was the last turn. A turn is made only while some are left.
     pub fn turn<L: Link, C: Clock, R: Recorder>(
         &mut self,
+        memory: &mut Memory,
         link: &mut L,
         clock: &mut C,
         rec: &mut R,
@@ -190,9 +191,10 @@ impl RelayRun {
         ensures works { UnlessNoMemory result (IsRelaying self.new) }
         ensures answers { Answers (L.faults link.old) (L.faults link.new) self.new result }
         ensures left { result ≡ On → self.new.made < self.new.turns }
+        ensures cause { HasRisenBy (lacks_told result) memory.old memory.new }
     {
         let turned = relay_turn(
-            self.alloc,
+            memory,
             &mut self.endpoint,
             &mut self.rest,
             &mut self.relays,
@@ -223,7 +225,6 @@ impl RelayRun {
     /// Gives up the jobs that are out, and writes nothing.
     pub fn stop(self) {
         let RelayRun {
-            alloc: _,
             endpoint,
             rest: _,
             relays,

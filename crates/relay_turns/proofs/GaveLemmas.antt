@@ -17,6 +17,7 @@ use Rattle.endpoint_loop.specs.Polls.{is_stopped, PollsWith}
 use Rattle.endpoint_loop.specs.Stands.{StandsFor}
 use Rattle.endpoint_loop.specs.Turns.{DeliversAll}
 use Rattle.endpoint_loop.specs.declared.endpoint.poll.Turn.{Turn}
+use Rattle.endpoint_node.specs.Changes.{Change}
 use Rattle.endpoint_node.specs.Jobs.{jobs_left}
 use Rattle.endpoint_node.specs.Requests.{job_named}
 use Rattle.endpoint_node.specs.Seen.{with_ask}
@@ -175,8 +176,9 @@ own-asked out front (p ∷ ps) back same once =
 -- a turn of an endpoint over a desk
 module _ {V L C R : Type 0} (service : Service.Ghosts V) (answer : ℕ → List ℕ → List ℕ)
     (o : Outside L C R) (turn : Option Turn) (old new : Moment (Rested V Jobs) L C R)
-    (from to : Ended)
-    (h : TakesTurn service (desk_members answer) o KeepsAll turn old new from to) (limits : Limits)
+    (from to : Ended) (memory : Change ℕ)
+    (h : TakesTurn service (desk_members answer) o KeepsAll turn old new from to memory)
+    (limits : Limits)
     (past : List Fact)
     (s : Stands service (desk_members answer) limits past old.run.endpoint) where
   abbrev desk : Jobs
@@ -192,8 +194,8 @@ module _ {V L C R : Type 0} (service : Service.Ghosts V) (answer : ℕ → List 
   second = h.turns.polls.noted
 
   midst : Stands service (desk_members answer) limits (past ++ first) h.turns.between
-  midst = between-stands service (desk_members answer) o KeepsAll turn old new from to h limits past
-      s
+  midst = between-stands service (desk_members answer) o KeepsAll turn old new from to memory h limits
+      past s
 
   same-desk : h.turns.between.workers ≡ desk
   same-desk = h.turns.takes.leaves.workers

@@ -13,6 +13,7 @@ use Rattle.desk_laws.specs.Staying.{desk_members, with_desk}
 use Rattle.endpoint_loop.specs.Endpoints.{Running}
 use Rattle.endpoint_loop.specs.declared.endpoint.poll.Turn.{Turn}
 use Rattle.endpoint_node.proofs.NoteSteps.{sent-append}
+use Rattle.endpoint_node.specs.Changes.{Change}
 use Rattle.endpoint_node.specs.Handed.{GivesBackTo, HandBack}
 use Rattle.endpoint_node.specs.Notes.{is_end, sent_of}
 use Rattle.relay_steps.proofs.PassLemmas.{after-none, after-settles, after-then}
@@ -202,8 +203,9 @@ settles-stand answer (d ∷ ds) desk last old new does stands =
 module _ {V L C R : Type 0} (service : Service.Ghosts V) (answer : ℕ → List ℕ → List ℕ)
     (o : Outside L C R) (told : Option Turn) (old : Moment (Relayer V) L C R)
     (mid : Running V Jobs) (mid_rec : R) (new : Moment (Relayer V) L C R) (from to : Ended)
+    (memory : Change ℕ)
     (takes : TakesTurn service (desk_members answer) o KeepsAll told (rested_at old)
-    (where_at (rested mid new.run.rest) new.edges.link new.edges.clock mid_rec) from to)
+    (where_at (rested mid new.run.rest) new.edges.link new.edges.clock mid_rec) from to memory)
     (team : Some (hands_of mid.workers) ≡ Some (hands_of old.run.endpoint.workers))
     (works : IsAtWork service answer (at_work old.run)) where
   abbrev mid_at : Moment (Running V Jobs) L C R
@@ -212,7 +214,7 @@ module _ {V L C R : Type 0} (service : Service.Ghosts V) (answer : ℕ → List 
   unfoldable tells : TellsTurn service (desk_members answer) o KeepsAll (endpoint_at old) mid_at
       from to
   tells = turn-tells service (desk_members answer) o KeepsAll told (rested_at old)
-      (where_at (rested mid new.run.rest) new.edges.link new.edges.clock mid_rec) from to takes
+      (where_at (rested mid new.run.rest) new.edges.link new.edges.clock mid_rec) from to memory takes
 
   abbrev limits : Limits
   limits = works.0
@@ -232,12 +234,12 @@ module _ {V L C R : Type 0} (service : Service.Ghosts V) (answer : ℕ → List 
 
   abbrev gave : List Parcel
   gave = (polls service answer o told (rested_at old)
-      (where_at (rested mid new.run.rest) new.edges.link new.edges.clock mid_rec) from to takes
+      (where_at (rested mid new.run.rest) new.edges.link new.edges.clock mid_rec) from to memory takes
       limits past w.stands).gave
 
   turn-goes : GoesOn gave old.run.endpoint.workers mid.workers
   turn-goes = goes-of service answer o told (rested_at old)
-      (where_at (rested mid new.run.rest) new.edges.link new.edges.clock mid_rec) from to takes
+      (where_at (rested mid new.run.rest) new.edges.link new.edges.clock mid_rec) from to memory takes
       limits past w.stands mid-stands team
 
   -- behind the endpoint's own turn the handles that are out are still of the jobs that were asked
@@ -258,7 +260,7 @@ module _ {V L C R : Type 0} (service : Service.Ghosts V) (answer : ℕ → List 
       ∙ ap (map parcel_of) (append-nil old.run.endpoint.workers.handled
       ∙ (w.relays.handled ∙ sym mid-handles.handled))))))
 
-  module _ (none : KeepsAll from []) (whole : to.whole ≡ true)
+  module _ (none : KeepsAll from []) (whole : to.memory ≡ 0)
       (handed : GivesBackTo KeepsAll old.run.endpoint.handed mid.handed from to)
       (all : RelaysAll o.log service answer to.dones.items (relayed mid old.run.relays)
       (at_work new.run) mid_rec new.edges.rec) where
@@ -301,18 +303,18 @@ module _ {V L C R : Type 0} (service : Service.Ghosts V) (answer : ℕ → List 
       back = back-are;
       gave = gave;
       given = given-of service answer o told (rested_at old)
-          (where_at (rested mid new.run.rest) new.edges.link new.edges.clock mid_rec) from to takes
+          (where_at (rested mid new.run.rest) new.edges.link new.edges.clock mid_rec) from to memory takes
           limits past w.stands;
       out = out-of service answer o told (rested_at old)
-          (where_at (rested mid new.run.rest) new.edges.link new.edges.clock mid_rec) from to takes
+          (where_at (rested mid new.run.rest) new.edges.link new.edges.clock mid_rec) from to memory takes
           limits past w.stands mid-stands;
       goes = turn-goes;
       numbers = all.numbers;
       taken = (polls service answer o told (rested_at old)
-          (where_at (rested mid new.run.rest) new.edges.link new.edges.clock mid_rec) from to takes
+          (where_at (rested mid new.run.rest) new.edges.link new.edges.clock mid_rec) from to memory takes
           limits past w.stands).parcels;
       answered = took service answer o told (rested_at old)
-          (where_at (rested mid new.run.rest) new.edges.link new.edges.clock mid_rec) from to takes
+          (where_at (rested mid new.run.rest) new.edges.link new.edges.clock mid_rec) from to memory takes
           limits past w.stands;
       asks = (tells.told limits past w.stands).asks;
       desk = settled.workers;
@@ -339,6 +341,7 @@ module _ {V L C R : Type 0} (service : Service.Ghosts V) (answer : ℕ → List 
       mid_rec = mid_rec;
       from = from;
       to = to;
+      memory = memory;
       takes = takes;
       tells = tells;
       asked = asked;

@@ -9,6 +9,7 @@ use Rattle.deferred_calls.specs.declared.job.Numbered.{Numbered}
 use Rattle.desk_laws.specs.Staying.{desk_members, with_desk}
 use Rattle.endpoint_loop.specs.Endpoints.{Running, told as lists_told}
 use Rattle.endpoint_loop.specs.declared.endpoint.poll.Turn.{Turn}
+use Rattle.endpoint_node.specs.Changes.{Change}
 use Rattle.endpoint_node.specs.Handed.{HandBack}
 use Rattle.endpoint_node.specs.Notes.{asked_in, is_end}
 use Rattle.given_laws.specs.Given.{given_in, name_of}
@@ -116,7 +117,7 @@ pub record Relays {V : Type 0} (answer : ℕ → List ℕ → List ℕ) (turned 
 
 -- a turn of a run that relays. The endpoint makes a turn of its own, and the recorder grows by the
 -- facts of that and then by those of the jobs that are passed on: by all of these the endpoint goes
--- on, and the link sends just what they say
+-- on, and the link sends just what they say. `memory` counts what was refused in its own turn
 pub record RelaysTurn {V L C R : Type 0} (service : Service.Ghosts V)
     (answer : ℕ → List ℕ → List ℕ) (o : Outside L C R) (told : Option Turn)
     (old new : Moment (Relayer V) L C R) : Type 0 where
@@ -124,8 +125,9 @@ pub record RelaysTurn {V L C R : Type 0} (service : Service.Ghosts V)
   pub mid_rec : R
   pub from : Ended
   pub to : Ended
+  pub memory : Change ℕ
   pub takes : TakesTurn service (desk_members answer) o KeepsAll told (rested_at old)
-      (where_at (rested mid new.run.rest) new.edges.link new.edges.clock mid_rec) from to
+      (where_at (rested mid new.run.rest) new.edges.link new.edges.clock mid_rec) from to memory
   pub tells : TellsTurn service (desk_members answer) o KeepsAll (endpoint_at old)
       (where_at mid new.edges.link new.edges.clock mid_rec) from to
   pub asked : List Fact
@@ -140,3 +142,8 @@ abbrev pub UnlessWanting : Result Turn TurnFault → Type 0 → Type 0
 UnlessWanting (Ok turn) P = P
 UnlessWanting (Err LinkFault) P = P
 UnlessWanting (Err NoMemory) P = Unit {0}
+
+-- how many wants of memory a fault of a turn tells of
+abbrev pub lacks_for : TurnFault → ℕ
+lacks_for LinkFault = 0
+lacks_for NoMemory = 1

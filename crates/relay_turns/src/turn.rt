@@ -1,33 +1,32 @@
 //! A turn of a run that relays.
-ghost use Rattle.std.specs.Prelude.{◌≡◌, true, [], IfErr, IfOk, OnOk};
+ghost use Rattle.std.specs.Prelude.{◌≡◌, ◌≤◌, [], IfErr, IfOk, MatchResult, OnOk};
 ghost use Rattle.deferred_calls.specs.Desks.{HasNumbers};
 ghost use Rattle.desk_laws.specs.Staying.{desk_members, with_desk};
 ghost use Rattle.endpoint_loop.specs.Polls.{turn_of};
 ghost use Rattle.relay_steps.specs.Passing.{GoesPast, relayed};
 ghost use Rattle.relay_turns.specs.Turning.{RelaysAll, RelaysTurn, SettlesAll, UnlessWanting};
-ghost use Rattle.relay_turns.specs.Turning.{relayer};
+ghost use Rattle.relay_turns.specs.Turning.{lacks_for, relayer};
 ghost use Rattle.relay_turns.specs.Working.{IsAtWork};
 ghost use Rattle.relay_turns.specs.declared.turn.TurnFault.TheVariants.{LinkFault as Failed};
 ghost use Rattle.relays.specs.Relaying.{Stands};
-ghost use Rattle.rpc_outside.specs.Faults.{HasRisen};
+ghost use Rattle.memory_count.specs.Faults.{HasReason, HasRisen, HasRisenBy};
 ghost use Rattle.rpc_turns.specs.Moments.{outside, where_at};
 ghost use Rattle.rpc_turns.specs.Turns.{RunsOn};
 
 use deferred_calls::{Checked, Desk};
 use endpoint_loop::{Endpoint, Turn};
+use memory_count::{Memory, NoMemory};
 use relay_steps::{pass_all, settle_one};
 use relays::Relays;
-use rpc_base::NoMemory;
 use rpc_outside::{Clock, Link, Recorder, Service};
 use rpc_turns::{Ended, Rest, take_turn};
-use std::alloc::Global;
 
 /// Why a turn of a run that relays ends the run.
 #[derive(Clone, Copy, Debug, PartialEq, Eq)]
 pub enum TurnFault {
     /// The link failed, and all else of the turn was done.
     LinkFault,
-    /// There was no memory for the call of a job, or to keep a call that was over. Jobs may wait
+    /// Memory was refused for the call of a job, or to keep a call that was over. Jobs may wait
     /// then, or be lost with their handles.
     NoMemory,
 }
@@ -64,38 +63,37 @@ fn settle_all<V: Service, D: Checked>(
     }
 }
 
-// Settles the ends of these calls, and passes on each job that waits. `NoMemory` comes where there
-// was none to keep a call that was over, and then nothing is done, and where there is none for the
+// Settles the ends of these calls, and passes on each job that waits. `NoMemory` comes where memory
+// was refused to keep a call that was over, and then nothing is done, and where it is refused for the
 // call of a job.
 fn relay_all<V: Service, D: Checked, R: Recorder>(
-    alloc: Global,
+    memory: &mut Memory,
     endpoint: &mut Endpoint<V, Desk<D>>,
     relays: &mut Relays,
     ended: &mut Ended,
     rec: &mut R,
 ) -> Result<(), NoMemory>
     requires stands { Stands endpoint.old.workers [] relays.old }
-    ensures whole { OnOk result (ended.old.whole ≡ true) }
+    ensures whole { OnOk result (ended.old.memory ≡ 0) }
     ensures relays { OnOk result (RelaysAll R.log V.Service D.answer ended.old.dones.items
         (relayed endpoint.old relays.old) (relayed endpoint.new relays.new) rec.old rec.new) }
     ensures goes_on { GoesPast R.log V.Service D.answer endpoint.old endpoint.new rec.old rec.new }
+    ensures cause { HasReason memory.old memory.new result }
 {
     numbers(endpoint);
-    if !ended.is_whole() {
-        return Err(NoMemory);
-    }
+    ended.check(memory)?;
     settle_all(endpoint, relays, ended);
-    pass_all(alloc, endpoint, relays, rec)
+    pass_all(memory, endpoint, relays, rec)
 }
 
 /// A turn of a run that relays: the endpoint makes a turn as `take_turn` has it; then each call
 /// that was over in it is settled, in order; and then each job that was given gets its handle and
 /// is asked of the other server, or worked here where that is refused. So no job waits behind it.
-/// `NoMemory` comes only where there is none for the call of a job or to keep a call that was over,
-/// and otherwise `LinkFault` comes exactly where a fault of the link came; all is done then as
+/// `NoMemory` comes only where memory was refused for the call of a job or to keep a call that was
+/// over, and otherwise `LinkFault` comes exactly where a fault of the link came; all is done then as
 /// without one.
 pub fn relay_turn<V, D, L, C, R>(
-    alloc: Global,
+    memory: &mut Memory,
     endpoint: &mut Endpoint<V, Desk<D>>,
     rest: &mut Rest,
     relays: &mut Relays,
@@ -122,10 +120,12 @@ where
     ensures quiet { IfOk result (λ turn. L.faults link.new ≡ L.faults link.old) }
     ensures fault { IfErr result
         (λ why. why ≡ Failed → HasRisen (L.faults link.old) (L.faults link.new)) }
+    ensures cause { MatchResult result (λ _. memory.old ≤ memory.new)
+        (λ why. HasRisenBy (lacks_for why) memory.old memory.new) }
 {
-    let mut ended = Ended::new(alloc);
-    let turned = take_turn(endpoint, rest, link, clock, &mut ended, rec);
-    match relay_all(alloc, endpoint, relays, &mut ended, rec) {
+    let mut ended = Ended::new(memory.alloc());
+    let turned = take_turn(memory, endpoint, rest, link, clock, &mut ended, rec);
+    match relay_all(memory, endpoint, relays, &mut ended, rec) {
         Err(_) => Err(TurnFault::NoMemory),
         Ok(()) => match turned {
             Ok(turn) => Ok(turn),

@@ -4,15 +4,18 @@ use Rattle.std.proofs.Common.{List, [], ◌++◌, refl, ap, subst, ◌∙◌, ar
 use Rattle.std.specs.Prelude.{◌==◌, option_map}
 use Rattle.std.proofs.lemmas.Bool.{eqb-false, eqb-true}
 use Rattle.command_line.specs.Words.{ServeWords}
+use Rattle.endpoint_node.specs.Changes.{Change}
 use Rattle.endpoint_node.specs.Notes.{sent_of}
 use Rattle.endpoint_loop.specs.PlainMembers.{plain_members}
 use Rattle.rpc_laws.specs.declared.tables.Timed.{Timed}
-use Rattle.rpc_outside.specs.Faults.{HasRisen}
+use Rattle.memory_count.proofs.Risen.{none-risen-by}
+use Rattle.memory_count.specs.Faults.{HasRisen, HasRisenBy}
 use Rattle.rpc_outside.specs.Writing.{Written}
 use Rattle.rpc_turns.proofs.RunLemmas.{none-made, runs-then}
 use Rattle.rpc_turns.specs.Moments.{Edges, Moment, Outside, where_at}
 use Rattle.rpc_turns.specs.Plain.{crew_members, limits_at}
 use Rattle.rpc_turns.specs.Turns.{RunsOn}
+use Rattle.run_status.specs.Words.{lacks}
 use Rattle.run_status.specs.declared.going.Going.{Going}
 use Rattle.run_status.specs.declared.going.Going.TheVariants.{On, Over}
 use Rattle.run_status.specs.declared.status.Status.{Status}
@@ -42,22 +45,23 @@ module _ {L C R : Type 0} (o : Outside L C R) where
   }
 
   -- one turn more
-  serves-more : (a b c : At) → ServesOn o a b → HasServed o b c → Goes 1 b c → ServesOn o a c
-  serves-more a b c on one goes =
+  serves-more : (a b c : At) (memory : Change ℕ) → ServesOn o a b → HasServed o b c memory
+      → Goes 1 b c → ServesOn o a c
+  serves-more a b c memory on one goes =
       let next : on.many + 1 ≡ suc on.many = omega arith in
       let count = ap (λ (s : ServesSoFar). s.made) one.counted in
       record {
         many = suc on.many;
         made = omega (arith, on.made, count);
         turns = ap (λ (s : ServesSoFar). s.turns) one.counted ∙ on.turns;
-        each = (b, on.each, one);
+        each = (b, on.each, (memory, one));
         runs = subst (λ n. Goes n a c) next
             (runs-then o (end_at a) (end_at b) (end_at c) on.many 1 on.runs goes);
       }
 
-  module _ (a b c : At) (on : ServesOn o a b)
+  module _ (a b c : At) (memory : Change ℕ) (on : ServesOn o a b)
       (still : faults b ≡ faults a) (left : b.run.made < b.run.turns)
-      (one : HasServed o b c) (goes : Goes 1 b c) where
+      (one : HasServed o b c memory) (goes : Goes 1 b c) where
     made : c.run.made ≡ b.run.made + 1
     made = ap (λ (s : ServesSoFar). s.made) one.counted
 
@@ -73,7 +77,7 @@ module _ {L C R : Type 0} (o : Outside L C R) where
         rw failed (
           omega (arith, left, made, turns),
           subst (λ n. HasRisen n (faults c)) still risen,
-          serves-more a b c on one goes,
+          serves-more a b c memory on one goes,
         )
     turns-over status (inr (same, quiet)) = by (c.run.made == c.run.turns) refl
       where
@@ -84,7 +88,7 @@ module _ {L C R : Type 0} (o : Outside L C R) where
             rw done (
               eqb-true c.run.made c.run.turns e,
               quiet ∙ still,
-              serves-more a b c on one goes,
+              serves-more a b c memory on one goes,
             )
         by false e = let told : Over status ≡ On = rw e at same in cc
 
@@ -100,10 +104,17 @@ module _ {L C R : Type 0} (o : Outside L C R) where
         by true e = absurd (not statuses.Done (rw e at same))
         by false e =
             let other = eqb-false c.run.made c.run.turns e in (
-              serves-more a b c on one goes,
+              serves-more a b c memory on one goes,
               quiet ∙ still,
               omega (arith, left, made, turns, other),
             )
+
+-- the turns of a run never end for want of memory
+pub ends-none : {L C R : Type 0} (o : Outside L C R) (told : Status) (a b : Moment ServesSoFar L C R)
+    (m n : ℕ) → TurnsEnd told o a b → m ≤ n → HasRisenBy (lacks told) m n
+ends-none o statuses.Done a b m n ends le = none-risen-by m n le
+ends-none o statuses.LinkFault a b m n ends le = none-risen-by m n le
+ends-none o _ a b m n ends le = absurd ends
 
 module _ {L C R : Type 0} (o : Outside L C R) (words : ServeWords) (old : Edges L C R) (via : L)
     (fresh : ServesSoFar) (last : Moment ServesSoFar L C R)

@@ -6,10 +6,11 @@ use Rattle.count_line.specs.declared.word.Word.TheVariants as word
 use Rattle.count_line.specs.Line.{line_text}
 use Rattle.endpoint_loop.specs.declared.endpoint.poll.Turn.{Turn}
 use Rattle.endpoint_loop.specs.PlainMembers.{plain_members}
+use Rattle.endpoint_node.specs.Changes.{Change}
 use Rattle.command_line.specs.Words.{ServeWords}
 use Rattle.rpc_laws.specs.NodeLists.{new_node}
 use Rattle.rpc_laws.specs.declared.tables.Counted.{Counted}
-use Rattle.rpc_outside.specs.Faults.{HasRisen}
+use Rattle.memory_count.specs.Faults.{HasRisen}
 use Rattle.rpc_outside.specs.Linking.{NoneComes}
 use Rattle.rpc_outside.specs.Writing.{Broke, Wrote, Written}
 use Rattle.rpc_outside.specs.declared.link.Link as Link
@@ -45,15 +46,21 @@ abbrev pub rested_at : {L C R : Type 0} → Moment ServesSoFar L C R
     → Moment (Rested ℕ CrewState) L C R
 rested_at m = record { run = rested m.run.endpoint m.run.rest; edges = m.edges }
 
--- one turn was made and counted, whatever the endpoint told of it; a server has no calls that end
+-- one turn was made and counted, whatever the endpoint told of it, while so often memory was
+-- refused; a server has no calls that end
 pub record HasServed {L C R : Type 0} (o : Outside L C R) (old new : Moment ServesSoFar L C R)
-    : Type 0 where
+    (memory : Change ℕ) : Type 0 where
   pub told : Option Turn
   pub from : NoCalls
   pub to : NoCalls
   pub takes : TakesTurn plain_members crew_members o (λ (k : NoCalls) (ds : List Done). ⊤) told
-      (rested_at old) (rested_at new) from to
+      (rested_at old) (rested_at new) from to memory
   pub counted : new.run ≡ one_more new.run.endpoint new.run.rest old.run
+
+-- the same, however often memory was refused
+abbrev pub HasTurnedOnce : {L C R : Type 0} → Outside L C R
+    → (old new : Moment ServesSoFar L C R) → Type 0
+HasTurnedOnce o old new = (memory : Change ℕ) × HasServed o old new memory
 
 -- it is over where all turns are made
 abbrev pub going_at : ServesSoFar → Going
@@ -90,7 +97,7 @@ pub record ServesOn {L C R : Type 0} (o : Outside L C R) (old new : Moment Serve
   pub many : ℕ
   pub made : new.run.made ≡ old.run.made + many
   pub turns : new.run.turns ≡ old.run.turns
-  pub each : Turns (HasServed o) many old new
+  pub each : Turns (HasTurnedOnce o) many old new
   pub runs : RunsOn plain_members crew_members o (end_at old) (end_at new) many
 
 -- how the turns of a run end: all are made, or the link failed in the last of them
@@ -128,7 +135,7 @@ pub record HasServedSome {L C R : Type 0} (o : Outside L C R) (words : ServeWord
   pub ready : L
   pub start : ServesSoFar
   pub starts : StartsServing o.net words old.link ready start
-  pub each : Turns (HasServed o) many (where_at start ready old.clock old.rec) new
+  pub each : Turns (HasTurnedOnce o) many (where_at start ready old.clock old.rec) new
   pub turned : HasTurned plain_members crew_members o words.life (limits_at words.timeout) old
       (end_at new) many
 

@@ -1,13 +1,15 @@
 //! A run of a server.
-ghost use Rattle.std.specs.Prelude.{◌≡◌, ◌<◌, [], IfOk, IfErr, IfSome, OnErr, OnOk};
+ghost use Rattle.std.specs.Prelude.{◌≡◌, ◌<◌, ◌≤◌, [], IfOk, IfErr, IfSome};
 ghost use Rattle.command_line.specs.Answers.{IsServeInRange};
+ghost use Rattle.std.specs.Prelude.{MatchResult, OnErr, OnOk};
 ghost use Rattle.endpoint_loop.specs.PlainMembers.{plain_members};
+ghost use Rattle.endpoint_node.specs.Changes.{◌⟶◌};
 ghost use Rattle.rpc_turns.specs.Moments.{outside, where_at};
 ghost use Rattle.rpc_turns.specs.Plain.{IsCrewed, crew_members, limits_at};
 ghost use Rattle.rpc_turns.specs.Turns.{RunsOn};
-ghost use Rattle.rpc_outside.specs.Faults.{HasCause};
+ghost use Rattle.memory_count.specs.Faults.{HasCause, HasRisenBy};
 ghost use Rattle.rpc_outside.specs.Linking.{NoneComes};
-ghost use Rattle.run_status.specs.Words.{WhyNot};
+ghost use Rattle.run_status.specs.Words.{WhyNot, lacks};
 ghost use Rattle.run_status.specs.declared.going.Going.TheVariants.{On};
 ghost use Rattle.serve_run.specs.Serving.{Answers, HasServed, Prints, StartsServing, Writes};
 ghost use Rattle.serve_run.specs.Serving.{one_more, turns_line};
@@ -17,11 +19,11 @@ use client_core::Done;
 use command_line::ServeSpec;
 use count_line::{Count, Word, write_counts};
 use endpoint_loop::Continuation;
+use memory_count::Memory;
 use rpc_laws::Counted;
 use rpc_outside::{Clock, Failed, Link, PlainDuty, Recorder, Sink};
 use rpc_turns::{PlainEndpoint, Rest, plain_endpoint, stop, take_turn};
 use run_status::{Going, Status, sleeps};
-use std::alloc::Global;
 use std::marker::Model;
 use std::sync::Wait;
 use worker_crew::{Hand, Spawner};
@@ -106,11 +108,11 @@ impl<H: Wait + Drop> ServeRun<H> {
     /// Binds the link to the address, for an endpoint of node 0 in the life of the words, with usual
     /// limits but for its timeout, and starts its crew: each of its hands, at most 16, is offered to
     /// the spawner, which has no hand out.
-    /// `LinkFault` comes exactly where a fault of the link came, and `NoMemory` only where there
-    /// was no memory; no hand is out then.
+    /// `LinkFault` comes exactly where a fault of the link came, and `NoMemory` only where memory
+    /// was refused; no hand is out then.
     pub fn start<L: Link, P: Spawner<Hand<PlainDuty>>>(
+        memory: &mut Memory,
         rt: H,
-        alloc: Global,
         spec: &ServeSpec,
         link: &mut L,
         spawner: &mut P,
@@ -126,12 +128,14 @@ impl<H: Wait + Drop> ServeRun<H> {
         ensures sent { L.sent link.new ≡ L.sent link.old }
         ensures lists { NoneComes L.waiting L.received link.old link.new }
         ensures busies { L.busies link.new ≡ L.busies link.old }
+        ensures cause { MatchResult result (λ _. memory.old ≤ memory.new)
+            (λ why. HasRisenBy (lacks why) memory.old memory.new) }
     {
         let Ok(()) = listen(spec, link) else {
             return Err(Status::LinkFault);
         };
         let (life, timeout) = (spec.life, spec.timeout);
-        let Ok(endpoint) = plain_endpoint(rt, alloc, life, timeout, spec.workers, spawner) else {
+        let Ok(endpoint) = plain_endpoint(memory, rt, life, timeout, spec.workers, spawner) else {
             return Err(Status::NoMemory);
         };
         Ok(ServeRun {
@@ -148,6 +152,7 @@ impl<H: Wait + Drop> ServeRun<H> {
     /// only while some are left. The crew has the hands that it had.
     pub fn turn<L: Link, C: Clock, R: Recorder>(
         &mut self,
+        memory: &mut Memory,
         link: &mut L,
         clock: &mut C,
         rec: &mut R,
@@ -155,7 +160,7 @@ impl<H: Wait + Drop> ServeRun<H> {
         requires left { self.old.made < self.old.turns }
         ensures serves { HasServed (outside L.Link C.gave R.log)
             (where_at self.old link.old clock.old rec.old)
-            (where_at self.new link.new clock.new rec.new) }
+            (where_at self.new link.new clock.new rec.new) (memory.old ⟶ memory.new) }
         ensures tells { RunsOn plain_members crew_members (outside L.Link C.gave R.log)
             (where_at self.old.endpoint link.old clock.old rec.old)
             (where_at self.new.endpoint link.new clock.new rec.new) 1 }
@@ -163,8 +168,10 @@ impl<H: Wait + Drop> ServeRun<H> {
         ensures answers { Answers (L.faults link.old) (L.faults link.new) self.new result }
         ensures left { result ≡ On → self.new.made < self.new.turns }
         ensures team { team_of self.new.endpoint.workers ≡ team_of self.old.endpoint.workers }
+        ensures no_less { memory.old ≤ memory.new }
     {
         let turned = take_turn(
+            memory,
             &mut self.endpoint,
             &mut self.rest,
             link,

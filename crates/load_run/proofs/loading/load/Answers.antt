@@ -1,11 +1,14 @@
 -- a run is over, and its line was written
+use Rattle.std.proofs.Common.{arith}
+use Rattle.load_run.proofs.LackLemmas.{prints-none}
+use Rattle.run_status.proofs.LackLemmas.{risen-after}
 use Rattle.load_run.proofs.LoadLemmas.{has-run, loads-printed, loads-stopped}
 use Rattle.load_run.proofs.StartLemmas.{notes-run}
 use Rattle.rpc_turns.specs.Moments.{edges_of, outside, where_at}
 use Rattle.load_run.proofs.loading.load.Goals as goal
 
-pub returns-in_default : goal.returns-in_default
-returns-in_default g c =
+pub returns-in_default-clause-loads : goal.returns-in_default-clause-loads
+returns-in_default-clause-loads g c =
     let o = outside g.L.Link g.C.Clock.gave g.R.Recorder.log in
     let old = edges_of c.args.link.now c.args.clock.now c.args.rec.now in
     let last = where_at c.turn_all.new.run c.turn_all.new.link c.turn_all.new.clock
@@ -16,8 +19,8 @@ returns-in_default g c =
     c.turn_all.ensures.ends)
     c.finish.result c.finish.ensures
 
-pub returns-in-LinkFault : goal.returns-in-LinkFault
-returns-in-LinkFault g c =
+pub returns-in-LinkFault-clause-loads : goal.returns-in-LinkFault-clause-loads
+returns-in-LinkFault-clause-loads g c =
     let o = outside g.L.Link g.C.Clock.gave g.R.Recorder.log in
     loads-stopped o c.args.spec.now (edges_of c.args.link.now c.args.clock.now c.args.rec.now)
     c.start.new.link c.start.new.rec c.in-Ok.run'
@@ -26,3 +29,14 @@ returns-in-LinkFault g c =
     (notes-run g.R.Recorder.log g.L.Link c.args.spec.now c.args.link.now c.start.new.link
     c.args.rec.now c.start.new.rec c.turn_all.new.rec c.in-Ok.run' c.turn_all.new.run
     c.in-Ok.ensures.starts c.turn_all.ensures.goes_on)
+
+pub returns-in_default-clause-cause : goal.returns-in_default-clause-cause
+returns-in_default-clause-cause g c =
+    let started = c.in-Ok.ensures.cause in
+    let turned = c.turn_all.ensures.cause.no_less in
+    prints-none c.turn_all.new.run c.finish.result _ _ _ _ c.finish.ensures
+    (omega (arith, started, turned))
+
+pub returns-in-LinkFault-clause-cause : goal.returns-in-LinkFault-clause-cause
+returns-in-LinkFault-clause-cause g c =
+    risen-after _ _ _ _ c.in-Ok.ensures.cause c.turn_all.ensures.cause

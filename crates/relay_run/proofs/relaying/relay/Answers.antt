@@ -1,11 +1,14 @@
 -- from the start to the end
+use Rattle.std.proofs.Common.{arith}
 use Rattle.relay_run.proofs.RelayLemmas.{ends-well, stops}
 use Rattle.rpc_turns.specs.Moments.{edges_of, outside, where_at}
+use Rattle.run_status.proofs.LackLemmas.{risen-after}
+use Rattle.serve_run.proofs.LackLemmas.{writes-none}
 use Rattle.relay_run.proofs.relaying.relay.Goals as goal
 
-pub returns-in-Done : goal.returns-in-Done
-returns-in-Done g c =
-    let done = c.in-Done.ensures in
+pub returns-in-Done-clause-relays : goal.returns-in-Done-clause-relays
+returns-in-Done-clause-relays g c =
+    let done = c.in-Done.ensures.ends in
     ends-well (outside g.L.Link g.C.Clock.gave g.R.Recorder.log) c.args.spec.now c.args.other.now
     (edges_of c.args.link.now c.args.clock.now c.args.rec.now) c.start.new.link c.start.new.rec
     c.in-Ok.run'
@@ -13,11 +16,21 @@ returns-in-Done g c =
     c.in-Ok.ensures.starts c.turns_note.ensures c.finish.result (g.K.Sink.page c.args.sink.now)
     (g.K.Sink.page c.finish.new.sink) done.0 done.1 done.2 c.finish.ensures.prints
 
-pub returns-in_default : goal.returns-in_default
-returns-in_default g c =
+pub returns-in_default-clause-relays : goal.returns-in_default-clause-relays
+returns-in_default-clause-relays g c =
     stops (outside g.L.Link g.C.Clock.gave g.R.Recorder.log) c.args.spec.now c.args.other.now
     (edges_of c.args.link.now c.args.clock.now c.args.rec.now) c.start.new.link c.start.new.rec
     c.in-Ok.run'
     (where_at c.turn_all.new.run c.turn_all.new.link c.turn_all.new.clock c.turn_all.new.rec)
     c.in-Ok.ensures.starts c.turns_note.ensures c.turn_all.result (g.K.Sink.page c.args.sink.now)
-    c.in_default.not-Done c.turn_all.ensures
+    c.in_default.not-Done c.turn_all.ensures.ends
+
+pub returns-in-Done-clause-cause : goal.returns-in-Done-clause-cause
+returns-in-Done-clause-cause g c =
+    let started = c.in-Ok.ensures.cause in
+    let turned = c.turn_all.ensures.cause.no_less in
+    writes-none c.finish.result _ _ _ _ _ c.finish.ensures.prints (omega (arith, started, turned))
+
+pub returns-in_default-clause-cause : goal.returns-in_default-clause-cause
+returns-in_default-clause-cause g c =
+    risen-after _ _ _ _ c.in-Ok.ensures.cause c.turn_all.ensures.cause

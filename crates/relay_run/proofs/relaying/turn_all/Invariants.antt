@@ -1,5 +1,5 @@
 -- turns were made, and some are left
-use Rattle.std.proofs.Common.{◌≡◌, ◌<◌, ◌-◌}
+use Rattle.std.proofs.Common.{◌≡◌, ◌<◌, ◌≤◌, ◌-◌}
 use Rattle.relay_run.specs.Runs.{IsRelaying, RelaysOn}
 use Rattle.rpc_turns.specs.Moments.{outside, where_at}
 use Rattle.relay_run.proofs.relaying.turn_all.Given as goal
@@ -12,6 +12,7 @@ invariant-turns g l =
     × (g.L.Link.faults l.link ≡ g.L.Link.faults l.initial.link)
     × (l.run.made < l.run.turns)
     × IsRelaying l.run
+    × (l.initial.memory ≤ l.memory)
 
 abbrev pub decreases-turns : goal.decreases-turns
 decreases-turns g l = l.run.turns - l.run.made

@@ -12,6 +12,7 @@ returns-in-Err-TooLarge g c = record {
       (c.in-Err-TooLarge.ensures.refused (λ e. cc)) c.in-Err-TooLarge.ensures.unchanged
       c.work_job.ensures.others c.work_job.ensures.answers c.work_job.ensures.counted;
   wanting = tt;
+  cause = c.in-Err-TooLarge.ensures.cause.no_less;
 }
 
 pub returns-in-Err-NotConnected : goal.returns-in-Err-NotConnected
@@ -25,4 +26,5 @@ returns-in-Err-NotConnected g c = record {
       c.work_job-in-Err-NotConnected.ensures.others c.work_job-in-Err-NotConnected.ensures.answers
       c.work_job-in-Err-NotConnected.ensures.counted;
   wanting = tt;
+  cause = c.in-Err-NotConnected.ensures.cause.no_less;
 }

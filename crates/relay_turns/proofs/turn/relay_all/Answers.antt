@@ -1,5 +1,8 @@
 -- the ends of calls are settled, and then the jobs that wait are passed on
+use Rattle.std.proofs.Common.{[]}
+use Rattle.relay_steps.proofs.PassLemmas.{after-none}
 use Rattle.relay_turns.proofs.TurnLemmas.{on-both, past-settled, relays-all}
+use Rattle.server_core.proofs.FlushLemmas.{grew-none}
 use Rattle.relay_turns.proofs.turn.relay_all.Goals as goal
 
 pub returns-clause-relays : goal.returns-clause-relays
@@ -19,3 +22,10 @@ returns-clause-goes_on g c =
     c.pass_all.new.endpoint c.settle_all.new.relays c.pass_all.new.relays c.args.rec.now
     c.pass_all.new.rec c.numbers.ensures.same c.settle_all.ensures.others
     c.settle_all.ensures.settles c.pass_all.ensures.goes_on
+
+pub returns-in_err-check-clause-goes_on : goal.returns-in_err-check-clause-goes_on
+returns-in_err-check-clause-goes_on g c = rw c.numbers.ensures.same (record {
+  noted = [];
+  grew = grew-none g.R.Recorder.log c.args.rec.now;
+  stands = after-none g.V.Service g.D.Duty.answer c.args.endpoint.now;
+})

@@ -1,5 +1,6 @@
 -- a turn of the endpoint, and then the relaying
-use Rattle.std.proofs.Common.{None, Some}
+use Rattle.std.proofs.Common.{None, Some, arith}
+use Rattle.memory_count.proofs.Risen.{none-risen-by}
 use Rattle.endpoint_loop.specs.Polls.{turn_of}
 use Rattle.relay_turns.proofs.KeepLemmas.{works-again}
 use Rattle.relay_turns.proofs.TurnLemmas.{mid-handles, runs-turn, turn-relays}
@@ -16,7 +17,7 @@ relay_all-requires g c = record {
       c.args.clock.now c.args.rec.now) c.take_turn-turned.new.endpoint c.take_turn-turned.new.rec
       (where_at (relayer c.take_turn-turned.new.endpoint c.take_turn-turned.new.rest
       c.args.relays.now) c.take_turn-turned.new.link c.take_turn-turned.new.clock
-      c.take_turn-turned.new.rec) c.new-ended.result c.take_turn-turned.new.k
+      c.take_turn-turned.new.rec) c.new-ended.result c.take_turn-turned.new.k _
       c.take_turn-turned.ensures.takes c.take_turn-turned.ensures.team c.requires.works;
 }
 
@@ -38,7 +39,7 @@ returns-in-Ok-turned g c =
     c.args.clock.now c.args.rec.now) c.take_turn-turned.new.endpoint c.take_turn-turned.new.rec
     (where_at (relayer c.relay_all.new.endpoint c.take_turn-turned.new.rest c.relay_all.new.relays)
     c.take_turn-turned.new.link c.take_turn-turned.new.clock c.relay_all.new.rec)
-    c.new-ended.result c.take_turn-turned.new.k c.in-Ok-turned.ensures.takes
+    c.new-ended.result c.take_turn-turned.new.k _ c.in-Ok-turned.ensures.takes
     c.take_turn-turned.ensures.team c.requires.works c.new-ended.ensures.none
     c.in-Ok.ensures.whole c.take_turn-turned.ensures.handed c.in-Ok.ensures.relays in
     record {
@@ -49,6 +50,7 @@ returns-in-Ok-turned g c =
       runs = t.runs;
       quiet = c.in-Ok-turned.ensures.cause;
       fault = tt;
+      cause = omega (arith, c.take_turn-turned.ensures.no_less, c.in-Ok.ensures.cause);
     }
 
 pub returns : goal.returns
@@ -59,7 +61,7 @@ returns g c =
     c.args.clock.now c.args.rec.now) c.take_turn-turned.new.endpoint c.take_turn-turned.new.rec
     (where_at (relayer c.relay_all.new.endpoint c.take_turn-turned.new.rest c.relay_all.new.relays)
     c.take_turn-turned.new.link c.take_turn-turned.new.clock c.relay_all.new.rec)
-    c.new-ended.result c.take_turn-turned.new.k c.in-Err-turned.ensures.takes
+    c.new-ended.result c.take_turn-turned.new.k _ c.in-Err-turned.ensures.takes
     c.take_turn-turned.ensures.team c.requires.works c.new-ended.ensures.none
     c.in-Ok.ensures.whole c.take_turn-turned.ensures.handed c.in-Ok.ensures.relays in
     record {
@@ -69,4 +71,6 @@ returns g c =
       runs = t.runs;
       quiet = tt;
       fault = λ same. c.in-Err-turned.ensures.cause;
+      cause = none-risen-by _ _
+          (omega (arith, c.take_turn-turned.ensures.no_less, c.in-Ok.ensures.cause));
     }

@@ -1,5 +1,5 @@
 -- turns were made, and some are left
-use Rattle.std.proofs.Common.{◌≡◌, ◌<◌, ◌-◌}
+use Rattle.std.proofs.Common.{◌≡◌, ◌<◌, ◌≤◌, ◌-◌}
 use Rattle.rpc_turns.specs.Moments.{outside, where_at}
 use Rattle.serve_run.specs.Serving.{ServesOn}
 use Rattle.worker_crew.specs.Crews.{team_of}
@@ -13,6 +13,7 @@ invariant-turns g l =
     × (g.L.Link.faults l.link ≡ g.L.Link.faults l.initial.link)
     × (l.run.made < l.run.turns)
     × (team_of l.run.endpoint.workers ≡ team_of l.initial.run.endpoint.workers)
+    × (l.initial.memory ≤ l.memory)
 
 abbrev pub decreases-turns : goal.decreases-turns
 decreases-turns g l = l.run.turns - l.run.made

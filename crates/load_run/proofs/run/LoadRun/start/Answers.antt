@@ -40,7 +40,7 @@ returns-clause-starts g c =
       sends = passes.sends;
       ends = passes.ends;
       none = let asks = passes.asks in omega (arith, asks);
-      plan = c.in-Ok-of.ensures;
+      plan = c.in-Ok-of.ensures.calls;
       tally = c.new-2.ensures;
       asked = refl;
       turns = ap (λ (w : LoadWords). w.turns) c.spec.view_is;

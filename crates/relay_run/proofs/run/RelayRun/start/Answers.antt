@@ -14,9 +14,9 @@ returns-clause-starts g c =
     let words = c.args.spec.now in
     let limits = limits_at words.timeout in
     let made = subst (λ (w : ServeWords). IsNew w.life (limits_at w.timeout)
-    c.in-Ok-desk_endpoint.endpoint) same c.in-Ok-desk_endpoint.ensures in
+    c.in-Ok-desk_endpoint.endpoint) same c.in-Ok-desk_endpoint.ensures.made in
     let opens = c.in-Ok-open_session.ensures.opens in
-    let relays = c.in-Ok-new.ensures in
+    let relays = c.in-Ok-new.ensures.made in
     record {
       noted = opens.noted;
       peer = c.in-Ok.peer;
@@ -41,10 +41,10 @@ pub returns-clause-works : goal.returns-clause-works
 returns-clause-works g c =
     let limits = limits_at c.args.spec.now.timeout in
     let made = subst (λ (w : ServeWords). IsNew w.life (limits_at w.timeout)
-    c.in-Ok-desk_endpoint.endpoint) c.spec.view_is c.in-Ok-desk_endpoint.ensures in
+    c.in-Ok-desk_endpoint.endpoint) c.spec.view_is c.in-Ok-desk_endpoint.ensures.made in
     let opens = c.in-Ok-open_session.ensures.opens in (
       limits,
       opens.noted,
       works-on g.R.Recorder.log c.args.spec.now.life limits _ _ _ _ _ _ made opens
-          c.in-Ok-new.ensures,
+          c.in-Ok-new.ensures.made,
     )

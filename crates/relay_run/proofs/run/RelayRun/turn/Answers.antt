@@ -1,6 +1,7 @@
 -- one turn, counted
 use Rattle.std.proofs.Common.{◌+◌, arith, refl}
-use Rattle.relay_run.proofs.RelayLemmas.{answers-after, has-relayed, left-after, unless-after}
+use Rattle.relay_run.proofs.RelayLemmas.{answers-after, cause-after, has-relayed, left-after}
+use Rattle.relay_run.proofs.RelayLemmas.{unless-after}
 use Rattle.rpc_turns.specs.Moments.{outside}
 use Rattle.relay_run.proofs.run.RelayRun.turn.Goals as goal
 
@@ -26,6 +27,10 @@ returns-clause-answers g c =
       turns = c.self.inside.turns;
       made = c.self.inside.made + 1;
     }) _ c.going.ensures c.relay_turn-turned.ensures.quiet c.relay_turn-turned.ensures.fault
+
+pub returns-clause-cause : goal.returns-clause-cause
+returns-clause-cause g c =
+    cause-after c.relay_turn-turned.result _ _ _ _ c.going.ensures c.relay_turn-turned.ensures.cause
 
 pub returns-clause-left : goal.returns-clause-left
 returns-clause-left g c =
