@@ -7,6 +7,7 @@ ghost use Rattle.worker_crew.specs.Launching.{Launched};
 
 use command_line::complaint;
 use history_audit::fault_of;
+use memory_count::Memory;
 use rpc_outside::{IoSink, IoSource, Kept, NoRecord, PlainDuty, Source, SysClock};
 use rpc_tools::{Status, run};
 use script_help::Explanation;
@@ -61,8 +62,8 @@ fn run_words<H: Wait + Drop, S: Source, P: Spawner<Hand<PlainDuty>>>(
     let mut sink = IoSink::new(writer);
     let mut link = UdpLink::new(rt.alloc(), rt);
     let status = run(
+        &mut Memory::new(rt.alloc()),
         waits,
-        rt.alloc(),
         words,
         source,
         &mut sink,
@@ -104,7 +105,7 @@ fn complain(rt: &HostRuntime, ended: Ended, source: Option<&[u8]>) {
 
 // One line on standard error that names the wrong word, or how each subcommand is called.
 fn refuse(rt: &HostRuntime, words: &[String]) {
-    let _ = match complaint(rt.alloc(), words) {
+    let _ = match complaint(&mut Memory::new(rt.alloc()), words) {
         Ok(text) => eprintln!(rt; "erpc: {text}"),
         Err(_) => eprintln!(rt; "erpc: {}", Status::Usage),
     };

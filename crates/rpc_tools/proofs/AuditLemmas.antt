@@ -9,7 +9,7 @@ use Rattle.history_audit.proofs.VerdictLemmas.{one-verdict}
 use Rattle.history_audit.specs.Auditing.{IsVerdict}
 use Rattle.history_audit.specs.declared.verdict.Verdict.{Verdict}
 use Rattle.history_audit.specs.declared.verdict.Verdict.TheVariants as verdict
-use Rattle.rpc_outside.specs.Faults.{HasRisen, IsQuiet}
+use Rattle.memory_count.specs.Faults.{HasRisen, IsQuiet}
 use Rattle.rpc_outside.specs.Reading.{Unread}
 use Rattle.rpc_outside.specs.Writing.{Broke, Written, Wrote}
 use Rattle.rpc_tools.proofs.Headline.{no-fault}

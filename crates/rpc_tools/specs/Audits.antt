@@ -7,7 +7,7 @@ use Rattle.count_line.specs.Line.{audit_text}
 use Rattle.history_audit.specs.Audit.{FailsAt, IsLawfulReport}
 use Rattle.history_audit.specs.declared.verdict.Verdict.{Verdict}
 use Rattle.history_audit.specs.declared.verdict.Verdict.TheVariants as verdict
-use Rattle.rpc_outside.specs.Faults.{HasRisen}
+use Rattle.memory_count.specs.Faults.{HasRisen}
 use Rattle.rpc_outside.specs.Reading.{Unread}
 use Rattle.rpc_outside.specs.Writing.{Broke, Written, Wrote}
 use Rattle.rpc_tools.specs.declared.report.TheConstants.{MOST_REPORT}

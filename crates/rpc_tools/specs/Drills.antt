@@ -42,7 +42,7 @@ Drills WriteFault seed calls page then_page = BreaksLine seed calls page then_pa
 Drills NoMemory seed calls page then_page = Untouched page then_page
 Drills _ seed calls page then_page = ⊥
 
--- a drill that met no fault and no want of memory: Done, and its line
+-- a drill that met no fault, and was refused no memory: Done, and its line
 pub record Succeeds (status : Status) (seed calls : ℕ) (page then_page : Written) : Type 0 where
   pub done : status ≡ Done
   pub line : WritesLine seed calls page then_page

@@ -4,7 +4,7 @@ use Rattle.std.specs.Io.KnownBytes.{Keeps}
 use Rattle.rpc_base.specs.declared.fact.Fact.{Fact}
 use Rattle.report_text.specs.Text.{text}
 use Rattle.ring_laws.specs.PairsOnce.{PairsOnce}
-use Rattle.rpc_outside.specs.Faults.{HasRisen}
+use Rattle.memory_count.specs.Faults.{HasRisen}
 use Rattle.rpc_outside.specs.Reading.{Unread}
 use Rattle.rpc_outside.specs.Writing.{Wrote, Written, Broke}
 use Rattle.rpc_tools.specs.declared.reading.Input.{Input}
@@ -86,6 +86,11 @@ Gives most TooLong input then_input =
     (then_input.faults ≡ input.faults) × IfSome input.left (λ all. most < length all)
 Gives most Fault input then_input = HasRisen input.faults then_input.faults
 Gives most Memory input then_input = Unit {0}
+
+-- how many wants of memory it tells of
+abbrev pub lacks_read : Input → ℕ
+lacks_read Memory = 1
+lacks_read _ = 0
 
 -- the source was read to its end, and its bytes are the script's
 abbrev pub ReadScript : List Line → Option (List ℕ) → Option (List ℕ) → Type 0

@@ -1,37 +1,41 @@
 //! A drill: the script that a number makes is run, and its history counted.
 ghost use Rattle.std.specs.Prelude.{◌≤◌, IfOk};
+ghost use Rattle.memory_count.specs.Faults.{HasReason, HasRisenBy};
 ghost use Rattle.rpc_tools.specs.Drills.{Drills, IsDrillHistory};
+ghost use Rattle.run_status.specs.Words.{lacks};
 
 use drill_line::{count, drill_line};
 use drill_maker::{MOST_CALLS, drill_script};
-use rpc_base::NoMemory;
+use memory_count::{Memory, NoMemory};
 use rpc_outside::{Sink, write_all};
 use rpc_world::World;
 use run_status::Status;
-use std::alloc::Global;
 
 /// The world that the script of a drill left.
-fn drilled_world(alloc: Global, seed: u64, calls: u32) -> Result<World, NoMemory>
+fn drilled_world(memory: &mut Memory, seed: u64, calls: u32) -> Result<World, NoMemory>
     requires some { 1 ≤ calls }
     requires most { calls ≤ MOST_CALLS }
-    ensures { IfOk result (λ world. IsDrillHistory seed calls world) }
+    ensures drilled { IfOk result (λ world. IsDrillHistory seed calls world) }
+    ensures cause { HasReason memory.old memory.new result }
 {
-    let script = drill_script(alloc, seed, calls)?;
-    let world = World::run(alloc, &script)?;
+    let script = drill_script(memory, seed, calls)?;
+    let world = World::run(memory, &script)?;
     Ok(world)
 }
 
-/// Runs the script of a drill and writes the line that counts what happened.
-pub fn drill<K: Sink>(alloc: Global, seed: u64, calls: u32, sink: &mut K) -> Status
+/// Runs the script of a drill and writes the line that counts what happened. `NoMemory` comes only
+/// where memory was refused.
+pub fn drill<K: Sink>(memory: &mut Memory, seed: u64, calls: u32, sink: &mut K) -> Status
     requires some { 1 ≤ calls }
     requires most { calls ≤ MOST_CALLS }
-    ensures { Drills result seed calls (K.page sink.old) (K.page sink.new) }
+    ensures drills { Drills result seed calls (K.page sink.old) (K.page sink.new) }
+    ensures cause { HasRisenBy (lacks result) memory.old memory.new }
 {
-    let Ok(world) = drilled_world(alloc, seed, calls) else {
+    let Ok(world) = drilled_world(memory, seed, calls) else {
         return Status::NoMemory;
     };
     let counts = count(world.history().facts());
-    let Ok(line) = drill_line(alloc, seed, calls, counts) else {
+    let Ok(line) = drill_line(memory, seed, calls, counts) else {
         return Status::NoMemory;
     };
     match write_all(sink, line.as_bytes()) {

@@ -1,7 +1,7 @@
 //! An audit: a report is read and judged, and a line written.
 ghost use Rattle.std.specs.Prelude.{◌≡◌, ◌≢◌, ◌≤◌, ℕ, List, MatchResult, Some, length};
 ghost use Rattle.count_line.specs.declared.audit.AuditLine.{AuditLine};
-ghost use Rattle.rpc_outside.specs.Faults.{IsQuiet};
+ghost use Rattle.memory_count.specs.Faults.{IsQuiet};
 ghost use Rattle.rpc_outside.specs.Reading.{Unread};
 ghost use Rattle.rpc_tools.specs.Audits.{Answers, Audits, Judges, line_of, Says};
 ghost use Rattle.rpc_tools.specs.Audits.{status_of, Writes};
@@ -11,6 +11,7 @@ ghost use Rattle.rpc_tools.specs.Outcomes.{Gives};
 use crate::reading::{Input, read_all};
 use count_line::{AuditLine, write_audit};
 use history_audit::{Verdict, audit};
+use memory_count::Memory;
 use rpc_outside::{Sink, Source};
 use run_status::Status;
 use std::alloc::Global;
@@ -76,7 +77,7 @@ fn judge(alloc: Global, input: Input) -> Result<AuditLine, Status>
 /// Reads the source to its end, or until more than 67,108,864 bytes came, and writes whether they
 /// are the report of a lawful history, at which line they fail, or that they are too many. It waits
 /// for nothing.
-pub fn audit_report<S: Source, K: Sink>(alloc: Global, source: &mut S, sink: &mut K) -> Status
+pub fn audit_report<S: Source, K: Sink>(memory: &mut Memory, source: &mut S, sink: &mut K) -> Status
     ensures audits { Audits result (S.input source.old) (S.input source.new) (K.page sink.old)
         (K.page sink.new) }
     ensures answers { (bytes : List ℕ) (line : AuditLine)
@@ -86,7 +87,7 @@ pub fn audit_report<S: Source, K: Sink>(alloc: Global, source: &mut S, sink: &mu
         → result ≢ Status.NoMemory
         → Answers line result (S.input source.new) (K.page sink.old) (K.page sink.new) }
 {
-    match judge(alloc, read_all(alloc, source, MOST_REPORT)) {
+    match judge(memory.alloc(), read_all(memory, source, MOST_REPORT)) {
         Ok(line) => say(sink, line),
         Err(status) => status,
     }

@@ -1,15 +1,17 @@
 //! `serve`, by hands or by another server.
 ghost use Rattle.std.specs.Prelude.{◌≡◌, [], option_map};
 ghost use Rattle.command_line.specs.Answers.{IsServeInRange};
+ghost use Rattle.memory_count.specs.Faults.{HasRisenBy};
 ghost use Rattle.rpc_tools.specs.Servers.{Serves};
 ghost use Rattle.rpc_turns.specs.Moments.{edges_of, outside};
+ghost use Rattle.run_status.specs.Words.{lacks};
 
 use command_line::ServeSpec;
+use memory_count::Memory;
 use relay_run::relay;
 use rpc_outside::{Clock, Link, PlainDuty, Recorder, Sink};
 use run_status::Status;
 use serve_run::serve;
-use std::alloc::Global;
 use std::sync::Wait;
 use worker_crew::{Hand, Spawner};
 
@@ -26,8 +28,8 @@ fn other_server(spec: &ServeSpec) -> Option<&str>
 /// Serves as the words say: with hands for background calls, or with another server that is asked
 /// for them. The spawner has no hand out before and after.
 pub(crate) fn serve_as_told<H, K, L, C, P, R>(
+    memory: &mut Memory,
     rt: H,
-    alloc: Global,
     spec: &ServeSpec,
     sink: &mut K,
     link: &mut L,
@@ -48,9 +50,10 @@ where
     ensures serves { Serves result (outside L.Link C.gave R.log) spec.now
         (edges_of link.old clock.old rec.old) (edges_of link.new clock.new rec.new)
         (K.page sink.old) (K.page sink.new) }
+    ensures cause { HasRisenBy (lacks result) memory.old memory.new }
 {
     match other_server(spec) {
-        None => serve(rt, alloc, spec, sink, link, clock, spawner, rec),
-        Some(other) => relay(alloc, spec, other, sink, link, clock, rec),
+        None => serve(memory, rt, spec, sink, link, clock, spawner, rec),
+        Some(other) => relay(memory, spec, other, sink, link, clock, rec),
     }
 }

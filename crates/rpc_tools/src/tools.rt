@@ -7,11 +7,12 @@ ghost use Rattle.count_line.specs.declared.audit.AuditLine.{AuditLine};
 ghost use Rattle.load_run.specs.Loading.{Loads};
 ghost use Rattle.rpc_tools.specs.Alone.{StartsNone, StaysAlone};
 ghost use Rattle.rpc_tools.specs.Audits.{Answers, Audits, Says};
-ghost use Rattle.rpc_outside.specs.Faults.{IsQuiet};
+ghost use Rattle.memory_count.specs.Faults.{HasRisenBy, IsQuiet};
 ghost use Rattle.rpc_tools.specs.Drills.{Drills, Succeeds as DrillSucceeds};
 ghost use Rattle.rpc_tools.specs.Outcomes.{NothingDone, Simulates, Succeeds, Unmoved};
 ghost use Rattle.rpc_tools.specs.Servers.{Serves};
 ghost use Rattle.rpc_turns.specs.Moments.{edges_of, outside};
+ghost use Rattle.run_status.specs.Words.{lacks};
 ghost use Rattle.script_grammar.specs.declared.line.Line.{Line};
 ghost use Rattle.script_grammar.specs.Script.{script_of};
 
@@ -21,9 +22,9 @@ use crate::serving::serve_as_told;
 use crate::simulation::sim;
 use command_line::{Task, WordsError, read_words};
 use load_run::load;
+use memory_count::Memory;
 use rpc_outside::{Clock, Link, PlainDuty, Recorder, Sink, Source};
 use run_status::Status;
-use std::alloc::Global;
 use std::sync::Wait;
 use worker_crew::{Hand, Spawner};
 
@@ -35,10 +36,11 @@ use worker_crew::{Hand, Spawner};
 /// writes a line of counts. `serve` works background calls by hands that it offers to the spawner,
 /// which has no hand out before and after; it may wait for them, by the handle `rt`. With `--relay`
 /// it offers none, and asks those calls of another server. Words that are in no row of the command
-/// line are `Usage`.
+/// line are `Usage`. `NoMemory` comes only where memory was refused, but for `audit`, of which that
+/// isn't said.
 pub fn run<H, S, K, L, C, P, R>(
+    memory: &mut Memory,
     rt: H,
-    alloc: Global,
     words: &[String],
     source: &mut S,
     sink: &mut K,
@@ -60,8 +62,10 @@ where
     ensures starts_none { StartsNone (task_of (map string_bytes words.now)) spawner.old
         spawner.new }
     ensures usage { result ≡ Status.Usage → task_of (map string_bytes words.now) ≡ None }
-    ensures no_task { task_of (map string_bytes words.now) ≡ None → result ≢ Status.NoMemory
+    ensures no_task { task_of (map string_bytes words.now) ≡ None → IsQuiet memory.old memory.new
         → result ≡ Status.Usage }
+    ensures cause { task_of (map string_bytes words.now) ≢ Some Task.Audit
+        → HasRisenBy (lacks result) memory.old memory.new }
     ensures refuses { result ≡ Status.Usage
         → NothingDone (S.input source.old) (S.input source.new) (K.page sink.old) (K.page sink.new) }
     ensures simulates { task_of (map string_bytes words.now) ≡ Some Task.Sim
@@ -72,7 +76,7 @@ where
         → (S.input source.old).left ≡ Some bytes → script_of bytes ≡ Ok script
         → IsQuiet (S.input source.old).faults (S.input source.new).faults
         → IsQuiet (K.page sink.old).faults (K.page sink.new).faults
-        → result ≢ Status.NoMemory
+        → IsQuiet memory.old memory.new
         → Succeeds script result (S.input source.new) (K.page sink.old) (K.page sink.new) }
     ensures drills { (seed calls : ℕ)
         → task_of (map string_bytes words.now) ≡ Some (Task.Drill seed calls)
@@ -104,17 +108,18 @@ where
         clock.new rec.old rec.new }
     ensures drilled { (seed calls : ℕ)
         → task_of (map string_bytes words.now) ≡ Some (Task.Drill seed calls)
-        → IsQuiet (K.page sink.old).faults (K.page sink.new).faults → result ≢ Status.NoMemory
+        → IsQuiet (K.page sink.old).faults (K.page sink.new).faults
+        → IsQuiet memory.old memory.new
         → DrillSucceeds result seed calls (K.page sink.old) (K.page sink.new) }
 {
-    match read_words(alloc, words) {
-        Ok(Task::Sim) => sim(alloc, source, sink),
-        Ok(Task::Drill { seed, calls }) => drill(alloc, seed, calls, sink),
+    match read_words(memory, words) {
+        Ok(Task::Sim) => sim(memory, source, sink),
+        Ok(Task::Drill { seed, calls }) => drill(memory, seed, calls, sink),
         Ok(Task::Serve(spec)) => {
-            serve_as_told(rt, alloc, &spec, sink, link, clock, spawner, rec)
+            serve_as_told(memory, rt, &spec, sink, link, clock, spawner, rec)
         }
-        Ok(Task::Load(spec)) => load(rt, alloc, &spec, sink, link, clock, rec),
-        Ok(Task::Audit) => audit_report(alloc, source, sink),
+        Ok(Task::Load(spec)) => load(memory, rt, &spec, sink, link, clock, rec),
+        Ok(Task::Audit) => audit_report(memory, source, sink),
         Err(WordsError::Usage) => Status::Usage,
         Err(WordsError::NoMemory) => Status::NoMemory,
     }

@@ -4,8 +4,8 @@ use Rattle.rpc_tools.specs.Drills.{IsReported}
 use Rattle.script_grammar.specs.declared.line.Line.{Line}
 use Rattle.rpc_tools.proofs.drill.drilled_world.Goals as goal
 
-pub returns : goal.returns
-returns c =
+pub returns-clause-drilled : goal.returns-clause-drilled
+returns-clause-drilled c =
     let r = c.in_ok-world.ensures in
     subst (λ (script : List Line). IsReported script c.in_ok-world.world) c.in_ok-script.ensures.script
     (record {

@@ -5,7 +5,7 @@ use Rattle.rpc_tools.proofs.report.audit_report.Goals as goal
 
 pub returns-in-Ok-clause-audits : goal.returns-in-Ok-clause-audits
 returns-in-Ok-clause-audits g c =
-    audits-said c.say.result c.in-Ok.line _ _ _ _ c.say.ensures (c.in-Ok.ensures _ _ c.read_all.ensures)
+    audits-said c.say.result c.in-Ok.line _ _ _ _ c.say.ensures (c.in-Ok.ensures _ _ c.read_all.ensures.gives)
 
 pub returns-in-Ok-clause-answers : goal.returns-in-Ok-clause-answers
 returns-in-Ok-clause-answers g c = λ bytes line left says source sink memory.
@@ -13,7 +13,7 @@ returns-in-Ok-clause-answers g c = λ bytes line left says source sink memory.
 
 pub returns-in-Err-clause-audits : goal.returns-in-Err-clause-audits
 returns-in-Err-clause-audits g c =
-    audits-silent c.in-Err.status _ _ _ _ (c.in-Err.ensures _ _ c.read_all.ensures)
+    audits-silent c.in-Err.status _ _ _ _ (c.in-Err.ensures _ _ c.read_all.ensures.gives)
     (record { kept = Keeps-refl _; quiet = refl })
 
 pub returns-in-Err-clause-answers : goal.returns-in-Err-clause-answers

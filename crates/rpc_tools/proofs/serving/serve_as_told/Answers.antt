@@ -15,4 +15,4 @@ returns-in-Some-clause-serves g c =
     by-relay c.relay.result (outside g.L.Link g.C.Clock.gave g.R.Recorder.log) c.args.spec.now
     (edges_of c.args.link.now c.args.clock.now c.args.rec.now)
     (edges_of c.relay.new.link c.relay.new.clock c.relay.new.rec) (g.K.Sink.page c.args.sink.now)
-    (g.K.Sink.page c.relay.new.sink) _ c.in-Some.ensures c.relay.ensures
+    (g.K.Sink.page c.relay.new.sink) _ c.in-Some.ensures c.relay.ensures.relays

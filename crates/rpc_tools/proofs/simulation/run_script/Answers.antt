@@ -1,7 +1,7 @@
 use Rattle.rpc_tools.proofs.simulation.run_script.Goals as goal
 
-pub returns-in-Ok-print : goal.returns-in-Ok-print
-returns-in-Ok-print g c =
+pub returns-in-Ok-print-clause-runs : goal.returns-in-Ok-print-clause-runs
+returns-in-Ok-print-clause-runs g c =
     let r = c.in-Ok.ensures in
     record {
       history = c.in-Ok.world;

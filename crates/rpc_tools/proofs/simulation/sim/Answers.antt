@@ -6,12 +6,12 @@ use Rattle.rpc_tools.proofs.simulation.sim.Goals as goal
 
 pub returns-in-TooLong-clause-simulates : goal.returns-in-TooLong-clause-simulates
 returns-in-TooLong-clause-simulates g c = record {
-  quiet = c.in-TooLong.ensures.0;
-  refused = refused-too_long _ c.in-TooLong.ensures.1;
+  quiet = c.in-TooLong.ensures.gives.0;
+  refused = refused-too_long _ c.in-TooLong.ensures.gives.1;
   sink = record { kept = Keeps-refl _; quiet = refl };
 }
 
 pub returns-in-TooLong-clause-headline : goal.returns-in-TooLong-clause-headline
 returns-in-TooLong-clause-headline g c = λ bytes script left is source sink memory.
     headline _ bytes script _ _ _ _ (returns-in-TooLong-clause-simulates g c) left is source
-    sink memory
+    sink _ _ c.in-TooLong.ensures.cause memory
