@@ -2,13 +2,14 @@
 //! service:
 //!
 //! ```text
-//! use erpc_lib::{Credits, Outcome, RpcError, udp_plain};
+//! use erpc_lib::{Credits, Memory, Outcome, RpcError, udp_plain};
 //!
 //! fn ask<H>(waits: H, rt: &HostRuntime, addr: &str) -> Result<Outcome, RpcError>
 //! where
 //!     H: Wait + Drop,
 //! {
-//!     let mut node = udp_plain(waits, rt.alloc(), rt, "127.0.0.1:0")?;
+//!     let mut memory = Memory::new(rt.alloc());
+//!     let mut node = udp_plain(&mut memory, waits, rt, "127.0.0.1:0")?;
 //!     let session = node.connect_within(addr, Credits::one(), 100_000)?;
 //!     node.ask(session, ECHO, b"hello", 64)?;
 //!     let done = node.wait_ended(100_000)?;
@@ -28,9 +29,10 @@ mod udp;
 
 pub use client_core::{Done, Outcome};
 pub use endpoint_loop::{AskError, Continuation, Endpoint, LinkFault, Refused, Turn};
+pub use memory_count::{Memory, NoMemory};
 pub use message_buffer::MsgBuf;
 pub use packet_header::{FIRST_LIFE, Life};
-pub use rpc_base::{CallNo, Limits, NoMemory, NodeId, Peer, SessionNo, SessionState};
+pub use rpc_base::{CallNo, Limits, NodeId, Peer, SessionNo, SessionState};
 pub use rpc_outside::{
     Clock, Duty, Failed, Link, Mode, NoRecord, PlainDuty, PlainService, Recorder, Service, SysClock,
 };

@@ -5,7 +5,7 @@
 mod counter;
 
 use counter::{BYTES, Counter};
-use erpc_lib::{Credits, udp_running};
+use erpc_lib::{Credits, Memory, udp_running};
 
 const ADDR: &str = "127.0.0.1:47323";
 
@@ -15,7 +15,8 @@ const CALLS: u32 = 3;
 const TURNS: u32 = 1_000_000;
 
 fn main(rt: HostRuntime) -> anyhow::Result<()> {
-    let mut node = udp_running(rt.alloc(), &rt, ADDR, Counter::new())?;
+    let mut memory = Memory::new(rt.alloc());
+    let mut node = udp_running(&mut memory, &rt, ADDR, Counter::new())?;
     let session = node.connect_within(ADDR, Credits::one(), TURNS)?;
     for _call in 0..CALLS {
         node.ask(session, 1, &[], BYTES)?;

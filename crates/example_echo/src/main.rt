@@ -2,8 +2,10 @@
 //! and asks itself.
 #![tactic(auto)]
 
-use erpc_lib::{Credits, Done, Outcome, RpcError, UdpPlain, udp_plain};
-use std::sync::Wait;
+use erpc_lib::{
+    Clock, Credits, Done, Link, Memory, Outcome, Recorder, RpcError, Running, Service, Workers,
+    udp_plain,
+};
 use std::{env, io, str};
 
 const SERVER: &str = "127.0.0.1:47321";
@@ -19,16 +21,19 @@ const ROOM: u32 = 64;
 /// After so many turns the client gives up.
 const TURNS: u32 = 1_000_000;
 
-type Node<'a, H> = UdpPlain<'a, H, HostRuntime>;
-
-fn serve<H: Wait + Drop>(node: &mut Node<H>) -> Result<(), RpcError> {
+fn serve<V: Service, W: Workers, L: Link, C: Clock, R: Recorder>(
+    node: &mut Running<V, W, L, C, R>,
+) -> Result<(), RpcError> {
     for _turn in 0..u32::MAX {
         node.turn()?;
     }
     Ok(())
 }
 
-fn ask<H: Wait + Drop>(node: &mut Node<H>, text: &str) -> Result<Done, RpcError> {
+fn ask<V: Service, W: Workers, L: Link, C: Clock, R: Recorder>(
+    node: &mut Running<V, W, L, C, R>,
+    text: &str,
+) -> Result<Done, RpcError> {
     let session = node.connect_within(SERVER, Credits::one(), TURNS)?;
     node.ask(session, ECHO, text.as_bytes(), ROOM)?;
     node.wait_ended(TURNS)
@@ -43,13 +48,15 @@ fn tell(rt: &HostRuntime, done: &Done) -> io::Result<()> {
 }
 
 // Answers calls, or asks one and tells what came of it.
-fn run<H: Wait + Drop>(rt: &HostRuntime, node: &mut Node<H>, serves: bool) -> anyhow::Result<()> {
+fn run<V: Service, W: Workers, L: Link, C: Clock, R: Recorder>(
+    rt: &HostRuntime,
+    node: &mut Running<V, W, L, C, R>,
+    serves: bool,
+) -> anyhow::Result<()> {
     if serves {
-        serve(node)?;
-    } else {
-        tell(rt, &ask(node, "hello")?)?;
+        return Ok(serve(node)?);
     }
-    Ok(())
+    Ok(tell(rt, &ask(node, "hello")?)?)
 }
 
 fn main(rt: HostRuntime) -> anyhow::Result<()> {
@@ -57,6 +64,7 @@ fn main(rt: HostRuntime) -> anyhow::Result<()> {
     let is_client = word.as_ref().is_some_and(|word| word.as_str() == "ask");
     let serves = word.is_some() && !is_client;
     let addr = if is_client { CLIENT } else { SERVER };
-    let mut node = udp_plain(rt, rt.alloc(), &rt, addr)?;
+    let mut memory = Memory::new(rt.alloc());
+    let mut node = udp_plain(&mut memory, rt, &rt, addr)?;
     run(&rt, &mut node, serves)
 }
