@@ -1,12 +1,2 @@
-pub mod Finishing
-pub mod Fronts
-pub mod Handling
-pub mod Heads
-pub mod NextFacts
 pub mod Noted
-pub mod Retrying
-pub mod Sending
 pub mod SingleFacts
-pub mod Speaking
-pub mod Tells
-pub mod Watching

@@ -48,7 +48,8 @@ pub fn ask(calls: &mut Listed<Call>, what: Asking) -> Result<(), NoMemory>
     calls.push(Call {
         what,
         progress: None,
-    })
+    })?;
+    Ok(())
 }
 
 // A call begins as this request.

@@ -55,7 +55,9 @@ fn give(
     let Some(k) = place_of_request(slots, request) else {
         return Ok(());
     };
-    out.push(job_of(alloc, session, slots.at(k))?)
+    let job = job_of(alloc, session, slots.at(k))?;
+    out.push(job)?;
+    Ok(())
 }
 
 /// The jobs after an event of their node, whose server sessions are those before it.

@@ -144,7 +144,8 @@ fn add(paces: &mut Listed<Pace>, session: SessionNo) -> Result<(), NoMemory>
         session,
         rate: 0,
         next: 0,
-    })
+    })?;
+    Ok(())
 }
 
 /// The paces after an event at this clock of their node, whose client sessions are those before it.

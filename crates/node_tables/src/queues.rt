@@ -22,7 +22,8 @@ fn push(
         (arrivals.new ≡ arrivals.old ++ record { peer = peer; bytes = bytes.now } ∷ []) }
 {
     let bytes = Octets::copy(alloc, bytes)?;
-    arrivals.push(Arrival { peer, bytes })
+    arrivals.push(Arrival { peer, bytes })?;
+    Ok(())
 }
 
 fn push_message(

@@ -36,7 +36,8 @@ fn add(
         },
         credits,
         slots: Listed::new(alloc),
-    })
+    })?;
+    Ok(())
 }
 
 /// Where a session stands.

@@ -21,5 +21,5 @@ returns c =
       a-job c.args.session c.args.request c.args.servers.now c.at.result.now c.at-2.result.now
           (find-found (is_server c.args.session) c.args.servers.now c.in-Some.i (sym c.in-Some.ensures) ∙ c.at.ensures)
           (find-found (is_request c.args.request) c.at.result.now.slots c.in-Some-place_of_request.k (sym c.in-Some-place_of_request.ensures) ∙ c.at-2.ensures),
-      ← c.in_ok-job_of.ensures,
-    ) c.push.ensures.pushed
+      ← c.in_ok-job.ensures,
+    ) c.in_ok-push.ensures.pushed

@@ -1,7 +1,0 @@
-use Rattle.node_rules.proofs.SaysLemmas.{says-done-peer-lost}
-use Rattle.node_rules.proofs.watching.says_lost.Goals as goal
-
-pub returns : goal.returns
-returns c =
-    rw c.says_done_peer_lost.ensures
-    (says-done-peer-lost c.args.me c.args.call.now.what.number c.args.fact.now)

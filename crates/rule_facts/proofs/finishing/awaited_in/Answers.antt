@@ -1,0 +1,12 @@
+use Rattle.std.proofs.Common.{sym, ◌∙◌, refl}
+use Rattle.rpc_base.proofs.TablesLemmas.{find-found, find-missing}
+use Rattle.rpc_laws.specs.Requests.{is_request}
+use Rattle.rule_facts.proofs.finishing.awaited_in.Goals as goal
+
+pub returns-in_default : goal.returns-in_default
+returns-in_default c = rw (find-missing (is_request c.args.request) c.args.slots.now (sym c.in_default.ensures)) refl
+
+pub returns : goal.returns
+returns c =
+    rw (find-found (is_request c.args.request) c.args.slots.now c.in-Some.place (sym c.in-Some.ensures) ∙ c.at.ensures)
+    c.awaited_of.ensures

@@ -1,0 +1,13 @@
+use Rattle.std.proofs.Common.{sym, ◌∙◌, refl}
+use Rattle.rpc_base.proofs.TablesLemmas.{find-found, find-missing}
+use Rattle.rpc_laws.specs.Sessions.{is_client}
+use Rattle.rule_facts.proofs.packets.ask_packet.Goals as goal
+
+pub returns-in_default : goal.returns-in_default
+returns-in_default c = rw (find-missing (is_client c.args.session) c.args.clients.now (sym c.in_default.ensures)) refl
+
+pub returns : goal.returns
+returns c =
+    rw (find-found (is_client c.args.session) c.args.clients.now c.in-Some.place
+    (sym c.in-Some.ensures) ∙ c.at-client.ensures)
+    c.in_ok-packet.ensures

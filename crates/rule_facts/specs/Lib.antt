@@ -1,0 +1,10 @@
+pub mod Finishing
+pub mod Fronts
+pub mod Handling
+pub mod Heads
+pub mod NextFacts
+pub mod Retrying
+pub mod Sending
+pub mod Speaking
+pub mod Tells
+pub mod Watching
