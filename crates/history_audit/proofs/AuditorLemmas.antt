@@ -1,9 +1,8 @@
 -- What is found of a history, a fact later, and the verdict on it.
 use Rattle.std.proofs.Common.{◌≡◌, ℕ, ◌+◌, ◌<◌, ◌≤◌, Bool, true, false, List, [], ◌∷◌, ◌++◌, length, take, refl, sym}
-use Rattle.std.proofs.Common.{ap, ◌∙◌, subst, arith, get_or, length-append, append-nil}
+use Rattle.std.proofs.Common.{ap, ◌∙◌, subst, arith, length-append, append-nil}
 use Rattle.std.proofs.lemmas.Bool.{ltb-false, ltb-true}
-use Rattle.std.proofs.lemmas.List.{length-take-le, take-append-le, take_all, take_more}
-use Rattle.std.proofs.lemmas.Option.{slice_get_read}
+use Rattle.std.proofs.lemmas.List.{take-append-le, take_all}
 use Rattle.std.specs.Prelude.{nat_lt}
 use Rattle.front_laws.specs.Whole.{IsWhole}
 use Rattle.history_audit.proofs.FairLemmas.{fair-lawful, fair-none}
@@ -16,8 +15,6 @@ use Rattle.history_audit.specs.declared.tables.Tables.{Tables}
 use Rattle.history_audit.specs.Tables.{HaveNoted, IsDoomed, IsFair}
 use Rattle.lawful_history.specs.Lawful.{Lawful}
 use Rattle.report_reader.specs.Lines.{IsReportOf}
-use Rattle.report_text.specs.Told.{AllTold, IsTold}
-use Rattle.rpc_base.proofs.PlaceLemmas.{all-at}
 use Rattle.rpc_base.specs.declared.fact.Fact.{Fact}
 
 pub longer : (h : List Fact) (f : Fact) → length (h ++ f ∷ []) ≡ length h + 1
@@ -115,17 +112,3 @@ verdict-first bytes t h line is found =
 pub finds-none : (t : Tables) → HaveNoted t [] → Finds t Fair []
 finds-none t noted =
     (noted, fair-none, fronts-all [] (λ n lt. absurd (omega (arith, lt))) (fair-lawful [] fair-none))
-
--- one more of some facts
-pub reads-next : (a b : Auditor) (facts : List Fact) (i : ℕ) (x : Fact) → i < length facts → x ≡ get_or facts i x
-    → AllTold facts → ((h : List Fact) → IsTold x → HasRead a h → HasRead b (h ++ x ∷ []))
-    → HasRead a (take i facts) → HasRead b (take (i + 1) facts)
-reads-next a b facts i x lt e told next read =
-    let one : take (i + 1) facts ≡ take i facts ++ x ∷ [] =
-    take_more facts i x lt ∙ ap (λ (y : Fact). take i facts ++ y ∷ []) (sym e) in
-    let is : IsTold x = all-at IsTold facts i x told (slice_get_read facts (length facts) i x refl lt e) in
-    subst (HasRead b) (sym one) (next (take i facts) is read)
-
-pub reads-few : (a : Auditor) (facts : List Fact) (i : ℕ) → i ≤ length facts → HasRead a (take i facts)
-    → a.facts ≡ i
-reads-few a facts i le read = read.counted ∙ length-take-le i facts le

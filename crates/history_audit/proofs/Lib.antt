@@ -6,4 +6,5 @@ mod LivesLemmas
 mod NetLemmas
 mod NodesLemmas
 mod PollLemmas
+mod ReadingLemmas
 pub mod VerdictLemmas

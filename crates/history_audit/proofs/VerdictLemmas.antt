@@ -1,6 +1,6 @@
 -- No report is both lawful and not.
 use Rattle.std.proofs.Common.{◌≡◌, ℕ, ◌<◌, ◌+◌, ◌^◌, Bool, true, false, List, [], ◌∷◌, length, ap, sym, ◌∙◌, subst}
-use Rattle.std.proofs.Common.{arith, refl, Err, Ok, Result}
+use Rattle.std.proofs.Common.{arith, refl}
 use Rattle.std.proofs.Common.{take, drop, take-append-drop}
 use Rattle.std.specs.List.{AllByRecursion}
 use Rattle.front_laws.specs.Whole.{IsWhole}
@@ -11,7 +11,7 @@ use Rattle.history_audit.specs.declared.verdict.Verdict.{Verdict}
 use Rattle.history_audit.specs.declared.verdict.Verdict.TheVariants as verdict
 use Rattle.history_audit.specs.Laws.{NoReportIsBoth, OneLineFails, ReportsTell}
 use Rattle.std.proofs.lemmas.Bool.{ltb-false, ltb-true}
-use Rattle.std.specs.Prelude.{IfOk, nat_lt}
+use Rattle.std.specs.Prelude.{nat_lt}
 use Rattle.report_reader.specs.Lines.{IsReportOf}
 use Rattle.report_reader.proofs.OneLine.{one-unspelled}
 use Rattle.lawful_history.proofs.FrontLemmas.{lawful-front}
@@ -97,9 +97,3 @@ one-verdict bytes few (verdict.Lawful n) (verdict.Lawful m) a b =
 one-verdict bytes few (verdict.Lawful n) (verdict.Unlawful m) a b = absurd (no-both bytes few n m a b)
 one-verdict bytes few (verdict.Unlawful n) (verdict.Lawful m) a b = absurd (no-both bytes few m n b a)
 one-verdict bytes few (verdict.Unlawful n) (verdict.Unlawful m) a b = ap verdict.Unlawful (one-line bytes few n m a b)
-
-pub only-one : {E : Type 0} (r : Result Verdict E) (bytes : List ℕ) (facts : List Fact) → length bytes < 2 ^ 63
-    → IfOk r (λ w. (z : List ℕ) → IsReportOf z facts → IsVerdict z w) → IsReportOf bytes facts
-    → (v : Verdict) → IsVerdict bytes v → IfOk r (λ w. w ≡ v)
-only-one (Ok w) bytes facts few told report v is = one-verdict bytes few w v (told bytes report) is
-only-one (Err e) bytes facts few told report v is = tt

@@ -5,4 +5,5 @@ pub mod Laws
 pub mod Lives
 pub mod Nodes
 pub mod OpenPolls
+pub mod Reading
 pub mod Tables

@@ -52,6 +52,13 @@ impl Auditor {
         })
     }
 
+    /// How many facts it has read.
+    pub fn facts(&self) -> u64
+        ensures { result ≡ self.now.facts }
+    {
+        self.facts
+    }
+
     // What is found where no history that begins with the facts so far is lawful, and each shorter
     // front is.
     fn doomed(&self) -> Finding

@@ -1,64 +1,93 @@
-//! The audit of a report.
-ghost use Rattle.std.specs.Prelude.{ℕ, ◌≡◌, ◌<◌, ◌^◌, ◌↔◌, List, IfOk};
-ghost use Rattle.history_audit.specs.Auditing.{HasRead, IsNoReport, IsVerdict};
+//! The audit of a report. It is read once, a line at a time, and no fact is kept but by the auditor.
+ghost use Rattle.std.specs.Prelude.{ℕ, ◌≡◌, ◌+◌, ◌<◌, ◌^◌, ◌↔◌, List, IfOk, length};
+ghost use Rattle.history_audit.specs.Auditing.{IsNoReport, IsVerdict};
 ghost use Rattle.history_audit.specs.declared.fault.Fault.{Fault};
 ghost use Rattle.history_audit.specs.declared.verdict.Verdict.{Verdict};
-ghost use Rattle.report_reader.specs.Lines.{IsReportOf};
-ghost use Rattle.report_text.specs.Told.{AllTold};
+ghost use Rattle.history_audit.specs.Reading.{IsAudited, IsAuditedBelow, IsEnd};
+ghost use Rattle.rpc_base.specs.declared.fact.Fact.{Fact};
 
 use crate::auditor::Auditor;
 use crate::fault::Fault;
 use crate::verdict::Verdict;
-use report_reader::{Reading, read_report};
-use rpc_base::{Fact, NoMemory};
+use report_reader::{below_head, is_end, next_line, read_fact};
+use rpc_base::NoMemory;
 use std::alloc::Global;
 
-// An auditor that has read these facts.
-fn auditor_of(alloc: Global, facts: &[Fact]) -> Result<Auditor, NoMemory>
-    requires told { AllTold facts.now }
-    ensures read { IfOk result (λ auditor. HasRead auditor facts.now) }
-    ensures few { IfOk result (λ auditor. auditor.facts < 2 ^ 63) }
-{
-    let mut auditor = Auditor::new(alloc)?;
-    for fact in facts {
-        auditor.note(alloc, fact)?;
-    }
-    Ok(auditor)
+/// What is known of bytes once they are read.
+#[derive(Drop)]
+enum Audited {
+    /// They are the report of the facts that the auditor has read.
+    Report(Auditor),
+    /// They are no report: this line, counted from 1, isn't spelled as one of a report, or isn't
+    /// there; the lines before it are.
+    Bad(u64),
 }
 
-// The verdict on a report of these facts.
-fn judged(alloc: Global, facts: &[Fact]) -> Result<Verdict, NoMemory>
-    requires told { AllTold facts.now }
-    ensures { IfOk result (λ verdict. (bytes : List ℕ) → IsReportOf bytes facts.now
-        → IsVerdict bytes verdict) }
+// What is known where a line of no fact comes after those that an auditor has read, and then this
+// text.
+fn ended(auditor: Auditor, line: &[u8], after: &[u8]) -> Audited
+    requires few { auditor.facts < 2 ^ 63 }
+    ensures { (facts : List Fact) → auditor.facts ≡ length facts
+        → IsEnd line.now after.now facts auditor result }
 {
-    let auditor = auditor_of(alloc, facts)?;
-    Ok(auditor.verdict())
+    let count = auditor.facts();
+    if !is_end(line, count) {
+        return Audited::Bad(count + 2);
+    }
+    if !after.is_empty() {
+        return Audited::Bad(count + 3);
+    }
+    Audited::Report(auditor)
+}
+
+// Reads the lines below the first one.
+fn audited_below(alloc: Global, text: &[u8]) -> Result<Audited, NoMemory>
+    requires { length text.now < 2 ^ 63 }
+    ensures { IfOk result (IsAuditedBelow text.now) }
+{
+    let mut text = text;
+    let mut auditor = Auditor::new(alloc)?;
+    while let Some((line, after)) = next_line(text) {
+        let Some(fact) = read_fact(alloc, line)? else {
+            return Ok(ended(auditor, line, after));
+        };
+        auditor.note(alloc, &fact)?;
+        text = after;
+    }
+    Ok(Audited::Bad(auditor.facts() + 2))
+}
+
+// Reads bytes.
+fn judged(alloc: Global, bytes: &[u8]) -> Result<Audited, NoMemory>
+    requires { length bytes.now < 2 ^ 63 }
+    ensures { IfOk result (IsAudited bytes.now) }
+{
+    let Some(text) = below_head(bytes) else {
+        return Ok(Audited::Bad(1));
+    };
+    audited_below(alloc, text)
 }
 
 /// Says whether bytes are the report of a lawful history, and if not at which line they fail.
-/// `NoMemory` comes only where there is no memory for the facts and for what is kept of them.
+/// `NoMemory` comes only where there is no memory for what is kept of the facts, or for a line.
 pub fn audit(alloc: Global, bytes: &[u8]) -> Result<Verdict, NoMemory>
     ensures verdict { IfOk result (IsVerdict bytes.now) }
     ensures only { (v : Verdict) → IsVerdict bytes.now v → IfOk result (λ told. told ≡ v) }
 {
-    match read_report(alloc, bytes)? {
-        Reading::Whole(facts) => judged(alloc, facts.as_slice()),
-        Reading::Bad(line) => Ok(Verdict::Unlawful { line }),
+    match judged(alloc, bytes)? {
+        Audited::Report(auditor) => Ok(auditor.verdict()),
+        Audited::Bad(line) => Ok(Verdict::Unlawful { line }),
     }
 }
 
 /// Why bytes fail to be the report of a lawful history, for a user to read: `Unspelled` exactly
 /// where they are the report of no history; of the other faults no clause tells which it is.
-/// `NoMemory` comes only where there is no memory for the facts and for what is kept of them.
+/// `NoMemory` comes only where there is no memory for what is kept of the facts, or for a line.
 pub fn fault_of(alloc: Global, bytes: &[u8]) -> Result<Fault, NoMemory>
     ensures { IfOk result (λ fault. (fault ≡ Fault.Unspelled) ↔ IsNoReport bytes.now) }
 {
-    match read_report(alloc, bytes)? {
-        Reading::Whole(facts) => {
-            let auditor = auditor_of(alloc, facts.as_slice())?;
-            Ok(auditor.fault())
-        }
-        Reading::Bad(_) => Ok(Fault::Unspelled),
+    match judged(alloc, bytes)? {
+        Audited::Report(auditor) => Ok(auditor.fault()),
+        Audited::Bad(_) => Ok(Fault::Unspelled),
     }
 }

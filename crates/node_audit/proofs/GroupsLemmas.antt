@@ -7,6 +7,7 @@ use Rattle.std.proofs.lemmas.Bool.{and_parts}
 use Rattle.std.specs.List.{AllByRecursion}
 use Rattle.rpc_base.specs.declared.event.Event.{Event}
 use Rattle.rpc_base.specs.declared.event.Event.TheVariants.{Polled, Restarted}
+use Rattle.rpc_base.proofs.BasicLemmas.{not-true}
 use Rattle.rpc_base.specs.declared.fact.Fact.{Fact}
 use Rattle.rpc_laws.specs.declared.tables.Timed.{Timed}
 use Rattle.rpc_laws.specs.Endpoints.{begins_life}
@@ -291,10 +292,6 @@ no-length : (x : List Fact) → (length x == 0) ≡ true → x ≡ []
 no-length [] e = refl
 no-length (f ∷ x) e = absurd (true≢false (sym e ∙ ne_eqb (length (f ∷ x)) 0 (λ h. omega (arith, h))))
 
-not-so : (b : Bool) → not b ≡ true → b ≡ false
-not-so true e = cc
-not-so false e = refl
-
 pub alone-all : {E : Type 0} (r : Result Bool E) (a b : Groups) (f : Fact)
     → ((length a.pending == 0) && (not (is_polls f.event) && not (ends_poll f.event))) ≡ true
     → IfOk r (NotesAlone a f b)
@@ -304,8 +301,8 @@ alone-all (Err error) a b f e h = tt
 alone-all (Ok k) a b f e h = λ me life ring x keeps.
     let one = and_parts (length a.pending == 0) (not (is_polls f.event) && not (ends_poll f.event)) e in
     let quiet = and_parts (not (is_polls f.event)) (not (ends_poll f.event)) one.1 in
-    alone-next me life ring a b f x keeps (no-length a.pending one.0) k (not-so (is_polls f.event) quiet.0)
-    (not-so (ends_poll f.event) quiet.1) h
+    alone-next me life ring a b f x keeps (no-length a.pending one.0) k (not-true (is_polls f.event) quiet.0)
+    (not-true (ends_poll f.event) quiet.1) h
 
 pub ended-all : {E : Type 0} (r : Result Bool E) (a b c : Groups) (f : Fact) → b.lists ≡ a.lists
     → b.clock ≡ a.clock → b.pending ≡ a.pending ++ f ∷ [] → ends_poll f.event ≡ true → IfOk r (EndsPoll b c)

@@ -7,6 +7,7 @@ use Rattle.std.proofs.lemmas.Bool.{and_parts, eqb-true}
 use Rattle.std.proofs.lemmas.List.Folds.{list_any-append}
 use Rattle.std.proofs.lemmas.List.Sums.{sum_by-cons}
 use Rattle.end_laws.proofs.CountLemmas.{count-append}
+use Rattle.rpc_base.proofs.BasicLemmas.{not-true, or-false}
 use Rattle.rpc_base.specs.declared.event.Event.{Event}
 use Rattle.rpc_base.specs.declared.event.Event.TheVariants.{Worked}
 use Rattle.rpc_base.specs.declared.fact.Fact.{Fact}
@@ -14,10 +15,6 @@ use Rattle.rpc_laws.specs.AtMostOnce.{works_request}
 use Rattle.node_audit.specs.Worked.{AreWorked, has_job, is_new, WorkedOnce}
 
 -- none passes a test where none is counted
-or-none : (a b : Bool) → (a || b) ≡ false → (a ≡ false) × (b ≡ false)
-or-none true b e = cc
-or-none false b e = (refl, e)
-
 module _ {A : Type 0} (p : A → Bool) where
   count-cons : (x : A) (xs : List A) → count_by p (x ∷ xs) ≡ cond (p x) 1 0 + count_by p xs
   count-cons x xs = sum_by-cons (λ y. cond (p y) 1 0) x xs
@@ -25,7 +22,7 @@ module _ {A : Type 0} (p : A → Bool) where
   pub none-zero : (xs : List A) → list_any p xs ≡ false → count_by p xs ≡ 0
   none-zero [] e = refl
   none-zero (x ∷ xs) e =
-      let parts = or-none (p x) (list_any p xs) e in
+      let parts = or-false (p x) (list_any p xs) e in
       let cons = count-cons x xs in
       let head : cond {A = ℕ} (p x) 1 0 ≡ 0 = ap (λ (b : Bool). cond {A = ℕ} b 1 0) parts.0 in
       let rest = none-zero xs parts.1 in
@@ -61,10 +58,6 @@ module _ {A : Type 0} (p : A → Bool) where
       by true false = refl
       by false true = refl
       by false false = refl
-
-not-true : (b : Bool) → not b ≡ true → b ≡ false
-not-true true e = cc
-not-true false e = refl
 
 -- which job an event works
 new-is : (jobs : List (ℕ × ℕ)) (e : Event) (t r : ℕ) → works_request t r e ≡ true → is_new jobs e ≡ true

@@ -5,6 +5,7 @@ use Rattle.std.proofs.Common.{take, drop, refl, sym, ap, ◌∙◌, subst, arith
 use Rattle.std.proofs.Common.{true, false, cond}
 use Rattle.std.specs.Prelude.{map}
 use Rattle.std.specs.List.{find, list_all}
+use Rattle.std.proofs.Math.Seq.{take-append_seam}
 use Rattle.std.proofs.lemmas.Bool.{and_parts}
 use Rattle.std.proofs.lemmas.List.{take_min}
 use Rattle.rpc_base.specs.declared.fact.Fact.{Fact}
@@ -25,10 +26,10 @@ use Rattle.rpc_laws.specs.NodeLists.{after_all}
 use Rattle.rpc_laws.specs.Steps.{Rel, Then, Visits}
 use Rattle.front_laws.proofs.OneWayLemmas.{OneWay, then-one}
 use Rattle.front_laws.proofs.PhaseLemmas.{retries-one, session-one, watches-one}
-use Rattle.node_rules.specs.Fronts.{Fronts, Starts}
-use Rattle.node_rules.specs.Retrying.{IsFront}
+use Rattle.rule_facts.specs.Fronts.{Fronts, Starts}
+use Rattle.rule_facts.specs.Retrying.{IsFront}
 use Rattle.node_rules.specs.SingleFacts.{at_clock}
-use Rattle.node_rules.specs.Watching.{call_waits, client_waits, is_waits, progress_waits}
+use Rattle.rule_facts.specs.Watching.{call_waits, client_waits, is_waits, progress_waits}
 use Rattle.poll_steps.specs.Steps.{IsStep, NoFront}
 use Rattle.poll_steps.proofs.ChainLemmas.{drop-plus, take-plus, within-plus}
 use Rattle.poll_steps.proofs.PostLemmas.{then-first, then-none}
@@ -128,11 +129,6 @@ pub retries-none : (timeout i clock : ℕ) (s : Lists) (facts : List Fact) (v : 
 retries-none timeout i clock s facts v h =
     record { some = tt; only = λ no x u begins k. h.only no x begins k.facts }
 
--- the facts that stand in front, taken
-take-front : (x rest : List Fact) → take (length x) (x ++ rest) ≡ x
-take-front [] rest = refl
-take-front (f ∷ x) rest = ap (λ (z : List Fact). f ∷ z) (take-front x rest)
-
 -- what a call gives
 pub watches-step : (timeout i number clock : ℕ) (s new : Lists) (facts : List Fact) (n m : ℕ)
     (o : Option ℕ)
@@ -148,7 +144,7 @@ watches-step timeout i number clock s new facts n m o h e least is =
     let long : n ≡ length given = told.some.0 in
     let taken : take n facts ≡ given =
     ap (λ (k : ℕ). take k facts) long
-    ∙ (ap (λ (z : List Fact). take (length given) z) begins.parted ∙ take-front given begins.rest)
+    ∙ (ap (λ (z : List Fact). take (length given) z) begins.parted ∙ take-append_seam given begins.rest)
     in
     let same : take m facts ≡ take n facts =
     ap (λ (k : ℕ). take k facts) least ∙ take_min n facts in
@@ -301,6 +297,25 @@ each-over timeout i numbers k s facts n t e h =
     (subst (λ (z : List ℕ). Onward (Each (Watches timeout i) z) (Each (Watches timeout i) numbers) s
     facts n t)
     (drop-all numbers k e) h)
+
+-- the calls that are left give nothing
+pub each-quiet : (timeout i clock : ℕ) (numbers : List ℕ) (k : ℕ) (s : Timed) (facts : List Fact)
+    (n : ℕ) (new : Lists)
+    → Onward (Each (Watches timeout i) (drop k numbers)) (Each (Watches timeout i) numbers) s facts
+    n (at_clock clock new)
+    → client_waits clock timeout new.queued (slice_get new.clients i) ≡ true
+    → IsStep (Each (Watches timeout i) numbers) s facts (at_clock clock new) (Some n)
+each-quiet timeout i clock numbers k s facts n new h quiet =
+    let same : n + 0 ≡ n = omega arith in
+    let rest = waits-each timeout i clock new (drop k numbers) quiet in
+    record {
+      some = (
+        h.within,
+        subst (λ (j : ℕ). Each (Watches timeout i) numbers s (take j facts) (at_clock clock new))
+            same (h.found 0 (at_clock clock new) (omega arith) rest),
+      );
+      only = λ no. cc;
+    }
 
 -- one number more of a list that is being made
 pub numbers-more : (calls : List Call) (i : ℕ) (c : Call) (old new : List ℕ)

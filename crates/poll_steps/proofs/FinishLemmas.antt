@@ -17,7 +17,7 @@ use Rattle.rpc_laws.specs.PollOrder.{answer_posted, awaited, finished_facts, Fin
 use Rattle.rpc_laws.proofs.RunLemmas.{after_all-append}
 use Rattle.front_laws.proofs.OneWayLemmas.{goes-one, OneWay}
 use Rattle.front_laws.proofs.RowOneLemmas.{some-same}
-use Rattle.node_rules.specs.Finishing.{Finish, FinishNone}
+use Rattle.rule_facts.specs.Finishing.{Finish, FinishNone}
 use Rattle.node_rules.specs.SingleFacts.{at_clock}
 use Rattle.poll_steps.specs.Steps.{AreSteps, begins_with, is_ran, IsStep, Stops}
 use Rattle.poll_steps.proofs.ChainLemmas.{Leads, leads-more, leads-stuck, take-plus}

@@ -31,8 +31,8 @@ use Rattle.rpc_outside.specs.declared.service.Mode.{Mode}
 use Rattle.rpc_outside.specs.PlainAnswer.{plain_mode}
 use Rattle.front_laws.proofs.RingOneLemmas.{handles-end}
 use Rattle.front_laws.proofs.RowOneLemmas.{some-same}
-use Rattle.node_rules.proofs.HandlingLemmas.{some-front, some-within}
-use Rattle.node_rules.specs.Handling.{handled_facts, SomeFronts}
+use Rattle.rule_facts.proofs.HandlingLemmas.{some-front, some-within}
+use Rattle.rule_facts.specs.Handling.{handled_facts, SomeFronts}
 use Rattle.node_rules.specs.SingleFacts.{at_clock}
 use Rattle.poll_steps.proofs.StepLemmas.{NotesSome}
 use Rattle.poll_steps.specs.Handling.{HandlesNext}

@@ -3,7 +3,6 @@ use Rattle.std.proofs.Common.{◌≡◌, ◌==◌, ℕ, true, false, Option, Som
 use Rattle.std.proofs.Common.{length, take}
 use Rattle.std.proofs.Common.{drop, min, slice_get, refl, sym, ap, ◌∙◌, subst}
 use Rattle.std.specs.Prelude.{is_some}
-use Rattle.std.proofs.Math.Seq.{take-append_seam}
 use Rattle.std.proofs.lemmas.Bool.{eqb-true}
 use Rattle.std.proofs.lemmas.List.{nil_from_length}
 use Rattle.packet_header.specs.declared.packet.ControlHeader.{ControlHeader}
@@ -22,9 +21,10 @@ use Rattle.rpc_laws.specs.NodeLists.{after, after_all}
 use Rattle.rpc_laws.specs.Steps.{Rel, Then}
 use Rattle.front_laws.proofs.OneWayLemmas.{Ends}
 use Rattle.front_laws.proofs.RowOneLemmas.{inbox-front, some-same}
-use Rattle.node_rules.specs.Fronts.{Fronts, Starts}
+use Rattle.rule_facts.proofs.FrontLemmas.{front-taken}
+use Rattle.rule_facts.specs.Fronts.{Fronts}
 use Rattle.node_rules.specs.SingleFacts.{at_clock}
-use Rattle.node_rules.specs.Speaking.{Answer, AnswerNone}
+use Rattle.rule_facts.specs.Speaking.{Answer, AnswerNone}
 use Rattle.poll_steps.specs.Steps.{IsStep}
 use Rattle.poll_steps.proofs.PostLemmas.{drop-at}
 use Rattle.poll_steps.proofs.StepLemmas.{NotesSome, step-first, step-told}
@@ -60,14 +60,6 @@ takes-past clock s facts v none = record {
       sym none ∙ (begins.parted ∙ ap (λ (z : List Fact). z ++ begins.rest) k.facts) in
       cc;
 }
-
--- the facts that a rule told
-front-taken : (x facts : List Fact) (n : ℕ) → Fronts x facts (Some n) → take n facts ≡ x
-front-taken x facts n h =
-    let begins : Starts x facts = h.some.1 in
-    let long : n ≡ length x = h.some.0 in
-    ap (take n) begins.parted
-    ∙ (ap (λ (k : ℕ). take k (x ++ begins.rest)) long ∙ take-append_seam x begins.rest)
 
 -- the first session that is outdated ends
 pub ends-some : (clock : ℕ) (s new : Lists) (peer : ℕ) (h : ControlHeader) (facts : List Fact)

@@ -14,7 +14,7 @@ use Rattle.rpc_laws.specs.Posting.{next_begun, next_posted}
 use Rattle.rpc_laws.specs.Steps.{NotesAll, NotesNext, Rel, Then, Visits}
 use Rattle.front_laws.specs.Laws.{Same}
 use Rattle.front_laws.proofs.OneWayLemmas.{back-same, goes-one, next-same, notes-one, OneWay, then-one, visits-one}
-use Rattle.node_rules.specs.NextFacts.{IsNext}
+use Rattle.rule_facts.specs.NextFacts.{IsNext}
 use Rattle.node_rules.specs.SingleFacts.{at_clock}
 use Rattle.poll_steps.specs.Steps.{AreSteps, has_next, IsStep, NoFront}
 use Rattle.poll_steps.proofs.ChainLemmas.{Leads, leads-more, leads-over, leads-stuck, take-plus, within-plus}

@@ -25,7 +25,7 @@ use Rattle.rpc_laws.specs.Posting.{next_packet, next_posted, next_turn, posting}
 use Rattle.rpc_laws.specs.Sessions.{is_connected}
 use Rattle.rpc_laws.specs.Steps.{NotesAll, none}
 use Rattle.node_rules.specs.SingleFacts.{at_clock}
-use Rattle.node_rules.specs.Watching.{client_waits}
+use Rattle.rule_facts.specs.Watching.{client_waits}
 use Rattle.poll_steps.specs.Resting.{asks_nothing, is_at_rest, rests, rests_if}
 use Rattle.poll_steps.specs.Steps.{IsStep}
 use Rattle.poll_steps.proofs.EachLemmas.{quiet-step}

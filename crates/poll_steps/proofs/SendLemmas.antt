@@ -16,7 +16,7 @@ use Rattle.rpc_laws.specs.PollOrder.{Sends}
 use Rattle.rpc_laws.specs.Queues.{is_due}
 use Rattle.front_laws.proofs.OneWayLemmas.{goes-one, OneWay}
 use Rattle.front_laws.proofs.PhaseLemmas.{one-front}
-use Rattle.node_rules.specs.Heads.{IsSpelled}
+use Rattle.rule_facts.specs.Heads.{IsSpelled}
 use Rattle.node_rules.specs.SingleFacts.{at_clock}
 use Rattle.poll_steps.specs.Sending.{IsSentAs, IsSentIf}
 use Rattle.poll_steps.specs.Steps.{AreSteps, begins_with, is_sent, NoFront, Stops}

@@ -16,8 +16,8 @@ use Rattle.rpc_laws.specs.declared.tables.Queued.{Queued}
 use Rattle.rpc_laws.specs.declared.tables.Served.{Served}
 use Rattle.rpc_laws.specs.declared.tables.Way.{Way}
 use Rattle.rpc_laws.specs.Facts.{with_two}
-use Rattle.node_rules.specs.Heads.{IsSpelled}
-use Rattle.node_rules.specs.Tells.{is_node}
+use Rattle.rule_facts.specs.Heads.{IsSpelled}
+use Rattle.rule_facts.specs.Tells.{is_node}
 
 abbrev pub tells_sent : (peer : ℕ) → Owner → (number : ℕ) → Event → Bool
 tells_sent peer owner number (Sent p o k) = (p == peer) && (same_owner o owner && (k == number))

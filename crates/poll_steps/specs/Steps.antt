@@ -6,7 +6,7 @@ use Rattle.rpc_base.specs.declared.event.Event.TheVariants.{Ran, Sent}
 use Rattle.rpc_base.specs.declared.fact.Fact.{Fact}
 use Rattle.rpc_laws.specs.declared.tables.Timed.{Timed}
 use Rattle.rpc_laws.specs.Steps.{Chain, Rel}
-use Rattle.node_rules.specs.Fronts.{Starts}
+use Rattle.rule_facts.specs.Fronts.{Starts}
 
 abbrev pub has_next : Option Event → Bool
 has_next None = false

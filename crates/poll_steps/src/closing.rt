@@ -5,10 +5,10 @@ ghost use Rattle.node_rules.specs.SingleFacts.{at_clock};
 ghost use Rattle.poll_steps.specs.Steps.{IsStep};
 
 use crate::facts::fact_at;
-use node_rules::is_end;
 use node_tables::apply;
 use rpc_base::{Fact, NoMemory};
 use rpc_laws::Lists;
+use rule_facts::is_end;
 use std::alloc::Global;
 
 /// How many of the facts end a poll at this clock, in microseconds: one, or `None` exactly where

@@ -6,10 +6,10 @@ ghost use Rattle.node_rules.specs.SingleFacts.{at_clock};
 ghost use Rattle.poll_steps.specs.Steps.{AreSteps, IsStep, Stops, begins_with, is_ran};
 
 use crate::facts::fact_at;
-use node_rules::next_finished;
 use node_tables::apply;
 use rpc_base::{Event, Fact, NoMemory};
 use rpc_laws::Lists;
+use rule_facts::next_finished;
 use std::alloc::Global;
 
 fn is_ran(event: &Event) -> bool

@@ -8,10 +8,10 @@ ghost use Rattle.poll_steps.specs.Handling.{HandlesNext};
 ghost use Rattle.poll_steps.specs.Steps.{IsStep};
 
 use crate::finishing::apply_all;
-use node_rules::handled;
 use node_tables::{body, count_replies, read_message};
 use rpc_base::{Fact, NoMemory};
 use rpc_laws::{Arrival, Lists};
+use rule_facts::handled;
 use std::alloc::Global;
 
 // Whether no more packets are handled: the ring is empty, or as many replies are queued as it is

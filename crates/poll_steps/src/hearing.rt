@@ -10,11 +10,12 @@ ghost use Rattle.poll_steps.specs.Steps.{IsStep};
 
 use crate::facts::fact_at;
 use crate::finishing::apply_all;
-use node_rules::{answered, is_heard, outdated, session_ended};
+use node_rules::outdated;
 use node_tables::{apply, read_control};
 use packet_header::ControlHeader;
 use rpc_base::{Fact, NoMemory, Peer};
 use rpc_laws::Lists;
+use rule_facts::{answered, is_heard, session_ended};
 use std::alloc::Global;
 
 // Changes the lists as the first facts do, of which a rule told how many there are, and answers

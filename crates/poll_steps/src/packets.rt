@@ -7,11 +7,10 @@ ghost use Rattle.rpc_laws.specs.Packets.{ask_packet, call_packet, client_packet,
 ghost use Rattle.rpc_laws.specs.Packets.{reply_packet, request_packet, server_packet};
 ghost use Rattle.rpc_laws.specs.Requests.{is_request, is_server};
 ghost use Rattle.rpc_laws.specs.Sessions.{is_client};
-ghost use Rattle.node_rules.specs.Tells.{is_node};
+ghost use Rattle.rule_facts.specs.Tells.{is_node};
 ghost use Rattle.poll_steps.specs.Sending.{IsSentAs, IsSentIf, answer_part, asked_answer};
 ghost use Rattle.poll_steps.specs.Sending.{asked_part, credit_return, says_sent, tells_sent};
 
-use node_rules::is_spelled;
 use node_tables::{place_of_active, place_of_client, place_of_request, place_of_server};
 use packet_header::{Kind, MessageHeader, Packet, count};
 use rpc_base::{
@@ -19,6 +18,7 @@ use rpc_base::{
     SessionNo, Who,
 };
 use rpc_laws::{Asking, Call, Client, Lists, Queued, Served, Server, Way};
+use rule_facts::is_spelled;
 
 fn is_node(who: Who, me: NodeId) -> bool
     ensures { result ≡ is_node me who }

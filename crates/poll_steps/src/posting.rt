@@ -9,10 +9,11 @@ ghost use Rattle.poll_steps.specs.Steps.{IsStep, has_next};
 
 use crate::facts::fact_at;
 use crate::resting::rests;
-use node_rules::{is_next_begun, is_next_posted, next_begun, next_posted};
+use node_rules::{next_begun, next_posted};
 use node_tables::apply;
 use rpc_base::{Fact, NoMemory};
 use rpc_laws::Lists;
+use rule_facts::{is_next_begun, is_next_posted};
 use std::alloc::Global;
 
 // Whether a call of client session `i` begins next.

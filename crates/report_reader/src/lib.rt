@@ -15,4 +15,4 @@ mod text;
 mod words;
 
 pub use line::read_line;
-pub use report::{Reading, read_report};
+pub use report::{Reading, below_head, is_end, next_line, read_fact, read_report};

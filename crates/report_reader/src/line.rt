@@ -1,6 +1,6 @@
 //! The reader of lines.
 ghost use Rattle.std.specs.Prelude.{◌≡◌, ◌<◌, ◌≤◌, [], ◌∷◌, ◌++◌, true, false, codes, Some, IfOk};
-ghost use Rattle.rpc_outside.specs.Faults.{HasRisen};
+ghost use Rattle.memory_count.specs.Faults.{HasRisen};
 ghost use Rattle.report_reader.specs.Lines.{bare_line};
 ghost use Rattle.report_text.specs.Shape.{tail_of};
 ghost use Rattle.report_text.specs.Text.{text};

@@ -2,7 +2,8 @@
 ghost use Rattle.std.specs.Prelude.{◌≡◌, ◌<◌, ◌==◌, ◌∷◌, [], length, Some};
 ghost use Rattle.std.specs.Prelude.{true, false, ◌^◌, IfOk, IfSome, IfNone};
 ghost use Rattle.std.specs.List.{position};
-ghost use Rattle.report_reader.specs.Lines.{end_line, parts_of};
+ghost use Rattle.report_reader.specs.declared.report.Reading.TheVariants.{Bad};
+ghost use Rattle.report_reader.specs.Lines.{end_line, head_line, parts_of};
 ghost use Rattle.report_reader.specs.Reading.{Ends, IsReading, IsReadingBelow, ReadsNext};
 
 use crate::line::read_line;
@@ -39,8 +40,9 @@ fn first_feed(text: &[u8]) -> Option<usize>
     text.iter().position(|b| *b == LINE_FEED)
 }
 
-// The first line of a text, and what stands after its line feed; None where there is none.
-fn next_line(text: &[u8]) -> Option<(&[u8], &[u8])>
+/// The first line of a text, and what stands after its line feed; `None` exactly where there is no
+/// line feed.
+pub fn next_line(text: &[u8]) -> Option<(&[u8], &[u8])>
     ensures none { IfNone result (parts_of text.now ≡ text.now ∷ []) }
     ensures line { IfSome result (λ p. parts_of text.now ≡ p.0.now ∷ parts_of p.1.now) }
     ensures shorter { IfSome result (λ p. length p.1.now < length text.now) }
@@ -51,8 +53,8 @@ fn next_line(text: &[u8]) -> Option<(&[u8], &[u8])>
     }
 }
 
-// Whether a line is the last one of a report of so many facts.
-fn is_end(line: &[u8], facts: u64) -> bool
+/// Whether a line is the last one of a report of so many facts.
+pub fn is_end(line: &[u8], facts: u64) -> bool
     ensures yes { result ≡ true → line.now ≡ end_line facts }
     ensures no { result ≡ false → line.now ≡ end_line facts → ⊥ }
 {
@@ -64,8 +66,8 @@ fn is_end(line: &[u8], facts: u64) -> bool
     is_word(&line[END.len()..], count)
 }
 
-// Reads a line as a fact.
-fn read_fact(alloc: Global, line: &[u8]) -> Result<Option<Fact>, NoMemory>
+/// Reads a line below the first one as a fact. `None` comes exactly where it is that of no fact.
+pub fn read_fact(alloc: Global, line: &[u8]) -> Result<Option<Fact>, NoMemory>
     ensures { IfOk result (ReadsNext line.now) }
 {
     let fact = read_line(alloc, line)?;
@@ -107,17 +109,31 @@ fn read_facts(alloc: Global, text: &[u8]) -> Result<Reading, NoMemory>
     Ok(Reading::Bad(facts.len() as u64 + 2))
 }
 
+/// What stands below the first line of a report. `None` comes exactly where that line isn't
+/// spelled, or isn't there.
+pub fn below_head(bytes: &[u8]) -> Option<&[u8]>
+    requires { length bytes.now < 2 ^ 63 }
+    ensures some { IfSome result (λ text. parts_of bytes.now ≡ head_line ∷ parts_of text.now) }
+    ensures shorter { IfSome result (λ text. length text.now < length bytes.now) }
+    ensures none { IfNone result (IsReading bytes.now (Bad 1)) }
+{
+    let Some((head, rest)) = next_line(bytes) else {
+        return None;
+    };
+    if !is_word(head, HEAD) {
+        return None;
+    }
+    Some(rest)
+}
+
 /// Reads a report: the facts that it is the report of, or the first line that isn't spelled as one
 /// of a report. `NoMemory` comes only where there is no memory for the facts or a line of them.
 pub fn read_report(alloc: Global, bytes: &[u8]) -> Result<Reading, NoMemory>
     requires { length bytes.now < 2 ^ 63 }
     ensures { IfOk result (IsReading bytes.now) }
 {
-    let Some((head, rest)) = next_line(bytes) else {
+    let Some(text) = below_head(bytes) else {
         return Ok(Reading::Bad(1));
     };
-    if !is_word(head, HEAD) {
-        return Ok(Reading::Bad(1));
-    }
-    read_facts(alloc, rest)
+    read_facts(alloc, text)
 }

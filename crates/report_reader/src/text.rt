@@ -1,7 +1,7 @@
 //! A sink that grows with what is written.
 ghost use Rattle.std.specs.Prelude.{◌≡◌, ◌<◌, ◌≤◌, [], length, take, Some, IfOk, OnErr};
 ghost use Rattle.std.specs.Io.KnownBytes.{Appends, Keeps};
-ghost use Rattle.rpc_outside.specs.Faults.{HasCause};
+ghost use Rattle.memory_count.specs.Faults.{HasCause};
 ghost use Rattle.rpc_outside.specs.Writing.{Written};
 
 use rpc_outside::{Failed, Sink};

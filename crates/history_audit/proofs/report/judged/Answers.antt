@@ -1,4 +1,7 @@
+use Rattle.history_audit.proofs.ReadingLemmas.{judged-ok}
 use Rattle.history_audit.proofs.report.judged.Goals as goal
 
 pub returns : goal.returns
-returns c = λ bytes is. c.verdict.ensures bytes c.args.facts.now is c.in_ok-auditor.ensures.read
+returns c =
+    judged-ok c.args.bytes.now c.in-Some.text.now c.audited_below.result c.requires c.in-Some.ensures.some
+    c.audited_below.ensures

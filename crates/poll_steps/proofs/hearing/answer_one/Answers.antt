@@ -1,7 +1,7 @@
 use Rattle.std.proofs.Common.{Option, ℕ, ap, subst, take}
 use Rattle.std.specs.Prelude.{IfSome, is_some}
 use Rattle.node_rules.specs.SingleFacts.{at_clock}
-use Rattle.node_rules.specs.Speaking.{Answer}
+use Rattle.rule_facts.specs.Speaking.{Answer}
 use Rattle.poll_steps.proofs.HearLemmas.{answers-none, answers-some}
 use Rattle.poll_steps.proofs.hearing.answer_one.Goals as goal
 

@@ -1,6 +1,6 @@
 use Rattle.std.proofs.Common.{Option, ℕ, Some, subst}
 use Rattle.rpc_laws.specs.ControlTable.{session_end}
-use Rattle.node_rules.specs.Fronts.{Fronts}
+use Rattle.rule_facts.specs.Fronts.{Fronts}
 use Rattle.node_rules.specs.SingleFacts.{at_clock}
 use Rattle.poll_steps.proofs.HearLemmas.{ends-none, ends-other, ends-some}
 use Rattle.poll_steps.proofs.hearing.end_one.Goals as goal
