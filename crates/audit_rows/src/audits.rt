@@ -1,6 +1,7 @@
 //! Audits of texts, and whether they say what is wanted.
 use crate::changes::{change_of, changed, last_word};
 use crate::outside::Outside;
+use memory_count::Memory;
 use rpc_outside::{FirmLink, NoRecord, StepClock};
 use rpc_tools::{Status, run};
 use std::alloc::Global;
@@ -17,8 +18,8 @@ fn audit<H: Wait + Drop>(rt: H, alloc: Global, outside: &mut Outside) -> io::Res
     let word = String::from_str(alloc, "audit")?;
     let words = Vec::from_array(alloc, [word])?;
     Ok(run(
+        &mut Memory::new(alloc),
         rt,
-        alloc,
         words.as_slice(),
         &mut outside.source,
         &mut outside.sink,

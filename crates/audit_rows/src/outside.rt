@@ -1,4 +1,5 @@
 //! What an audit is run over.
+use memory_count::Memory;
 use rpc_outside::{MemSink, MemSource};
 use std::alloc::Global;
 use std::io;
@@ -23,7 +24,7 @@ impl Drop for Outside {
 }
 
 fn sink(alloc: Global) -> io::Result<MemSink> {
-    match MemSink::new(alloc, ROOM, Vec::new(alloc)) {
+    match MemSink::new(&mut Memory::new(alloc), ROOM, Vec::new(alloc)) {
         Ok(sink) => Ok(sink),
         Err(_) => Err(io::Error::from(io::ErrorKind::OutOfMemory)),
     }

@@ -6,7 +6,7 @@ ghost use Rattle.call_load.specs.Callers.{answered_of, asked_of};
 ghost use Rattle.call_load.specs.Counts.{AsksOne, BeginsAnew, CountsNone, CountsTurn};
 ghost use Rattle.call_load.specs.declared.tally.TheConstants.{MOST_CALLS};
 ghost use Rattle.endpoint_loop.specs.declared.endpoint.poll.Turn.{Turn};
-ghost use Rattle.rpc_outside.specs.Faults.{HasCause};
+ghost use Rattle.memory_count.specs.Faults.{HasCause};
 
 use crate::aim::Aim;
 use crate::counts::Counts;
@@ -16,12 +16,12 @@ use crate::tally::Ending;
 use crate::watch::Watch;
 use client_core::Done;
 use endpoint_loop::{Endpoint, LinkFault};
+use memory_count::{Memory, NoMemory};
 use packet_header::{FIRST_LIFE, Life};
 use rpc_base::{
-    Limits, MOST_CREDITS, NoMemory, NodeId, Peer, SessionNo, SessionState, USUAL_JOBS, USUAL_RING,
+    Limits, MOST_CREDITS, NodeId, Peer, SessionNo, SessionState, USUAL_JOBS, USUAL_RING,
 };
 use rpc_outside::{Link, PlainDuty, PlainService};
-use std::alloc::Global;
 use worker_crew::LocalWorkers;
 
 /// The nanoseconds of a microsecond, in which an endpoint counts, and of a second.
@@ -73,32 +73,36 @@ impl Drop for Caller {
     }
 }
 
-fn plain_node(alloc: Global, timeout: u64) -> Result<PlainNode, NoMemory>
+fn plain_node(memory: &mut Memory, timeout: u64) -> Result<PlainNode, NoMemory>
     requires some { 1 ≤ timeout }
     requires most { timeout ≤ 60000000 }
+    ensures cause { HasCause memory.old memory.new result }
 {
-    let workers = LocalWorkers::new(alloc, PlainDuty, USUAL_JOBS)?;
+    let workers = LocalWorkers::new(memory, PlainDuty, USUAL_JOBS)?;
     let limits = Limits {
         ring: USUAL_RING,
         jobs: USUAL_JOBS,
         timeout,
     };
     let (life, service) = (Life(FIRST_LIFE), PlainService::new());
-    Endpoint::new(alloc, NodeId(0), life, limits, service, workers).map_err(|_back| NoMemory)
+    match Endpoint::new(memory, NodeId(0), life, limits, service, workers) {
+        Ok(endpoint) => Ok(endpoint),
+        Err(_workers) => Err(NoMemory),
+    }
 }
 
 impl Caller {
-    /// An endpoint without sessions, and all buffers of its calls. `NoMemory` comes only where
-    /// there is none.
-    pub fn new(alloc: Global, aim: Aim) -> Result<Caller, NoMemory>
+    /// An endpoint without sessions, and all buffers of its calls.
+    pub fn new(memory: &mut Memory, aim: Aim) -> Result<Caller, NoMemory>
         requires { IsInRange aim }
         ensures aim { IfOk result (λ c. c.aim ≡ aim) }
         ensures counts { IfOk result (λ c. CountsNone c.counts) }
+        ensures cause { HasCause memory.old memory.new result }
     {
-        let slots = Slots::new(alloc, &aim)?;
-        let ended = Ended::new(alloc, aim.pending)?;
-        let counts = Counts::new(alloc)?;
-        let endpoint = plain_node(alloc, aim.timeout)?;
+        let slots = Slots::new(memory, &aim)?;
+        let ended = Ended::new(memory, aim.pending)?;
+        let counts = Counts::new(memory)?;
+        let endpoint = plain_node(memory, aim.timeout)?;
         Ok(Caller {
             endpoint,
             aim,
@@ -112,7 +116,7 @@ impl Caller {
 
     /// Opens its sessions with the server at this peer, each with these credits. Whether each was
     /// opened.
-    pub fn connect(&mut self, peer: Peer, credits: u16) -> bool
+    pub fn connect(&mut self, memory: &mut Memory, peer: Peer, credits: u16) -> bool
         requires some { 1 ≤ credits }
         requires most { credits ≤ MOST_CREDITS }
         ensures aim { self.new.aim ≡ self.old.aim }
@@ -120,7 +124,9 @@ impl Caller {
     {
         let mut is_whole = true;
         'sessions: for _session in 0..self.aim.sessions {
-            let opened = self.endpoint.connect(peer, credits, 0, &mut self.watch);
+            let opened = self
+                .endpoint
+                .connect(memory, peer, credits, 0, &mut self.watch);
             is_whole = is_whole && opened.is_ok();
         }
         is_whole
@@ -221,7 +227,7 @@ impl Caller {
     }
 
     // Asks this call. It comes back where it is refused.
-    fn ask(&mut self, ready: Ready, since: u64) -> bool
+    fn ask(&mut self, memory: &mut Memory, ready: Ready, since: u64) -> bool
         requires { self.old.counts.tally.asked < MOST_CALLS }
         ensures aim { self.new.aim ≡ self.old.aim }
         ensures asks { MatchBool result (AsksOne self.old.counts self.new.counts)
@@ -231,6 +237,7 @@ impl Caller {
         let session = SessionNo((place % u32::from(self.aim.sessions.max(1))) as u16);
         let (tag, req_type) = (u64::from(place), self.aim.req_type);
         let asked = self.endpoint.ask(
+            memory,
             session,
             req_type,
             ready.req,
@@ -256,7 +263,7 @@ impl Caller {
     }
 
     // Asks a call, if one is to be asked at `now`.
-    fn ask_next(&mut self, now: u64) -> bool
+    fn ask_next(&mut self, memory: &mut Memory, now: u64) -> bool
         ensures aim { self.new.aim ≡ self.old.aim }
         ensures asks { MatchBool result (AsksOne self.old.counts self.new.counts)
             (self.new.counts ≡ self.old.counts) }
@@ -270,18 +277,18 @@ impl Caller {
         };
         let since = if pause > 0 { self.due } else { now };
         self.due = self.due.saturating_add(pause);
-        self.ask(ready, since)
+        self.ask(memory, ready, since)
     }
 
     /// Asks the calls that are to be asked at `now`, in nanoseconds: until so many are pending as
     /// may be, or, where they have set times, those whose time has come. A call's time counts from
     /// its set time, so that waiting for an older one isn't hidden.
-    pub fn ask_all(&mut self, now: u64)
+    pub fn ask_all(&mut self, memory: &mut Memory, now: u64)
         ensures aim { self.new.aim ≡ self.old.aim }
         ensures asks { AsksMore self.old.aim.pending self.old.counts self.new.counts }
     {
         'calls: for _call in 0..self.aim.pending {
-            if !self.ask_next(now) {
+            if !self.ask_next(memory, now) {
                 return;
             }
         }
@@ -309,16 +316,21 @@ impl Caller {
     {
         'calls: for _call in 0..self.aim.pending {
             let Some(done) = self.ended.take() else {
-                return self.ended.whole;
+                return self.ended.whole();
             };
             self.end(done, now);
         }
-        self.ended.whole
+        self.ended.whole()
     }
 
     /// Makes a turn of the endpoint at `now`, in nanoseconds, and tells whether it handled packets.
     /// `LinkFault` comes exactly where a fault of the link came.
-    pub fn turn<L: Link>(&mut self, now: u64, link: &mut L) -> Result<bool, LinkFault>
+    pub fn turn<L: Link>(
+        &mut self,
+        memory: &mut Memory,
+        now: u64,
+        link: &mut L,
+    ) -> Result<bool, LinkFault>
         ensures aim { self.new.aim ≡ self.old.aim }
         ensures counts { IfOk result (λ some. (turn : Turn)
             × CountsTurn turn self.old.counts self.new.counts
@@ -326,9 +338,13 @@ impl Caller {
         ensures fault { OnErr result (self.new.counts ≡ self.old.counts) }
         ensures cause { HasCause (L.faults link.old) (L.faults link.new) result }
     {
-        let turn = self
-            .endpoint
-            .turn(now / MICROSECOND, link, &mut self.ended, &mut self.watch)?;
+        let turn = self.endpoint.turn(
+            memory,
+            now / MICROSECOND,
+            link,
+            &mut self.ended,
+            &mut self.watch,
+        )?;
         self.counts.turn(&turn);
         Ok(turn.handled > 0)
     }

@@ -3,11 +3,11 @@ ghost use Rattle.std.specs.Prelude.{◌≡◌, ◌+◌, ◌<◌, IfOk};
 ghost use Rattle.call_load.specs.Counts.{AsksOne, BeginsAnew, CountsNone, CountsTurn, EndsOne};
 ghost use Rattle.call_load.specs.Counts.{TimesOne};
 ghost use Rattle.call_load.specs.declared.tally.TheConstants.{MOST_CALLS};
+ghost use Rattle.memory_count.specs.Faults.{HasCause};
 
 use crate::tally::{Ending, Tally, Turns};
 use endpoint_loop::Turn;
-use rpc_base::NoMemory;
-use std::alloc::Global;
+use memory_count::{Memory, NoMemory};
 use time_histogram::Histogram;
 
 /// What came of calls since they were counted anew.
@@ -32,12 +32,13 @@ impl Drop for Counts {
 }
 
 impl Counts {
-    /// Nothing was counted. `NoMemory` comes only where there is none for the histograms.
-    pub fn new(alloc: Global) -> Result<Counts, NoMemory>
-        ensures { IfOk result (λ c. CountsNone c) }
+    /// Nothing was counted.
+    pub fn new(memory: &mut Memory) -> Result<Counts, NoMemory>
+        ensures none { IfOk result (λ c. CountsNone c) }
+        ensures cause { HasCause memory.old memory.new result }
     {
-        let times = Histogram::new(alloc)?;
-        let newest = Histogram::new(alloc)?;
+        let times = Histogram::new(memory)?;
+        let newest = Histogram::new(memory)?;
         Ok(Counts {
             tally: Tally::new(),
             turns: Turns::none(),

@@ -1,24 +1,34 @@
 //! The calls that are over after a turn.
+ghost use Rattle.std.specs.Prelude.{◌≡◌, ◌==◌};
+ghost use Rattle.memory_count.specs.Faults.{HasCause};
+
 use client_core::Done;
 use endpoint_loop::Continuation;
-use rpc_base::NoMemory;
-use std::alloc::Global;
+use memory_count::{Memory, NoMemory};
 
 /// The calls that are over and weren't taken out yet.
 #[derive(Drop)]
 pub struct Ended {
     dones: Vec<Done>,
-    /// Whether there was room for each.
-    pub whole: bool,
+    memory: Memory,
 }
 
 impl Ended {
     /// None is over. It takes the memory for so many.
-    pub fn new(alloc: Global, most: u32) -> Result<Ended, NoMemory> {
+    pub fn new(memory: &mut Memory, most: u32) -> Result<Ended, NoMemory>
+        ensures cause { HasCause memory.old memory.new result }
+    {
         Ok(Ended {
-            dones: Vec::with_capacity(alloc, most as usize)?,
-            whole: true,
+            dones: memory.list(most as usize)?,
+            memory: Memory::new(memory.alloc()),
         })
+    }
+
+    /// Whether there was memory for each that was over.
+    pub fn whole(&self) -> bool
+        ensures { result ≡ (self.now.memory == 0) }
+    {
+        self.memory.refused() == 0
     }
 
     /// Takes one out.
@@ -29,8 +39,6 @@ impl Ended {
 
 impl Continuation for Ended {
     fn done(&mut self, done: Done) {
-        if self.dones.push(done).is_err() {
-            self.whole = false;
-        }
+        let _kept = self.memory.push(&mut self.dones, done);
     }
 }

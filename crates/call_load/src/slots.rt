@@ -1,8 +1,9 @@
 //! The places of pending calls, and their buffers, which are used again and again.
+ghost use Rattle.memory_count.specs.Faults.{HasCause};
+
 use crate::aim::Aim;
+use memory_count::{Memory, NoMemory};
 use message_buffer::MsgBuf;
-use rpc_base::NoMemory;
-use std::alloc::Global;
 
 /// A call that may be asked: the number of its place, and its two buffers.
 #[derive(Drop)]
@@ -30,24 +31,28 @@ fn fill(bytes: &mut [u8], aim: &Aim) {
     }
 }
 
-fn buffers(alloc: Global, aim: &Aim) -> Result<(MsgBuf, MsgBuf), NoMemory> {
+fn buffers(memory: &mut Memory, aim: &Aim) -> Result<(MsgBuf, MsgBuf), NoMemory>
+    ensures cause { HasCause memory.old memory.new result }
+{
     let len = aim.asked_bytes();
-    let mut req = MsgBuf::new(alloc, len)?;
+    let mut req = MsgBuf::new(memory, len)?;
     req.set_len(len);
     fill(req.whole_mut(), aim);
-    let resp = MsgBuf::new(alloc, aim.answer_bytes())?;
+    let resp = MsgBuf::new(memory, aim.answer_bytes())?;
     Ok((req, resp))
 }
 
 impl Slots {
     /// A place for each call that may be pending, with its buffers.
-    pub fn new(alloc: Global, aim: &Aim) -> Result<Slots, NoMemory> {
-        let mut ready = Vec::with_capacity(alloc, aim.pending as usize)?;
-        let mut since = Vec::new(alloc);
-        since.resize(aim.pending as usize, 0)?;
+    pub fn new(memory: &mut Memory, aim: &Aim) -> Result<Slots, NoMemory>
+        ensures cause { HasCause memory.old memory.new result }
+    {
+        let mut ready = memory.list(aim.pending as usize)?;
+        let mut since = Vec::new(memory.alloc());
+        memory.of(since.resize(aim.pending as usize, 0))?;
         'places: for place in 0..aim.pending {
-            let (req, resp) = buffers(alloc, aim)?;
-            ready.push(Ready { place, req, resp })?;
+            let (req, resp) = buffers(memory, aim)?;
+            memory.push(&mut ready, Ready { place, req, resp })?;
         }
         Ok(Slots { ready, since })
     }

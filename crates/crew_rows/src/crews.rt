@@ -4,8 +4,8 @@ ghost use Rattle.worker_crew.specs.Crews.{SameHands};
 
 use crate::jobs::{Told, no_memory, reverse_of, text_of};
 use crate::step::Step;
+use memory_count::Memory;
 use rpc_outside::PlainDuty;
-use std::alloc::Global;
 use std::sync::{Arc, Wait};
 use std::{io, thread};
 use worker_board::MOST_PLACES;
@@ -32,8 +32,8 @@ fn take_one<R: Wait>(crew: &mut PlainCrew<R>) -> Option<Finished>
 
 // Gives a job of the first two letters of a text.
 fn give<R: Wait>(
+    memory: &mut Memory,
     rt: &impl Print,
-    alloc: Global,
     crew: &mut PlainCrew<R>,
     text: &str,
 ) -> io::Result<()>
@@ -43,7 +43,7 @@ fn give<R: Wait>(
     if bytes.len() != 2 {
         return println!(rt; "no job");
     }
-    let Ok(job) = reverse_of(alloc, [bytes[0], bytes[1]]) else {
+    let Ok(job) = reverse_of(memory, [bytes[0], bytes[1]]) else {
         return Err(no_memory());
     };
     match crew.give(job) {
@@ -54,15 +54,15 @@ fn give<R: Wait>(
 
 /// Tells what a call answers.
 pub fn call<R: Wait>(
+    memory: &mut Memory,
     rt: &impl Print,
-    alloc: Global,
     crew: &mut PlainCrew<R>,
     step: Step,
 ) -> io::Result<()>
     ensures { SameHands crew.old crew.new }
 {
     match step.name {
-        "give" => give(rt, alloc, crew, step.word(0)),
+        "give" => give(memory, rt, crew, step.word(0)),
         "full" => println!(rt; "{}", crew.full()),
         "take" => {
             let finished = crew.take();
@@ -78,8 +78,8 @@ pub fn call<R: Wait>(
 
 // Tells what each call answers.
 fn call_all<R: Wait>(
+    memory: &mut Memory,
     rt: &impl Print,
-    alloc: Global,
     crew: &mut PlainCrew<R>,
     calls: &str,
 ) -> io::Result<()>
@@ -87,7 +87,7 @@ fn call_all<R: Wait>(
 {
     for line in calls.lines() {
         print!(rt; "  {line}: ")?;
-        call(rt, alloc, crew, Step::read(line))?;
+        call(memory, rt, crew, Step::read(line))?;
     }
     Ok(())
 }
@@ -106,8 +106,8 @@ pub fn tell_left(rt: &impl Print, left: &mut Leftover<PlainDuty>) -> io::Result<
 
 /// Makes a crew, calls it, and stops it.
 pub fn drive<R: Print + Wait + Copy, P: Spawner<Hand<PlainDuty>>>(
+    memory: &mut Memory,
     rt: R,
-    alloc: Global,
     jobs: u32,
     hands: u8,
     spawner: &mut P,
@@ -118,11 +118,11 @@ pub fn drive<R: Print + Wait + Copy, P: Spawner<Hand<PlainDuty>>>(
     if jobs == 0 || MOST_PLACES < jobs || MOST_HANDS < hands {
         return println!(rt; "no such crew");
     }
-    let duty = Arc::new(alloc, PlainDuty)?;
-    let Ok(mut crew) = Crew::start(rt, alloc, duty, jobs, hands, spawner) else {
+    let duty = Arc::new(memory.alloc(), PlainDuty)?;
+    let Ok(mut crew) = Crew::start(memory, rt, duty, jobs, hands, spawner) else {
         return Err(no_memory());
     };
-    let told = call_all(&rt, alloc, &mut crew, calls);
+    let told = call_all(memory, &rt, &mut crew, calls);
     let mut left = crew.stop(spawner);
     tell_left(&rt, &mut left)?;
     told

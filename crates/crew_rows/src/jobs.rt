@@ -1,11 +1,12 @@
 //! Jobs of the plain duty, and how rows write them.
 ghost use Rattle.std.specs.Prelude.{IfOk};
+ghost use Rattle.memory_count.specs.Faults.{HasCause};
 ghost use Rattle.rpc_outside.specs.PlainAnswer.{background_answer};
 ghost use Rattle.worker_crew.specs.Jobs.{HasRoom};
 
+use memory_count::{Memory, NoMemory};
 use message_buffer::MsgBuf;
-use rpc_base::{NoMemory, RequestNo, SessionNo};
-use std::alloc::Global;
+use rpc_base::{RequestNo, SessionNo};
 use std::fmt::Display;
 use std::{fmt, io};
 use worker_board::Parcel;
@@ -20,14 +21,15 @@ pub fn no_memory() -> io::Error {
 }
 
 /// A job that turns two bytes round.
-pub fn reverse_of(alloc: Global, bytes: [u8; 2]) -> Result<Parcel, NoMemory>
-    ensures { IfOk result (HasRoom background_answer) }
+pub fn reverse_of(memory: &mut Memory, bytes: [u8; 2]) -> Result<Parcel, NoMemory>
+    ensures room { IfOk result (HasRoom background_answer) }
+    ensures cause { HasCause memory.old memory.new result }
 {
-    let mut ask = MsgBuf::new(alloc, 2)?;
+    let mut ask = MsgBuf::new(memory, 2)?;
     ask.set_len(2);
     ask.write(0, &bytes);
     let _asked = ask.bytes().len();
-    let mut out = MsgBuf::new(alloc, 2)?;
+    let mut out = MsgBuf::new(memory, 2)?;
     out.set_len(2);
     Ok(Parcel {
         session: SessionNo(0),

@@ -7,8 +7,8 @@ ghost use Rattle.worker_crew.specs.Spawning.{CameBack, Started};
 use crate::crews::{PlainCrew, call, tell_left};
 use crate::jobs::no_memory;
 use crate::step::Step;
+use memory_count::Memory;
 use rpc_outside::PlainDuty;
-use std::alloc::Global;
 use std::io;
 use std::sync::{Arc, Wait};
 use worker_board::MOST_PLACES;
@@ -61,8 +61,8 @@ fn step<R: Wait>(rt: &R, keeper: &mut Keeper) -> bool
 
 // Tells what each call answers, of the crew or of its hand.
 fn call_all<R: Print + Wait>(
+    memory: &mut Memory,
     rt: &R,
-    alloc: Global,
     crew: &mut PlainCrew<R>,
     keeper: &mut Keeper,
     calls: &str,
@@ -77,7 +77,7 @@ fn call_all<R: Print + Wait>(
             let worked = step(rt, keeper);
             println!(rt; "{worked}")?;
         } else {
-            call(rt, alloc, crew, Step::read(line))?;
+            call(memory, rt, crew, Step::read(line))?;
         }
     }
     Ok(())
@@ -85,23 +85,23 @@ fn call_all<R: Print + Wait>(
 
 /// Makes a crew, calls it and its hand, and stops it.
 pub fn drive<R: Print + Wait + Copy>(
+    memory: &mut Memory,
     rt: R,
-    alloc: Global,
     jobs: u32,
     calls: &str,
 ) -> io::Result<()> {
     if jobs == 0 || MOST_PLACES < jobs {
         return println!(rt; "no such crew");
     }
-    let duty = Arc::new(alloc, PlainDuty)?;
+    let duty = Arc::new(memory.alloc(), PlainDuty)?;
     let mut keeper = Keeper {
         hand: None,
         refused: 0,
     };
-    let Ok(mut crew) = Crew::start(rt, alloc, duty, jobs, 1, &mut keeper) else {
+    let Ok(mut crew) = Crew::start(memory, rt, duty, jobs, 1, &mut keeper) else {
         return Err(no_memory());
     };
-    let told = call_all(&rt, alloc, &mut crew, &mut keeper, calls);
+    let told = call_all(memory, &rt, &mut crew, &mut keeper, calls);
     let mut left = crew.stop(&mut keeper);
     tell_left(&rt, &mut left)?;
     told

@@ -23,8 +23,8 @@ mod kept;
 mod step;
 
 use crate::step::Step;
+use memory_count::Memory;
 use rpc_outside::PlainDuty;
-use std::alloc::Global;
 use std::io;
 use std::io::Read;
 use std::sync::Wait;
@@ -33,8 +33,8 @@ use worker_crew::{Child, Hand, Launcher, SerialSpawner, Spawner, ThreadSpawner, 
 // Makes the crew that the first line names, and calls it as the lines behind it say. Hands on threads
 // are started by the spawner.
 fn drive<R: Print + Wait + Copy, P: Spawner<Hand<PlainDuty>>>(
+    memory: &mut Memory,
     rt: R,
-    alloc: Global,
     first: &str,
     calls: &str,
     threads: &mut P,
@@ -46,19 +46,19 @@ fn drive<R: Print + Wait + Copy, P: Spawner<Hand<PlainDuty>>>(
     match made.name {
         "serial" => {
             let mut spawner = SerialSpawner::new();
-            crews::drive(rt, alloc, jobs, hands, &mut spawner, calls)?;
+            crews::drive(memory, rt, jobs, hands, &mut spawner, calls)?;
             println!(rt; "  {} hands refused", spawner.refused())
         }
-        "kept" => kept::drive(rt, alloc, jobs, calls),
-        "threads" => crews::drive(rt, alloc, jobs, hands, threads, calls),
+        "kept" => kept::drive(memory, rt, jobs, calls),
+        "threads" => crews::drive(memory, rt, jobs, hands, threads, calls),
         _ => println!(rt; "no such crew"),
     }
 }
 
 // A row: what it shows, the crew, and the calls.
 fn row<R: Print + Wait + Copy, P: Spawner<Hand<PlainDuty>>>(
+    memory: &mut Memory,
     rt: R,
-    alloc: Global,
     text: &str,
     threads: &mut P,
 ) -> io::Result<()>
@@ -68,11 +68,12 @@ fn row<R: Print + Wait + Copy, P: Spawner<Hand<PlainDuty>>>(
     let (first, calls) = rest.split_once('\n').unwrap_or((rest, ""));
     println!(rt; "# {title}")?;
     println!(rt; "{first}")?;
-    drive(rt, alloc, first, calls, threads)
+    drive(memory, rt, first, calls, threads)
 }
 
 fn main(rt: HostRuntime) -> io::Result<()> {
     let alloc = rt.alloc();
+    let mut memory = Memory::new(alloc);
     let mut text = String::new(alloc);
     rt.stdin().read_to_string(&mut text)?;
     for text in text.as_str().split("# ").skip(1) {
@@ -83,7 +84,7 @@ fn main(rt: HostRuntime) -> io::Result<()> {
             { launch(rt, alloc, hand) },
         )?;
         let mut threads = ThreadSpawner::new(rt, alloc, launcher);
-        row(rt, alloc, text, &mut threads)?;
+        row(&mut memory, rt, text, &mut threads)?;
     }
     Ok(())
 }

@@ -7,7 +7,8 @@ ghost use Rattle.std.specs.Prelude.{◌≤◌};
 
 use command_line::{Task, WordsError, complaint, read_words};
 use drill_maker::{MOST_CALLS, drill_script};
-use std::alloc::{AllocError, Global};
+use memory_count::{Memory, NoMemory};
+use std::alloc::AllocError;
 use std::env;
 use std::io::{self, BufWriter, Write};
 use std::process::ExitCode;
@@ -27,13 +28,15 @@ fn words_of(rt: &(impl Env + AllocGlobal)) -> io::Result<Vec<String>> {
     Ok(words)
 }
 
-fn print_drill(rt: &HostRuntime, seed: u64, calls: u32) -> io::Result<()>
+fn no_memory(_none: NoMemory) -> io::Error {
+    io::Error::from(io::ErrorKind::OutOfMemory)
+}
+
+fn print_drill(rt: &HostRuntime, memory: &mut Memory, seed: u64, calls: u32) -> io::Result<()>
     requires some { 1 ≤ calls }
     requires most { calls ≤ MOST_CALLS }
 {
-    let Ok(script) = drill_script(rt.alloc(), seed, calls) else {
-        return Err(io::Error::from(io::ErrorKind::OutOfMemory));
-    };
+    let script = drill_script(memory, seed, calls).map_err(no_memory)?;
     let mut writer = BufWriter::new(rt.alloc(), rt.stdout())?;
     write!(writer, "{}", ScriptText(script.lines()))?;
     writer.flush()
@@ -41,14 +44,15 @@ fn print_drill(rt: &HostRuntime, seed: u64, calls: u32) -> io::Result<()>
 
 fn main(rt: HostRuntime) -> io::Result<ExitCode> {
     let words = words_of(&rt)?;
-    match read_words(rt.alloc(), words.as_slice()) {
+    let mut memory = Memory::new(rt.alloc());
+    match read_words(&mut memory, words.as_slice()) {
         Ok(Task::Drill { seed, calls }) => {
-            print_drill(&rt, seed, calls)?;
+            print_drill(&rt, &mut memory, seed, calls)?;
             Ok(ExitCode::SUCCESS)
         }
-        Err(WordsError::NoMemory) => Err(io::Error::from(io::ErrorKind::OutOfMemory)),
+        Err(WordsError::NoMemory) => Err(no_memory(NoMemory)),
         _ => {
-            let text = complaint(rt.alloc(), words.as_slice())?;
+            let text = complaint(&mut memory, words.as_slice()).map_err(no_memory)?;
             eprintln!(rt; "drill_script: {text}")?;
             Ok(ExitCode::FAILURE)
         }

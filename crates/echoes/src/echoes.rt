@@ -2,13 +2,15 @@
 //! costs its endpoints alone. There are no clock and no notes, and the link is a place for one
 //! datagram.
 ghost use Rattle.std.specs.Prelude.{◌<◌, None};
+ghost use Rattle.memory_count.specs.Faults.{HasCause};
 ghost use Rattle.rpc_base.specs.declared.limits.TheConstants.{SESSION_NUMBERS};
 
 use client_core::Done;
 use endpoint_loop::{Continuation, Endpoint};
+use memory_count::{Memory, NoMemory};
 use message_buffer::MsgBuf;
 use packet_header::{FIRST_LIFE, Life};
-use rpc_base::{Limits, NoMemory, NodeId, Peer, SessionNo, USUAL_JOBS};
+use rpc_base::{Limits, NodeId, Peer, SessionNo, USUAL_JOBS};
 use rpc_outside::{Failed, Got, Link, MOST_LINK_BYTES, NoRecord, PlainDuty, PlainService, Taken};
 use std::alloc::Global;
 use worker_crew::LocalWorkers;
@@ -124,21 +126,25 @@ impl Continuation for Buffers {
     }
 }
 
-fn make_buffers(alloc: Global) -> Result<Buffers, NoMemory> {
-    let mut req = MsgBuf::new(alloc, ROOM)?;
+fn make_buffers(memory: &mut Memory) -> Result<Buffers, NoMemory>
+    ensures cause { HasCause memory.old memory.new result }
+{
+    let mut req = MsgBuf::new(memory, ROOM)?;
     req.set_len(ASKED.len() as u32);
     req.write(0, ASKED);
-    let resp = MsgBuf::new(alloc, ROOM)?;
+    let resp = MsgBuf::new(memory, ROOM)?;
     Ok(Buffers {
         both: Some((req, resp)),
         echoed: 0,
     })
 }
 
-fn plain_node(alloc: Global, me: u8) -> Result<PlainNode, NoMemory> {
-    let workers = LocalWorkers::new(alloc, PlainDuty, USUAL_JOBS)?;
+fn plain_node(memory: &mut Memory, me: u8) -> Result<PlainNode, NoMemory>
+    ensures cause { HasCause memory.old memory.new result }
+{
+    let workers = LocalWorkers::new(memory, PlainDuty, USUAL_JOBS)?;
     let (limits, service) = (Limits::usual(), PlainService::new());
-    match Endpoint::new(alloc, NodeId(me), FIRST, limits, service, workers) {
+    match Endpoint::new(memory, NodeId(me), FIRST, limits, service, workers) {
         Ok(endpoint) => Ok(endpoint),
         Err(_workers) => Err(NoMemory),
     }
@@ -146,6 +152,7 @@ fn plain_node(alloc: Global, me: u8) -> Result<PlainNode, NoMemory> {
 
 /// Two endpoints; the first asks the second.
 struct Pair {
+    memory: Memory,
     client: PlainNode,
     server: PlainNode,
     link: Newest,
@@ -154,11 +161,16 @@ struct Pair {
 
 impl Pair {
     fn new(alloc: Global) -> Result<Pair, NoMemory> {
+        let mut memory = Memory::new(alloc);
+        let client = plain_node(&mut memory, CLIENT)?;
+        let server = plain_node(&mut memory, SERVER)?;
+        let buffers = make_buffers(&mut memory)?;
         Ok(Pair {
-            client: plain_node(alloc, CLIENT)?,
-            server: plain_node(alloc, SERVER)?,
+            memory,
+            client,
+            server,
             link: Newest::new(),
-            buffers: make_buffers(alloc)?,
+            buffers,
         })
     }
 
@@ -167,13 +179,18 @@ impl Pair {
         requires { number < SESSION_NUMBERS }
     {
         let session = SessionNo(number);
-        self.client
-            .pair_client(Peer(SERVER), FIRST, session, 1, &mut NoRecord)
-            .is_ok()
-            && self
-                .server
-                .pair_server(Peer(CLIENT), FIRST, session, 1, &mut NoRecord)
-                .is_ok()
+        let memory = &mut self.memory;
+        let here = self
+            .client
+            .pair_client(memory, Peer(SERVER), FIRST, session, 1, &mut NoRecord);
+        if here.is_err() {
+            return false;
+        }
+        let memory = &mut self.memory;
+        let there = self
+            .server
+            .pair_server(memory, Peer(CLIENT), FIRST, session, 1, &mut NoRecord);
+        there.is_ok()
     }
 
     // Asks a call in the buffers of the last one.
@@ -181,21 +198,26 @@ impl Pair {
         let Some((req, resp)) = self.buffers.both.take() else {
             return false;
         };
+        let memory = &mut self.memory;
         self.client
-            .ask(SessionNo(0), ECHO, req, resp, 0, &mut NoRecord)
+            .ask(memory, SessionNo(0), ECHO, req, resp, 0, &mut NoRecord)
             .is_ok()
     }
 
     fn poll_client(&mut self) {
+        let memory = &mut self.memory;
+        let link = &mut self.link;
         let _turn = self
             .client
-            .poll(0, &mut self.link, &mut self.buffers, &mut NoRecord);
+            .poll(memory, 0, link, &mut self.buffers, &mut NoRecord);
     }
 
     fn poll_server(&mut self) {
+        let memory = &mut self.memory;
+        let link = &mut self.link;
         let _turn = self
             .server
-            .poll(0, &mut self.link, &mut self.buffers, &mut NoRecord);
+            .poll(memory, 0, link, &mut self.buffers, &mut NoRecord);
     }
 
     fn reach_server(&mut self) {
@@ -226,6 +248,7 @@ impl Pair {
     // Lets both endpoints go, and tells how many calls ended with what they asked.
     fn close(self) -> u32 {
         let Pair {
+            memory: _memory,
             client,
             server,
             link: _link,

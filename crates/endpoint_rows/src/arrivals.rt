@@ -1,9 +1,10 @@
 //! Datagrams that come over a link.
 ghost use Rattle.std.specs.Prelude.{IfOk};
+ghost use Rattle.memory_count.specs.Faults.{HasCause};
 ghost use Rattle.rpc_outside.specs.Linking.{AreCarried};
 
-use rpc_base::{HEAD_BYTES, NoMemory, Octets, Peer};
-use std::alloc::Global;
+use memory_count::{Memory, NoMemory};
+use rpc_base::{HEAD_BYTES, Octets, Peer};
 
 // A request to connect, of this session with one credit.
 fn request(session: u8) -> [u8; HEAD_BYTES] {
@@ -13,13 +14,15 @@ fn request(session: u8) -> [u8; HEAD_BYTES] {
 }
 
 /// So many sessions of peer 1 request to connect.
-pub fn requests(alloc: Global, count: u8) -> Result<Vec<(Peer, Octets)>, NoMemory>
+pub fn requests(memory: &mut Memory, count: u8) -> Result<Vec<(Peer, Octets)>, NoMemory>
     ensures carried { IfOk result (λ arrivals. AreCarried arrivals.items) }
+    ensures cause { HasCause memory.old memory.new result }
 {
-    let mut arrivals = Vec::new(alloc);
+    let mut arrivals = Vec::new(memory.alloc());
     'sessions: for session in 0..count {
-        let bytes = Octets::copy(alloc, &request(session))?;
-        arrivals.push((Peer(1), bytes))?;
+        let copied = Octets::copy(memory.alloc(), &request(session));
+        let bytes = memory.of(copied)?;
+        memory.push(&mut arrivals, (Peer(1), bytes))?;
     }
     Ok(arrivals)
 }

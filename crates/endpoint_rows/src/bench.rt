@@ -8,6 +8,7 @@ use crate::kept::Kept;
 use crate::step::Step;
 use crate::told;
 use endpoint_loop::{AskError, Delivery, Endpoint, LinkFault, Turn};
+use memory_count::Memory;
 use message_buffer::MsgBuf;
 use packet_header::{FIRST_LIFE, Life};
 use rpc_base::{
@@ -16,7 +17,6 @@ use rpc_base::{
 };
 use rpc_outside::{MemLink, MemRecorder, Service};
 use session_mgmt::ConnectError;
-use std::alloc::Global;
 use worker_crew::Workers;
 
 /// The limits of each endpoint: a ring of 32 places, and what is usual else.
@@ -37,7 +37,7 @@ const REFUSED_ROOM: u32 = 16;
 
 /// An endpoint at work.
 pub struct Bench<V: Service, W: Workers> {
-    alloc: Global,
+    memory: Memory,
     endpoint: Endpoint<V, W>,
     // The other node.
     peer: Peer,
@@ -50,7 +50,7 @@ pub struct Bench<V: Service, W: Workers> {
 impl<V: Service + Drop, W: Workers + Drop> Drop for Bench<V, W> {
     fn drop(self) {
         let Bench {
-            alloc: _,
+            memory: _memory,
             endpoint: _endpoint,
             peer: _,
             link: _link,
@@ -73,9 +73,15 @@ fn expect_credits(credits: u16) -> Result<(), Differs>
 
 impl<V: Service, W: Workers> Bench<V, W> {
     /// One over this link, which noted nothing so far. Its peer is the other node.
-    pub fn over(alloc: Global, endpoint: Endpoint<V, W>, peer: Peer, link: MemLink) -> Bench<V, W> {
+    pub fn over(
+        memory: Memory,
+        endpoint: Endpoint<V, W>,
+        peer: Peer,
+        link: MemLink,
+    ) -> Bench<V, W> {
+        let alloc = memory.alloc();
         Bench {
-            alloc,
+            memory,
             endpoint,
             peer,
             link,
@@ -91,6 +97,7 @@ impl<V: Service, W: Workers> Bench<V, W> {
     ) -> Result<(), Differs> {
         expect_credits(credits)?;
         let made = self.endpoint.pair_client(
+            &mut self.memory,
             self.peer,
             FIRST,
             SessionNo(0),
@@ -107,6 +114,7 @@ impl<V: Service, W: Workers> Bench<V, W> {
     ) -> Result<(), Differs> {
         expect_credits(credits)?;
         let made = self.endpoint.pair_server(
+            &mut self.memory,
             self.peer,
             FIRST,
             SessionNo(0),
@@ -128,21 +136,25 @@ impl<V: Service, W: Workers> Bench<V, W> {
 
     /// Asks a call of these bytes on session 0, which has to accept it.
     pub fn call(&mut self, req_type: u8, bytes: &[u8], room: u32, tag: u64) -> Result<(), Differs> {
-        let req = asking(self.alloc, bytes)?;
-        let resp = zeros(self.alloc, room)?;
-        let asked = self
-            .endpoint
-            .ask(SessionNo(0), req_type, req, resp, tag, &mut self.recorder);
+        let req = asking(&mut self.memory, bytes)?;
+        let resp = zeros(&mut self.memory, room)?;
+        let asked = self.endpoint.ask(
+            &mut self.memory,
+            SessionNo(0),
+            req_type,
+            req,
+            resp,
+            tag,
+            &mut self.recorder,
+        );
         expect(asked.is_ok(), Differs::Answer)
     }
 
     // The call of so many zeros is refused so, and both buffers come back.
     fn refuse(&mut self, len: u32, why: AskError) -> Result<(), Differs> {
-        let req = zeros(self.alloc, len)?;
-        let resp = MsgBuf::new(self.alloc, REFUSED_ROOM)?;
-        let asked = self
-            .endpoint
-            .ask(NEVER, 1, req, resp, 0, &mut self.recorder);
+        let req = zeros(&mut self.memory, len)?;
+        let resp = MsgBuf::new(&mut self.memory, REFUSED_ROOM)?;
+        let asked = self.endpoint.ask(&mut self.memory, NEVER, 1, req, resp, 0, &mut self.recorder);
         let Err(refused) = asked else {
             return Err(Differs::Answer);
         };
@@ -158,17 +170,25 @@ impl<V: Service, W: Workers> Bench<V, W> {
 
     /// Polls the endpoint at the moment 0.
     pub fn poll(&mut self, answer: Result<Turn, LinkFault>) -> Result<(), Differs> {
-        let polled = self
-            .endpoint
-            .poll(0, &mut self.link, &mut self.kept, &mut self.recorder);
+        let polled = self.endpoint.poll(
+            &mut self.memory,
+            0,
+            &mut self.link,
+            &mut self.kept,
+            &mut self.recorder,
+        );
         expect(polled == answer, Differs::Turn)
     }
 
     // Takes a turn at the moment 0.
     fn turn(&mut self, answer: Result<Turn, LinkFault>) -> Result<(), Differs> {
-        let turned = self
-            .endpoint
-            .turn(0, &mut self.link, &mut self.kept, &mut self.recorder);
+        let turned = self.endpoint.turn(
+            &mut self.memory,
+            0,
+            &mut self.link,
+            &mut self.kept,
+            &mut self.recorder,
+        );
         expect(turned == answer, Differs::Turn)
     }
 
@@ -224,7 +244,7 @@ impl<V: Service, W: Workers> Bench<V, W> {
             Step::PollFails => self.poll(Err(LinkFault)),
             Step::Turn { handled, sent } => self.turn(did(*handled, *sent)),
             Step::TurnFails => self.turn(Err(LinkFault)),
-            Step::Facts(lines) => told::expect_facts(self.alloc, &self.recorder, *lines),
+            Step::Facts(lines) => { told::expect_facts(&mut self.memory, &self.recorder, *lines) },
             Step::Quiet => expect(self.endpoint.quiet(), Differs::State),
             Step::Counts { ran, overflowed } => self.expect_counts(*ran, *overflowed),
             Step::Sent { n, bytes } => self.expect_sent(*n, *bytes),

@@ -1,6 +1,5 @@
 //! What differs from what a row expects.
-use rpc_base::NoMemory;
-use std::alloc::{AllocError, AllocFailed};
+use memory_count::NoMemory;
 use std::fmt;
 
 /// The first thing of a row that isn't as expected.
@@ -44,18 +43,6 @@ impl fmt::Display for Differs {
 
 impl From<NoMemory> for Differs {
     fn from(_error: NoMemory) -> Self {
-        Differs::Memory
-    }
-}
-
-impl From<AllocError> for Differs {
-    fn from(_error: AllocError) -> Self {
-        Differs::Memory
-    }
-}
-
-impl<T: Drop> From<AllocFailed<T>> for Differs {
-    fn from(_error: AllocFailed<T>) -> Self {
         Differs::Memory
     }
 }

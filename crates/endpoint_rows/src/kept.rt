@@ -1,21 +1,21 @@
 //! A continuation that keeps what it is given.
 use client_core::Done;
 use endpoint_loop::Continuation;
+use memory_count::Memory;
 use std::alloc::Global;
 
 /// The calls that ended, with their buffers.
 #[derive(Drop)]
 pub struct Kept {
     dones: Vec<Done>,
-    /// Whether there was memory for each.
-    whole: bool,
+    memory: Memory,
 }
 
 impl Kept {
     pub fn new(alloc: Global) -> Kept {
         Kept {
             dones: Vec::new(alloc),
-            whole: true,
+            memory: Memory::new(alloc),
         }
     }
 
@@ -24,9 +24,9 @@ impl Kept {
         self.dones.get(i)
     }
 
-    /// How many calls ended; `None` where one of them wasn't kept.
+    /// How many calls ended; `None` where there was no memory for one of them.
     pub fn count(&self) -> Option<usize> {
-        if self.whole {
+        if self.memory.refused() == 0 {
             Some(self.dones.len())
         } else {
             None
@@ -36,8 +36,6 @@ impl Kept {
 
 impl Continuation for Kept {
     fn done(&mut self, done: Done) {
-        if self.dones.push(done).is_err() {
-            self.whole = false;
-        }
+        let _kept = self.memory.push(&mut self.dones, done);
     }
 }

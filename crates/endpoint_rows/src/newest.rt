@@ -1,12 +1,13 @@
 //! Workers that finish jobs in another order than they were given.
 ghost use Rattle.std.specs.Prelude.{◌≡◌, [], IfOk, None};
 ghost use Rattle.endpoint_rows.specs.Newest.{out_of};
+ghost use Rattle.memory_count.specs.Faults.{HasCause};
 ghost use Rattle.rpc_outside.specs.PlainAnswer.{background_answer};
 ghost use Rattle.worker_crew.specs.Jobs.{HasRoom, IsAnswered, job_of};
 
-use rpc_base::{MOST_GIVEN, NoMemory};
+use memory_count::{Memory, NoMemory};
+use rpc_base::MOST_GIVEN;
 use rpc_outside::{Duty, PlainDuty};
-use std::alloc::Global;
 use std::collections::VecDeque;
 use std::marker::Model;
 use worker_board::Parcel;
@@ -42,10 +43,11 @@ impl Model for NewestFirst {
 
 impl NewestFirst {
     /// Workers to which at most so many jobs may be given and not taken.
-    pub fn new(alloc: Global, limit: u32) -> Result<NewestFirst, NoMemory>
-        ensures { IfOk result (λ w. w ≡ record { limit = limit; given = 0; worked = [] }) }
+    pub fn new(memory: &mut Memory, limit: u32) -> Result<NewestFirst, NoMemory>
+        ensures made { IfOk result (λ w. w ≡ record { limit = limit; given = 0; worked = [] }) }
+        ensures cause { HasCause memory.old memory.new result }
     {
-        let worked = VecDeque::with_capacity(alloc, limit as usize)?;
+        let worked = memory.queue(limit as usize)?;
         Ok(NewestFirst {
             limit,
             given: 0,

@@ -4,11 +4,12 @@ use crate::bench::did;
 use crate::differs::Differs;
 use crate::joint::take_both;
 use crate::joint_tables::{COUNTED, NEWEST_FIRST, TAGGED};
-use crate::links::{busy_link, failing_link, giving_link, sound_link};
-use crate::makers::{client_over, counting_server, newest_server, plain_server};
+use crate::links::{busy_link, failing_link, giving_link};
+use crate::makers::{client_over, counting_server, newest_server, plain_client, plain_server};
 use crate::step::Step;
 use crate::tables::{ASK_FOUR, FAULT, FOUR_SENT, MOST_ARRIVALS, RECEIVING_FAULT};
 use endpoint_loop::{LinkFault, Turn};
+use memory_count::Memory;
 use rpc_outside::MemLink;
 use std::alloc::Global;
 
@@ -18,41 +19,49 @@ const ARRIVALS: u8 = 65;
 /// How many calls are asked at once.
 const CALLS: u32 = 4;
 
-fn client_row(alloc: Global, link: MemLink, steps: &[Step]) -> Result<(), Differs> {
-    let mut client = client_over(alloc, link)?;
+fn client_row(memory: Memory, link: MemLink, steps: &[Step]) -> Result<(), Differs> {
+    let mut client = client_over(memory, link)?;
     client.take_all(steps)
 }
 
 /// A client takes these steps over a link that takes all.
 pub fn plain(alloc: Global, steps: &[Step]) -> Result<(), Differs> {
-    client_row(alloc, sound_link(alloc)?, steps)
+    let mut client = plain_client(alloc)?;
+    client.take_all(steps)
 }
 
 /// The first call of a link fails.
 pub fn fault(alloc: Global) -> Result<(), Differs> {
-    client_row(alloc, failing_link(alloc, 0)?, &FAULT)
+    let mut memory = Memory::new(alloc);
+    let link = failing_link(&mut memory, 0)?;
+    client_row(memory, link, &FAULT)
 }
 
 /// More datagrams come than a turn receives.
 pub fn turns(alloc: Global) -> Result<(), Differs> {
-    let link = giving_link(alloc, requests(alloc, ARRIVALS)?, Vec::new(alloc))?;
-    client_row(alloc, link, &MOST_ARRIVALS)
+    let mut memory = Memory::new(alloc);
+    let arrivals = requests(&mut memory, ARRIVALS)?;
+    let link = giving_link(&mut memory, arrivals, Vec::new(alloc))?;
+    client_row(memory, link, &MOST_ARRIVALS)
 }
 
 /// The first call of a link, which receives, fails.
 pub fn receiving_fault(alloc: Global) -> Result<(), Differs> {
-    let link = giving_link(alloc, requests(alloc, 1)?, vec![in alloc; 0]?)?;
-    client_row(alloc, link, &RECEIVING_FAULT)
+    let mut memory = Memory::new(alloc);
+    let arrivals = requests(&mut memory, 1)?;
+    let first = memory.copied(&[0u64])?;
+    let link = giving_link(&mut memory, arrivals, first)?;
+    client_row(memory, link, &RECEIVING_FAULT)
 }
 
 // Four calls are asked; the first poll answers so, and leaves all but so many to the second one.
 fn send_four(
-    alloc: Global,
+    memory: Memory,
     link: MemLink,
     first: Result<Turn, LinkFault>,
     sent: u32,
 ) -> Result<(), Differs> {
-    let mut client = client_over(alloc, link)?;
+    let mut client = client_over(memory, link)?;
     client.take_all(&ASK_FOUR)?;
     client.poll(first)?;
     client.poll(did(0, CALLS.saturating_sub(sent)))?;
@@ -68,7 +77,9 @@ pub fn busy(alloc: Global) -> Result<(), Differs> {
             sent,
             busy: send < CALLS,
         };
-        send_four(alloc, busy_link(alloc, u64::from(send))?, Ok(first), sent)?;
+        let mut memory = Memory::new(alloc);
+        let link = busy_link(&mut memory, u64::from(send))?;
+        send_four(memory, link, Ok(first), sent)?;
     }
     Ok(())
 }
@@ -76,11 +87,12 @@ pub fn busy(alloc: Global) -> Result<(), Differs> {
 /// A fault stops the sending too, and the poll answers it.
 pub fn failing(alloc: Global) -> Result<(), Differs> {
     for call in 0..8u32 {
-        let link = failing_link(alloc, u64::from(call))?;
+        let mut memory = Memory::new(alloc);
+        let link = failing_link(&mut memory, u64::from(call))?;
         if call < CALLS {
-            send_four(alloc, link, Err(LinkFault), call)?;
+            send_four(memory, link, Err(LinkFault), call)?;
         } else {
-            send_four(alloc, link, did(0, CALLS), CALLS)?;
+            send_four(memory, link, did(0, CALLS), CALLS)?;
         }
     }
     Ok(())
@@ -88,21 +100,21 @@ pub fn failing(alloc: Global) -> Result<(), Differs> {
 
 /// A service with a state of its own.
 pub fn counted(alloc: Global) -> Result<(), Differs> {
-    let mut client = client_over(alloc, sound_link(alloc)?)?;
+    let mut client = plain_client(alloc)?;
     let mut server = counting_server(alloc)?;
     take_both(&mut client, &mut server, &COUNTED)
 }
 
 /// What was handed in with a call comes back with its end.
 pub fn tagged(alloc: Global) -> Result<(), Differs> {
-    let mut client = client_over(alloc, sound_link(alloc)?)?;
+    let mut client = plain_client(alloc)?;
     let mut server = plain_server(alloc)?;
     take_both(&mut client, &mut server, &TAGGED)
 }
 
 /// Workers that finish jobs in another order than they were given.
 pub fn newest_first(alloc: Global) -> Result<(), Differs> {
-    let mut client = client_over(alloc, sound_link(alloc)?)?;
+    let mut client = plain_client(alloc)?;
     let mut server = newest_server(alloc)?;
     take_both(&mut client, &mut server, &NEWEST_FIRST)
 }

@@ -1,8 +1,8 @@
 //! Facts, compared as the lines of a report.
 use crate::differs::Differs;
+use memory_count::Memory;
 use report_text::print_facts;
 use rpc_outside::{MemRecorder, MemSink};
-use std::alloc::Global;
 
 /// More bytes than the report of a row has.
 const ROOM: u32 = 1 << 16;
@@ -15,8 +15,9 @@ fn between(report: &str) -> Option<&str> {
 }
 
 // The lines of the facts, as a report has them.
-fn lines_of(alloc: Global, recorder: &MemRecorder) -> Result<String, Differs> {
-    let mut sink = MemSink::new(alloc, ROOM, Vec::new(alloc))?;
+fn lines_of(memory: &mut Memory, recorder: &MemRecorder) -> Result<String, Differs> {
+    let none = Vec::new(memory.alloc());
+    let mut sink = MemSink::new(memory, ROOM, none)?;
     if print_facts(recorder.facts(), &mut sink).is_err() || !recorder.whole() {
         return Err(Differs::Memory);
     }
@@ -24,12 +25,17 @@ fn lines_of(alloc: Global, recorder: &MemRecorder) -> Result<String, Differs> {
         return Err(Differs::Memory);
     };
     let lines = between(report).unwrap_or("");
-    Ok(String::from_str(alloc, lines)?)
+    let copied = String::from_str(memory.alloc(), lines);
+    Ok(memory.of(copied)?)
 }
 
 /// Goes on where the facts so far are those of these lines.
-pub fn expect_facts(alloc: Global, recorder: &MemRecorder, wanted: &str) -> Result<(), Differs> {
-    let lines = lines_of(alloc, recorder)?;
+pub fn expect_facts(
+    memory: &mut Memory,
+    recorder: &MemRecorder,
+    wanted: &str,
+) -> Result<(), Differs> {
+    let lines = lines_of(memory, recorder)?;
     if lines.as_str() == wanted {
         return Ok(());
     }

@@ -5,6 +5,7 @@ use crate::step::Step;
 use crate::stopped::Stopped;
 use client_core::Done;
 use endpoint_loop::{AskError, Continuation, Endpoint};
+use memory_count::Memory;
 use message_buffer::{MOST_CAPACITY, MsgBuf};
 use packet_header::{FIRST_LIFE, Life};
 use report_text::print_facts;
@@ -14,7 +15,6 @@ use rpc_base::{
 };
 use rpc_outside::{MemLink, MemRecorder, MemSink, PlainDuty, PlainService, Recorder};
 use session_mgmt::ConnectError;
-use std::alloc::Global;
 use worker_crew::LocalWorkers;
 
 /// The number of the endpoint's node.
@@ -47,7 +47,6 @@ impl Continuation for Forgets {
 
 /// The endpoint, with the link and the recorder that it works with.
 pub struct Bench {
-    alloc: Global,
     endpoint: Endpoint<PlainService, LocalWorkers<PlainDuty>>,
     link: MemLink,
     recorder: MemRecorder,
@@ -57,7 +56,6 @@ pub struct Bench {
 impl Drop for Bench {
     fn drop(self) {
         let Bench {
-            alloc: _,
             endpoint: _endpoint,
             link: _link,
             recorder: _recorder,
@@ -93,16 +91,16 @@ fn check_credits(credits: u16) -> Result<(), Stopped>
 
 impl Bench {
     /// A fresh endpoint.
-    pub fn new(alloc: Global) -> Result<Bench, Stopped> {
-        let workers = LocalWorkers::new(alloc, PlainDuty, USUAL_JOBS)?;
+    pub fn new(memory: &mut Memory) -> Result<Bench, Stopped> {
+        let workers = LocalWorkers::new(memory, PlainDuty, USUAL_JOBS)?;
         let service = PlainService::new();
-        let Ok(endpoint) = Endpoint::new(alloc, ME, LIFE, LIMITS, service, workers) else {
+        let Ok(endpoint) = Endpoint::new(memory, ME, LIFE, LIMITS, service, workers) else {
             return Err(Stopped::NoMemory);
         };
+        let alloc = memory.alloc();
         let none = Vec::new(alloc);
-        let link = MemLink::new(alloc, Vec::new(alloc), LINK_ROOM, none, Vec::new(alloc))?;
+        let link = MemLink::new(memory, Vec::new(alloc), LINK_ROOM, none, Vec::new(alloc))?;
         Ok(Bench {
-            alloc,
             endpoint,
             link,
             recorder: MemRecorder::new(alloc),
@@ -110,52 +108,55 @@ impl Bench {
     }
 
     /// Takes a step, and tells what it noted, in the lines of a report.
-    pub fn take(&mut self, step: Step) -> Result<String, Stopped> {
-        self.recorder = MemRecorder::new(self.alloc);
-        self.act(&step)?;
-        self.noted()
+    pub fn take(&mut self, memory: &mut Memory, step: Step) -> Result<String, Stopped> {
+        self.recorder = MemRecorder::new(memory.alloc());
+        self.act(memory, &step)?;
+        self.noted(memory)
     }
 
-    fn noted(&self) -> Result<String, Stopped> {
-        let mut sink = MemSink::new(self.alloc, SINK_ROOM, Vec::new(self.alloc))?;
+    fn noted(&self, memory: &mut Memory) -> Result<String, Stopped> {
+        let none = Vec::new(memory.alloc());
+        let mut sink = MemSink::new(memory, SINK_ROOM, none)?;
         if print_facts(self.recorder.facts(), &mut sink).is_err() || !self.recorder.whole() {
             return Err(Stopped::NoMemory);
         }
         let Ok(report) = str::from_utf8(sink.bytes()) else {
             return Err(Stopped::NoMemory);
         };
-        Ok(String::from_str(self.alloc, between(report).unwrap_or(""))?)
+        let copied = String::from_str(memory.alloc(), between(report).unwrap_or(""));
+        Ok(memory.of(copied)?)
     }
 
-    fn act(&mut self, step: &Step) -> Result<(), Stopped> {
+    fn act(&mut self, memory: &mut Memory, step: &Step) -> Result<(), Stopped> {
         match step {
             Step::Server {
                 peer,
                 life,
                 client,
                 credits,
-            } => self.pair_server(*peer, *life, *client, *credits),
+            } => self.pair_server(memory, *peer, *life, *client, *credits),
             Step::Client {
                 peer,
                 life,
                 server,
                 credits,
-            } => self.pair_client(*peer, *life, *server, *credits),
-            Step::Connect { peer, credits } => self.connect(*peer, *credits),
+            } => self.pair_client(memory, *peer, *life, *server, *credits),
+            Step::Connect { peer, credits } => self.connect(memory, *peer, *credits),
             Step::Ask {
                 session,
                 req_type,
                 bytes,
                 room,
-            } => self.ask(*session, *req_type, bytes.as_slice(), *room),
+            } => self.ask(memory, *session, *req_type, bytes.as_slice(), *room),
             Step::Deliver { peer, bytes } => self.deliver(*peer, bytes.as_slice()),
             Step::Work { job } => self.work(*job),
-            Step::Poll { now } => self.poll(*now),
+            Step::Poll { now } => self.poll(memory, *now),
         }
     }
 
     fn pair_server(
         &mut self,
+        memory: &mut Memory,
         peer: Peer,
         life: Life,
         client: SessionNo,
@@ -167,12 +168,13 @@ impl Bench {
         }
         unless_wanting(
             self.endpoint
-                .pair_server(peer, life, client, credits, &mut self.recorder),
+                .pair_server(memory, peer, life, client, credits, &mut self.recorder),
         )
     }
 
     fn pair_client(
         &mut self,
+        memory: &mut Memory,
         peer: Peer,
         life: Life,
         server: SessionNo,
@@ -184,17 +186,21 @@ impl Bench {
         }
         unless_wanting(
             self.endpoint
-                .pair_client(peer, life, server, credits, &mut self.recorder),
+                .pair_client(memory, peer, life, server, credits, &mut self.recorder),
         )
     }
 
-    fn connect(&mut self, peer: Peer, credits: u16) -> Result<(), Stopped> {
+    fn connect(&mut self, memory: &mut Memory, peer: Peer, credits: u16) -> Result<(), Stopped> {
         check_credits(credits)?;
-        unless_wanting(self.endpoint.connect(peer, credits, 0, &mut self.recorder))
+        unless_wanting(
+            self.endpoint
+                .connect(memory, peer, credits, 0, &mut self.recorder),
+        )
     }
 
     fn ask(
         &mut self,
+        memory: &mut Memory,
         session: SessionNo,
         req_type: u8,
         bytes: &[u8],
@@ -204,14 +210,11 @@ impl Bench {
             return Err(Stopped::NoStep);
         }
         let len = bytes.len() as u32;
-        let mut req = MsgBuf::new(self.alloc, len)?;
+        let mut req = MsgBuf::new(memory, len)?;
         req.set_len(len);
         req.write(0, bytes);
-        let resp = MsgBuf::new(self.alloc, room)?;
-        match self
-            .endpoint
-            .ask(session, req_type, req, resp, 0, &mut self.recorder)
-        {
+        let resp = MsgBuf::new(memory, room)?;
+        match self.endpoint.ask(memory, session, req_type, req, resp, 0, &mut self.recorder) {
             Err(refused) if refused.why == AskError::NoMemory => Err(Stopped::NoMemory),
             _ => Ok(()),
         }
@@ -231,10 +234,11 @@ impl Bench {
         Ok(())
     }
 
-    fn poll(&mut self, now: u64) -> Result<(), Stopped> {
+    fn poll(&mut self, memory: &mut Memory, now: u64) -> Result<(), Stopped> {
+        let rec = &mut self.recorder;
         match self
             .endpoint
-            .poll(now, &mut self.link, &mut Forgets, &mut self.recorder)
+            .poll(memory, now, &mut self.link, &mut Forgets, rec)
         {
             Ok(_turn) => Ok(()),
             Err(_fault) => Err(Stopped::NoRoom),

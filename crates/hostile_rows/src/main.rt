@@ -17,33 +17,36 @@ mod stopped;
 use crate::bench::Bench;
 use crate::step::read_step;
 use crate::stopped::Stopped;
-use std::alloc::Global;
+use memory_count::Memory;
 use std::io;
 use std::io::Read;
 
 // Takes the steps of a row, and prints what each noted.
-fn drive(rt: &impl Print, alloc: Global, bench: &mut Bench, steps: &str) -> io::Result<()> {
+fn drive(rt: &impl Print, memory: &mut Memory, bench: &mut Bench, steps: &str) -> io::Result<()> {
     for line in steps.lines() {
-        let Some(step) = read_step(alloc, line)? else {
+        let Ok(read) = read_step(memory, line) else {
+            return Err(Stopped::NoMemory.into());
+        };
+        let Some(step) = read else {
             println!(rt; "no step: {line}")?;
             return Err(Stopped::NoStep.into());
         };
-        let noted = bench.take(step)?;
+        let noted = bench.take(memory, step)?;
         print!(rt; "{noted}")?;
     }
     Ok(())
 }
 
-fn row(rt: &impl Print, alloc: Global, text: &str) -> io::Result<()> {
+fn row(rt: &impl Print, memory: &mut Memory, text: &str) -> io::Result<()> {
     let (name, steps) = text.split_once('\n').unwrap_or((text, ""));
     println!(rt; "# {name}")?;
-    let mut bench = Bench::new(alloc)?;
-    drive(rt, alloc, &mut bench, steps)
+    let mut bench = Bench::new(memory)?;
+    drive(rt, memory, &mut bench, steps)
 }
 
 fn main(rt: HostRuntime) -> io::Result<()> {
-    let alloc = rt.alloc();
-    let mut text = String::new(alloc);
+    let mut memory = Memory::new(rt.alloc());
+    let mut text = String::new(memory.alloc());
     rt.stdin().read_to_string(&mut text)?;
     if !text.as_str().starts_with("# ") {
         return Err(Stopped::NoRow.into());
@@ -51,7 +54,7 @@ fn main(rt: HostRuntime) -> io::Result<()> {
     let mut rows = text.as_str().split("# ");
     let _before = rows.next();
     for text in rows {
-        row(&rt, alloc, text)?;
+        row(&rt, &mut memory, text)?;
     }
     Ok(())
 }

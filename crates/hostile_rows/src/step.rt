@@ -1,8 +1,8 @@
 //! The steps of a row.
 use crate::spelling::bytes_of;
+use memory_count::{Memory, NoMemory};
 use packet_header::Life;
 use rpc_base::{Peer, SessionNo};
-use std::alloc::{AllocError, Global};
 
 /// What is done to the endpoint.
 #[derive(Drop)]
@@ -104,16 +104,16 @@ fn call_of(session: &str, req_type: &str, room: &str) -> Option<(SessionNo, u8, 
 }
 
 fn ask_of(
-    alloc: Global,
+    memory: &mut Memory,
     session: &str,
     req_type: &str,
     bytes: &str,
     room: &str,
-) -> Result<Option<Step>, AllocError> {
+) -> Result<Option<Step>, NoMemory> {
     let Some((session, req_type, room)) = call_of(session, req_type, room) else {
         return Ok(None);
     };
-    let Some(bytes) = bytes_of(alloc, bytes)? else {
+    let Some(bytes) = bytes_of(memory, bytes)? else {
         return Ok(None);
     };
     Ok(Some(Step::Ask {
@@ -124,11 +124,11 @@ fn ask_of(
     }))
 }
 
-fn deliver_of(alloc: Global, peer: &str, bytes: &str) -> Result<Option<Step>, AllocError> {
+fn deliver_of(memory: &mut Memory, peer: &str, bytes: &str) -> Result<Option<Step>, NoMemory> {
     let Some(peer) = peer_of(peer) else {
         return Ok(None);
     };
-    let Some(bytes) = bytes_of(alloc, bytes)? else {
+    let Some(bytes) = bytes_of(memory, bytes)? else {
         return Ok(None);
     };
     Ok(Some(Step::Deliver { peer, bytes }))
@@ -146,7 +146,7 @@ fn poll_of(now: &str) -> Option<Step> {
 
 /// The step that a line spells, if it does. Its numbers fit their types, and may still be outside
 /// what an endpoint takes.
-pub fn read_step(alloc: Global, line: &str) -> Result<Option<Step>, AllocError> {
+pub fn read_step(memory: &mut Memory, line: &str) -> Result<Option<Step>, NoMemory> {
     let mut words = line.split(' ');
     let name = words.next().unwrap_or("");
     let (first, second) = (words.next().unwrap_or(""), words.next().unwrap_or(""));
@@ -155,8 +155,8 @@ pub fn read_step(alloc: Global, line: &str) -> Result<Option<Step>, AllocError> 
         "server" => Ok(server_of(first, second, third, fourth)),
         "client" => Ok(client_of(first, second, third, fourth)),
         "connect" => Ok(connect_of(first, second)),
-        "ask" => ask_of(alloc, first, second, third, fourth),
-        "deliver" => deliver_of(alloc, first, second),
+        "ask" => ask_of(memory, first, second, third, fourth),
+        "deliver" => deliver_of(memory, first, second),
         "work" => Ok(work_of(first)),
         "poll" => Ok(poll_of(first)),
         _ => Ok(None),

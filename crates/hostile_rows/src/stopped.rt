@@ -1,6 +1,5 @@
 //! Why the rows end before their last step.
-use rpc_base::NoMemory;
-use std::alloc::{AllocError, AllocFailed};
+use memory_count::NoMemory;
 use std::io;
 
 /// What stops the program.
@@ -17,18 +16,6 @@ pub enum Stopped {
 
 impl From<NoMemory> for Stopped {
     fn from(_error: NoMemory) -> Self {
-        Stopped::NoMemory
-    }
-}
-
-impl From<AllocError> for Stopped {
-    fn from(_error: AllocError) -> Self {
-        Stopped::NoMemory
-    }
-}
-
-impl<T: Drop> From<AllocFailed<T>> for Stopped {
-    fn from(_error: AllocFailed<T>) -> Self {
         Stopped::NoMemory
     }
 }

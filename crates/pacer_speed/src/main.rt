@@ -3,10 +3,10 @@
 //! came out.
 #![tactic(auto)]
 
+use memory_count::{Memory, NoMemory};
 use pacing_wheel::Pacer;
 use packet_rings::Entry;
-use rpc_base::{NoMemory, Owner, Peer};
-use std::alloc::Global;
+use rpc_base::{Owner, Peer};
 use std::process::ExitCode;
 use std::rt::Env;
 use std::{env, io};
@@ -40,8 +40,8 @@ fn put(pacer: &mut Pacer, due: u64) {
 }
 
 // Puts so many in, then one for each that comes out, and counts these.
-fn turn_over(alloc: Global, waiting: u32, rounds: u32) -> Result<u32, NoMemory> {
-    let mut pacer = Pacer::new(alloc, waiting)?;
+fn turn_over(memory: &mut Memory, waiting: u32, rounds: u32) -> Result<u32, NoMemory> {
+    let mut pacer = Pacer::new(memory, waiting)?;
     for i in 0..waiting {
         put(&mut pacer, due(u64::from(i)));
     }
@@ -71,7 +71,8 @@ fn main(rt: HostRuntime) -> io::Result<ExitCode> {
         eprintln!(rt; "usage: pacer_speed WAITING ROUNDS")?;
         return Ok(ExitCode::from(USAGE));
     };
-    let Ok(released) = turn_over(rt.alloc(), waiting, rounds) else {
+    let mut memory = Memory::new(rt.alloc());
+    let Ok(released) = turn_over(&mut memory, waiting, rounds) else {
         eprintln!(rt; "pacer_speed: there is no memory")?;
         return Ok(ExitCode::from(UNDONE));
     };

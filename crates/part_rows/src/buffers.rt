@@ -3,25 +3,25 @@
 //! them.
 use crate::no_memory;
 use crate::step::Step;
+use memory_count::Memory;
 use message_buffer::{MOST_CAPACITY, MsgBuf};
 use packet_header::count;
 use rpc_base::HEAD_BYTES;
-use std::alloc::Global;
 use std::io;
 
 /// Makes a buffer of this capacity, and tells what each call of it answers.
-pub fn drive(rt: &impl Print, alloc: Global, capacity: u32, calls: &str) -> io::Result<()> {
+pub fn drive(rt: &impl Print, memory: &mut Memory, capacity: u32, calls: &str) -> io::Result<()> {
     if MOST_CAPACITY < capacity {
         return println!(rt; "no such buffer");
     }
-    let mut buffer = MsgBuf::new(alloc, capacity).map_err(no_memory)?;
-    call_all(rt, alloc, &mut buffer, calls)
+    let mut buffer = MsgBuf::new(memory, capacity).map_err(no_memory)?;
+    call_all(rt, memory, &mut buffer, calls)
 }
 
-fn call_all(rt: &impl Print, alloc: Global, buffer: &mut MsgBuf, calls: &str) -> io::Result<()> {
+fn call_all(rt: &impl Print, memory: &Memory, buffer: &mut MsgBuf, calls: &str) -> io::Result<()> {
     for line in calls.lines() {
         print!(rt; "  {line}: ")?;
-        call(rt, alloc, buffer, Step::read(line))?;
+        call(rt, memory, buffer, Step::read(line))?;
     }
     Ok(())
 }
@@ -34,8 +34,8 @@ fn set_len(rt: &impl Print, buffer: &mut MsgBuf, len: u32) -> io::Result<()> {
     println!(rt; "{} of {}", buffer.len(), buffer.capacity())
 }
 
-fn write(rt: &impl Print, alloc: Global, buffer: &mut MsgBuf, step: Step) -> io::Result<()> {
-    let Ok(bytes) = hex::decode(alloc, step.word(1)) else {
+fn write(rt: &impl Print, memory: &Memory, buffer: &mut MsgBuf, step: Step) -> io::Result<()> {
+    let Ok(bytes) = hex::decode(memory.alloc(), step.word(1)) else {
         return println!(rt; "no bytes");
     };
     let at = step.long(0);
@@ -56,7 +56,7 @@ fn stamp(rt: &impl Print, buffer: &mut MsgBuf, index: u32, byte: u8) -> io::Resu
 }
 
 // The head, the length of the part, and its last two bytes.
-fn tell_packet(rt: &impl Print, alloc: Global, buffer: &MsgBuf, index: u32) -> io::Result<()> {
+fn tell_packet(rt: &impl Print, memory: &Memory, buffer: &MsgBuf, index: u32) -> io::Result<()> {
     if count(buffer.len()) <= index {
         return println!(rt; "no such packet");
     }
@@ -64,21 +64,21 @@ fn tell_packet(rt: &impl Print, alloc: Global, buffer: &MsgBuf, index: u32) -> i
     let tail = part.get(part.len().saturating_sub(2)..).unwrap_or(part);
     println!(rt;
         "{} {} bytes to {tail:?}",
-        hex::encode(alloc, head)?,
+        hex::encode(memory.alloc(), head)?,
         part.len()
     )
 }
 
-fn call(rt: &impl Print, alloc: Global, buffer: &mut MsgBuf, step: Step) -> io::Result<()> {
+fn call(rt: &impl Print, memory: &Memory, buffer: &mut MsgBuf, step: Step) -> io::Result<()> {
     match step.name {
         "len" => set_len(rt, buffer, step.long(0)),
-        "write" => write(rt, alloc, buffer, step),
+        "write" => write(rt, memory, buffer, step),
         "fill" => {
             buffer.whole_mut().fill(step.byte(0));
             println!(rt; "filled")
         }
         "stamp" => stamp(rt, buffer, step.long(0), step.byte(1)),
-        "packet" => tell_packet(rt, alloc, buffer, step.long(0)),
+        "packet" => tell_packet(rt, memory, buffer, step.long(0)),
         "bytes" => println!(rt; "{:?}", buffer.bytes()),
         _ => println!(rt; "no such call"),
     }

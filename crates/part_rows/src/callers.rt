@@ -2,12 +2,12 @@
 use crate::no_memory;
 use crate::step::Step;
 use calling_sessions::CallingSessions;
-use std::alloc::Global;
+use memory_count::Memory;
 use std::io;
 
 /// Tells which session is next at each `next`, from no session on.
-pub fn drive(rt: &impl Print, alloc: Global, calls: &str) -> io::Result<()> {
-    let mut sessions = CallingSessions::new(alloc).map_err(no_memory)?;
+pub fn drive(rt: &impl Print, memory: &mut Memory, calls: &str) -> io::Result<()> {
+    let mut sessions = CallingSessions::new(memory).map_err(no_memory)?;
     call_all(rt, &mut sessions, calls)
 }
 

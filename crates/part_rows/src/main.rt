@@ -16,8 +16,7 @@ mod slots;
 mod step;
 
 use crate::step::Step;
-use rpc_base::NoMemory;
-use std::alloc::Global;
+use memory_count::{Memory, NoMemory};
 use std::io;
 use std::io::Read;
 
@@ -27,36 +26,37 @@ fn no_memory(_none: NoMemory) -> io::Error {
 }
 
 // Makes the part that the first line names, and calls it as the lines behind it say.
-fn drive(rt: &impl Print, alloc: Global, first: &str, calls: &str) -> io::Result<()> {
+fn drive(rt: &impl Print, memory: &mut Memory, first: &str, calls: &str) -> io::Result<()> {
     let made = Step::read(first);
     match made.name {
-        "buffer" => buffers::drive(rt, alloc, made.long(0), calls),
-        "receive" => receiving::drive(rt, alloc, made.long(0), calls),
-        "transmit" => sending::drive(rt, alloc, made.long(0), calls),
-        "pacer" => pacing::drive(rt, alloc, made.long(0), calls),
+        "buffer" => buffers::drive(rt, memory, made.long(0), calls),
+        "receive" => receiving::drive(rt, memory, made.long(0), calls),
+        "transmit" => sending::drive(rt, memory, made.long(0), calls),
+        "pacer" => pacing::drive(rt, memory, made.long(0), calls),
         "credits" => credits::drive(rt, made.short(0), calls),
-        "slots" => slots::drive(rt, alloc, calls),
-        "calling" => callers::drive(rt, alloc, calls),
-        "network" => network::drive(rt, alloc, calls),
-        "places" => places::tell(rt, alloc),
+        "slots" => slots::drive(rt, memory, calls),
+        "calling" => callers::drive(rt, memory, calls),
+        "network" => network::drive(rt, memory, calls),
+        "places" => places::tell(rt, memory),
         _ => println!(rt; "no such part"),
     }
 }
 
 // A row: what it shows, the part, and the calls.
-fn row(rt: &impl Print, alloc: Global, text: &str) -> io::Result<()> {
+fn row(rt: &impl Print, memory: &mut Memory, text: &str) -> io::Result<()> {
     let (title, rest) = text.split_once('\n').unwrap_or((text, ""));
     let (first, calls) = rest.split_once('\n').unwrap_or((rest, ""));
     println!(rt; "# {title}")?;
     println!(rt; "{first}")?;
-    drive(rt, alloc, first, calls)
+    drive(rt, memory, first, calls)
 }
 
 fn main(rt: HostRuntime) -> io::Result<()> {
     let mut text = String::new(rt.alloc());
     rt.stdin().read_to_string(&mut text)?;
+    let mut memory = Memory::new(rt.alloc());
     for text in text.as_str().split("# ").skip(1) {
-        row(&rt, rt.alloc(), text)?;
+        row(&rt, &mut memory, text)?;
     }
     Ok(())
 }

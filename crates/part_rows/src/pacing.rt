@@ -3,13 +3,13 @@
 use crate::no_memory;
 use crate::packets::{Told, owner_of, packet_of};
 use crate::step::Step;
+use memory_count::Memory;
 use pacing_wheel::{Paced, Pacer};
-use std::alloc::Global;
 use std::io;
 
 /// Makes a pacer of this size, and tells what each call of it answers.
-pub fn drive(rt: &impl Print, alloc: Global, size: u32, calls: &str) -> io::Result<()> {
-    let mut pacer = Pacer::new(alloc, size).map_err(no_memory)?;
+pub fn drive(rt: &impl Print, memory: &mut Memory, size: u32, calls: &str) -> io::Result<()> {
+    let mut pacer = Pacer::new(memory, size).map_err(no_memory)?;
     call_all(rt, &mut pacer, calls)
 }
 

@@ -5,9 +5,9 @@ ghost use Rattle.buffer_pool.specs.Pool.{IsFull, refs_of, spare_of};
 
 use crate::no_memory;
 use buffer_pool::{BufferPool, Held};
+use memory_count::Memory;
 use message_buffer::MsgBuf;
 use rpc_base::Place;
-use std::alloc::Global;
 use std::io;
 
 /// The capacity of the buffer in a place, in bytes.
@@ -69,8 +69,8 @@ fn lend_held(pool: &mut BufferPool, place: Place) -> Held
 }
 
 // A place that is held twice gives its buffer after two releases.
-fn hold_twice(rt: &impl Print, alloc: Global, pool: &mut BufferPool) -> io::Result<()> {
-    let buf = MsgBuf::new(alloc, CAPACITY).map_err(no_memory)?;
+fn hold_twice(rt: &impl Print, memory: &mut Memory, pool: &mut BufferPool) -> io::Result<()> {
+    let buf = MsgBuf::new(memory, CAPACITY).map_err(no_memory)?;
     if pool.spare() == 0 {
         return println!(rt; "  no place");
     }
@@ -95,8 +95,8 @@ fn hold_twice(rt: &impl Print, alloc: Global, pool: &mut BufferPool) -> io::Resu
 }
 
 // A lent place is full again once its buffer is restored.
-fn restore(rt: &impl Print, alloc: Global, pool: &mut BufferPool) -> io::Result<()> {
-    let buf = MsgBuf::new(alloc, CAPACITY).map_err(no_memory)?;
+fn restore(rt: &impl Print, memory: &mut Memory, pool: &mut BufferPool) -> io::Result<()> {
+    let buf = MsgBuf::new(memory, CAPACITY).map_err(no_memory)?;
     if pool.spare() == 0 {
         return println!(rt; "  no place");
     }
@@ -113,8 +113,8 @@ fn restore(rt: &impl Print, alloc: Global, pool: &mut BufferPool) -> io::Result<
 }
 
 // A lent place is empty once it is forgotten.
-fn forget(rt: &impl Print, alloc: Global, pool: &mut BufferPool) -> io::Result<()> {
-    let buf = MsgBuf::new(alloc, CAPACITY).map_err(no_memory)?;
+fn forget(rt: &impl Print, memory: &mut Memory, pool: &mut BufferPool) -> io::Result<()> {
+    let buf = MsgBuf::new(memory, CAPACITY).map_err(no_memory)?;
     if pool.spare() == 0 {
         return println!(rt; "  no place");
     }
@@ -128,8 +128,8 @@ fn forget(rt: &impl Print, alloc: Global, pool: &mut BufferPool) -> io::Result<(
 }
 
 // A buffer is written where it is.
-fn write_in_place(rt: &impl Print, alloc: Global, pool: &mut BufferPool) -> io::Result<()> {
-    let buf = MsgBuf::new(alloc, CAPACITY).map_err(no_memory)?;
+fn write_in_place(rt: &impl Print, memory: &mut Memory, pool: &mut BufferPool) -> io::Result<()> {
+    let buf = MsgBuf::new(memory, CAPACITY).map_err(no_memory)?;
     if pool.spare() == 0 {
         return println!(rt; "  no place");
     }
@@ -144,9 +144,9 @@ fn write_in_place(rt: &impl Print, alloc: Global, pool: &mut BufferPool) -> io::
 }
 
 // A buffer comes into the lowest empty place.
-fn fill(rt: &impl Print, alloc: Global, pool: &mut BufferPool) -> io::Result<()> {
-    let first = MsgBuf::new(alloc, 0).map_err(no_memory)?;
-    let second = MsgBuf::new(alloc, 0).map_err(no_memory)?;
+fn fill(rt: &impl Print, memory: &mut Memory, pool: &mut BufferPool) -> io::Result<()> {
+    let first = MsgBuf::new(memory, 0).map_err(no_memory)?;
+    let second = MsgBuf::new(memory, 0).map_err(no_memory)?;
     if pool.spare() == 0 {
         return println!(rt; "  no place");
     }
@@ -169,15 +169,15 @@ fn fill(rt: &impl Print, alloc: Global, pool: &mut BufferPool) -> io::Result<()>
 }
 
 /// Tells what each call answers, the groups one after another.
-pub fn tell(rt: &impl Print, alloc: Global) -> io::Result<()> {
-    let mut pool = BufferPool::new(alloc, PLACES).map_err(no_memory)?;
-    call_all(rt, alloc, &mut pool)
+pub fn tell(rt: &impl Print, memory: &mut Memory) -> io::Result<()> {
+    let mut pool = BufferPool::new(memory, PLACES).map_err(no_memory)?;
+    call_all(rt, memory, &mut pool)
 }
 
-fn call_all(rt: &impl Print, alloc: Global, pool: &mut BufferPool) -> io::Result<()> {
-    hold_twice(rt, alloc, pool)?;
-    restore(rt, alloc, pool)?;
-    forget(rt, alloc, pool)?;
-    write_in_place(rt, alloc, pool)?;
-    fill(rt, alloc, pool)
+fn call_all(rt: &impl Print, memory: &mut Memory, pool: &mut BufferPool) -> io::Result<()> {
+    hold_twice(rt, memory, pool)?;
+    restore(rt, memory, pool)?;
+    forget(rt, memory, pool)?;
+    write_in_place(rt, memory, pool)?;
+    fill(rt, memory, pool)
 }

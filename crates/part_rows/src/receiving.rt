@@ -2,14 +2,14 @@
 //! `front`, `drop` and `len`.
 use crate::no_memory;
 use crate::step::Step;
+use memory_count::Memory;
 use packet_rings::RxRing;
 use rpc_base::{MOST_DATAGRAM_BYTES, Peer};
-use std::alloc::Global;
 use std::io;
 
 /// Makes a ring of this size, and tells what each call of it answers.
-pub fn drive(rt: &impl Print, alloc: Global, size: u32, calls: &str) -> io::Result<()> {
-    let mut ring = RxRing::new(alloc, size).map_err(no_memory)?;
+pub fn drive(rt: &impl Print, memory: &mut Memory, size: u32, calls: &str) -> io::Result<()> {
+    let mut ring = RxRing::new(memory, size).map_err(no_memory)?;
     call_all(rt, &mut ring, calls)
 }
 

@@ -3,13 +3,13 @@
 use crate::no_memory;
 use crate::packets::{Told, owner_of, packet_of};
 use crate::step::Step;
+use memory_count::Memory;
 use packet_rings::TxRing;
-use std::alloc::Global;
 use std::io;
 
 /// Makes a ring of this size, and tells what each call of it answers.
-pub fn drive(rt: &impl Print, alloc: Global, size: u32, calls: &str) -> io::Result<()> {
-    let mut ring = TxRing::new(alloc, size).map_err(no_memory)?;
+pub fn drive(rt: &impl Print, memory: &mut Memory, size: u32, calls: &str) -> io::Result<()> {
+    let mut ring = TxRing::new(memory, size).map_err(no_memory)?;
     call_all(rt, &mut ring, calls)
 }
 

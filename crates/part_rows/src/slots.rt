@@ -2,33 +2,38 @@
 //! A call has its number and 100 as its tag.
 use crate::no_memory;
 use crate::step::Step;
+use memory_count::{Memory, NoMemory};
 use message_buffer::MsgBuf;
-use rpc_base::{CallNo, MOST_CALLS, NoMemory, RequestNo};
+use rpc_base::{CallNo, MOST_CALLS, RequestNo};
 use session_slots::{SlotTable, Waiting};
-use std::alloc::Global;
 use std::io;
 
 /// What is added to the number of a call in its tag.
 const TAGS: u64 = 100;
 
 /// Tells what each call answers, from eight free slots on.
-pub fn drive(rt: &impl Print, alloc: Global, calls: &str) -> io::Result<()> {
-    let mut table = SlotTable::new(alloc);
-    call_all(rt, alloc, &mut table, calls)
+pub fn drive(rt: &impl Print, memory: &mut Memory, calls: &str) -> io::Result<()> {
+    let mut table = SlotTable::new(memory.alloc());
+    call_all(rt, memory, &mut table, calls)
 }
 
-fn call_all(rt: &impl Print, alloc: Global, table: &mut SlotTable, calls: &str) -> io::Result<()> {
+fn call_all(
+    rt: &impl Print,
+    memory: &mut Memory,
+    table: &mut SlotTable,
+    calls: &str,
+) -> io::Result<()> {
     for line in calls.lines() {
         print!(rt; "  {line}: ")?;
-        call(rt, alloc, table, Step::read(line))?;
+        call(rt, memory, table, Step::read(line))?;
     }
     Ok(())
 }
 
 // A call with two empty buffers.
-fn make_call(alloc: Global, call: u32) -> Result<Waiting, NoMemory> {
-    let req = MsgBuf::new(alloc, 0)?;
-    let resp = MsgBuf::new(alloc, 0)?;
+fn make_call(memory: &mut Memory, call: u32) -> Result<Waiting, NoMemory> {
+    let req = MsgBuf::new(memory, 0)?;
+    let resp = MsgBuf::new(memory, 0)?;
     Ok(Waiting {
         call: CallNo(u64::from(call)),
         tag: TAGS + u64::from(call),
@@ -38,12 +43,12 @@ fn make_call(alloc: Global, call: u32) -> Result<Waiting, NoMemory> {
     })
 }
 
-fn wait(rt: &impl Print, alloc: Global, table: &mut SlotTable, call: u32) -> io::Result<()> {
+fn wait(rt: &impl Print, memory: &mut Memory, table: &mut SlotTable, call: u32) -> io::Result<()> {
     if table.taken() == MOST_CALLS {
         return println!(rt; "no more calls");
     }
-    let waiting = make_call(alloc, call).map_err(no_memory)?;
-    let waits = table.wait(waiting).is_ok();
+    let waiting = make_call(memory, call).map_err(no_memory)?;
+    let waits = table.wait(memory, waiting).is_ok();
     println!(rt; "{waits}, {} taken", table.taken())
 }
 
@@ -65,10 +70,10 @@ fn request_of(number: u32) -> RequestNo {
     RequestNo::of((number % 8) as u8, u64::from(number / 8))
 }
 
-fn call(rt: &impl Print, alloc: Global, table: &mut SlotTable, step: Step) -> io::Result<()> {
+fn call(rt: &impl Print, memory: &mut Memory, table: &mut SlotTable, step: Step) -> io::Result<()> {
     let request = request_of(step.long(0));
     match step.name {
-        "wait" => wait(rt, alloc, table, step.long(0)),
+        "wait" => wait(rt, memory, table, step.long(0)),
         "begin" => println!(rt; "{:?}", begin(table)),
         "of" => println!(rt; "{:?}", table.call_of(request).map(|call| call.0)),
         "end" => end(rt, table, request),

@@ -1,19 +1,18 @@
 //! A pool behind one lock.
 use crate::{CAPACITY, Crowd, PLACES};
+use memory_count::{Memory, NoMemory};
 use message_buffer::MsgBuf;
-use rpc_base::NoMemory;
-use std::alloc::Global;
 use std::sync::{Mutex, Wait};
 use std::thread;
 use std::thread::Threads;
 
 type Shelf = Mutex<Vec<MsgBuf>>;
 
-fn shelf(alloc: Global) -> Result<Shelf, NoMemory> {
-    let mut buffers = Vec::with_capacity(alloc, PLACES as usize)?;
+fn shelf(memory: &mut Memory) -> Result<Shelf, NoMemory> {
+    let mut buffers = memory.list(PLACES as usize)?;
     for _place in 0..PLACES {
-        let buffer = MsgBuf::new(alloc, CAPACITY)?;
-        buffers.push(buffer)?;
+        let buffer = MsgBuf::new(memory, CAPACITY)?;
+        memory.push(&mut buffers, buffer)?;
     }
     Ok(Mutex::new(buffers))
 }
@@ -59,14 +58,14 @@ fn borrow_by_four<R: Threads + Wait + Sync>(rt: &R, shelf: &Shelf, times: u32) -
 }
 
 /// Each of so many threads borrows and gives back so many times. Tells how often there was a
-/// buffer. `NoMemory` comes only where there is none for the pool.
+/// buffer.
 pub fn borrow<R: Threads + Wait + Sync>(
+    memory: &mut Memory,
     rt: &R,
-    alloc: Global,
     crowd: Crowd,
     times: u32,
 ) -> Result<u64, NoMemory> {
-    let shelf = shelf(alloc)?;
+    let shelf = shelf(memory)?;
     Ok(match crowd {
         Crowd::One => borrow_often(rt, &shelf, times),
         Crowd::Two => borrow_by_two(rt, &shelf, times),

@@ -7,9 +7,8 @@
 mod locked;
 mod tabled;
 
-use rpc_base::NoMemory;
+use memory_count::{Memory, NoMemory};
 use rpc_outside::{Clock, SysClock};
-use std::alloc::Global;
 use std::process::ExitCode;
 use std::rt::Env;
 use std::sync::Wait;
@@ -84,10 +83,14 @@ fn task_of(rt: &(impl Env + AllocGlobal)) -> io::Result<Result<Option<Task>, ()>
     }
 }
 
-fn borrow<R: Threads + Wait + Sync>(rt: &R, alloc: Global, task: &Task) -> Result<u64, NoMemory> {
+fn borrow<R: Threads + Wait + Sync>(
+    memory: &mut Memory,
+    rt: &R,
+    task: &Task,
+) -> Result<u64, NoMemory> {
     match task.kind {
-        Kind::Table => tabled::borrow(rt, alloc, task.crowd, task.times),
-        Kind::Mutex => locked::borrow(rt, alloc, task.crowd, task.times),
+        Kind::Table => tabled::borrow(memory, rt, task.crowd, task.times),
+        Kind::Mutex => locked::borrow(memory, rt, task.crowd, task.times),
     }
 }
 
@@ -101,13 +104,13 @@ struct Measured {
 }
 
 fn measure<R: time::Clock + Threads + Wait + Sync>(
+    memory: &mut Memory,
     rt: &R,
-    alloc: Global,
     task: &Task,
 ) -> Result<Measured, NoMemory> {
     let mut clock = SysClock::new(rt);
     let start = clock.now();
-    let lent = borrow(rt, alloc, task)?;
+    let lent = borrow(memory, rt, task)?;
     let end = clock.now();
     Ok(Measured {
         lent,
@@ -133,8 +136,9 @@ fn main(rt: HostRuntime) -> io::Result<ExitCode> {
         Some(task) => [Some(task), None],
         None => [Some(few(Kind::Table)), Some(few(Kind::Mutex))],
     };
+    let mut memory = Memory::new(rt.alloc());
     for task in tasks.iter().flatten() {
-        let Ok(measured) = measure(&rt, rt.alloc(), task) else {
+        let Ok(measured) = measure(&mut memory, &rt, task) else {
             eprintln!(rt; "pool_speed: there is no memory")?;
             return Ok(ExitCode::from(UNDONE));
         };

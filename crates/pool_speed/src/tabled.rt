@@ -4,9 +4,8 @@ ghost use Rattle.shared_pool.specs.Seats.{places_of};
 ghost use Rattle.pool_speed.specs.Seats.{IsFreeSeat};
 
 use crate::{CAPACITY, Crowd, PLACES};
-use rpc_base::NoMemory;
+use memory_count::{Memory, NoMemory};
 use shared_pool::{PoolSeat, SharedPool};
-use std::alloc::Global;
 use std::thread;
 use std::thread::Threads;
 
@@ -91,15 +90,14 @@ fn borrow_by_four<R: Threads + Sync>(rt: &R, pool: &SharedPool, seat: PoolSeat, 
 }
 
 /// Each of so many threads borrows and gives back so many times, looking at a place of its own
-/// first. Tells how often there was a buffer. `NoMemory` comes only where there is none for the
-/// pool.
+/// first. Tells how often there was a buffer.
 pub fn borrow<R: Threads + Sync>(
+    memory: &mut Memory,
     rt: &R,
-    alloc: Global,
     crowd: Crowd,
     times: u32,
 ) -> Result<u64, NoMemory> {
-    let (pool, seat) = SharedPool::new(alloc, PLACES, CAPACITY)?;
+    let (pool, seat) = SharedPool::new(memory, PLACES, CAPACITY)?;
     Ok(match crowd {
         Crowd::One => borrow_often(&pool, seat, 0, times).0,
         Crowd::Two => borrow_by_two(rt, &pool, seat, 0, times).0,

@@ -1,15 +1,16 @@
 //! A desk by hand.
 ghost use Rattle.std.specs.Prelude.{IfOk};
 ghost use Rattle.deferred_calls.specs.Moves.{IsHandleOf};
+ghost use Rattle.memory_count.specs.Faults.{HasCause};
 ghost use Rattle.rpc_outside.specs.PlainAnswer.{background_answer};
 ghost use Rattle.worker_crew.specs.Jobs.{HasRoom};
 
 use crate::checks::{Checks, Differs};
 use deferred_calls::{Deferred, Desk};
+use memory_count::{Memory, NoMemory};
 use message_buffer::MsgBuf;
-use rpc_base::{NoMemory, RequestNo, SessionNo};
+use rpc_base::{RequestNo, SessionNo};
 use rpc_outside::PlainDuty;
-use std::alloc::Global;
 use worker_board::Parcel;
 use worker_crew::Workers;
 
@@ -17,14 +18,15 @@ use worker_crew::Workers;
 const REVERSE: u8 = 130;
 
 /// The bytes `ab`, to be reversed.
-fn reversal(alloc: Global) -> Result<Parcel, NoMemory>
-    ensures { IfOk result (HasRoom background_answer) }
+fn reversal(memory: &mut Memory) -> Result<Parcel, NoMemory>
+    ensures room { IfOk result (HasRoom background_answer) }
+    ensures cause { HasCause memory.old memory.new result }
 {
-    let mut ask = MsgBuf::new(alloc, 2)?;
+    let mut ask = MsgBuf::new(memory, 2)?;
     ask.set_len(2);
     ask.write(0, b"ab");
     let _asked = ask.bytes().len();
-    let mut out = MsgBuf::new(alloc, 2)?;
+    let mut out = MsgBuf::new(memory, 2)?;
     out.set_len(2);
     Ok(Parcel {
         session: SessionNo(0),
@@ -88,9 +90,9 @@ fn take(desk: &mut Desk<PlainDuty>, checks: &mut Checks) {
 }
 
 /// A job is answered by its handle, once.
-pub fn row(alloc: Global) -> Checks {
+pub fn row(memory: &mut Memory) -> Checks {
     let mut checks = Checks::new();
-    match (Desk::new(alloc, PlainDuty, 2), reversal(alloc)) {
+    match (Desk::new(memory, PlainDuty, 2), reversal(memory)) {
         (Ok(mut desk), Ok(job)) => {
             checks.expect(desk.give(job).is_ok(), Differs::Finished);
             hand_out(&mut desk, &mut checks);

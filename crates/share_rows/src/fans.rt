@@ -3,16 +3,15 @@ ghost use Rattle.fan_buffer.specs.Readings.{IsReadingOf};
 
 use crate::checks::{Checks, Differs};
 use fan_buffer::{Fan, Reading, Taking};
+use memory_count::Memory;
 use message_buffer::MsgBuf;
-use rpc_base::NoMemory;
-use std::alloc::Global;
 
 /// A fan of the bytes `ab`.
-fn fan_of_two(alloc: Global) -> Result<Fan, NoMemory> {
-    let mut buffer = MsgBuf::new(alloc, 2)?;
+fn fan_of_two(memory: &mut Memory) -> Option<Fan> {
+    let mut buffer = MsgBuf::new(memory, 2).ok()?;
     buffer.set_len(2);
     buffer.write(0, b"ab");
-    Fan::new(buffer).map_err(|_buffer| NoMemory)
+    Fan::new(buffer).ok()
 }
 
 /// Both readings show the bytes, and nobody takes the buffer while they are open.
@@ -62,15 +61,15 @@ fn read_empty(fan: &Fan, checks: &mut Checks) {
 }
 
 /// Two readings, and then the buffer is taken.
-pub fn row(alloc: Global) -> Checks {
+pub fn row(memory: &mut Memory) -> Checks {
     let mut checks = Checks::new();
-    match fan_of_two(alloc) {
-        Ok(fan) => {
+    match fan_of_two(memory) {
+        Some(fan) => {
             open_both(&fan, &mut checks);
             take_all(&fan, &mut checks);
             read_empty(&fan, &mut checks);
         }
-        Err(_) => checks.miss(Differs::Memory),
+        None => checks.miss(Differs::Memory),
     }
     checks
 }

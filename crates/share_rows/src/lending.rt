@@ -4,9 +4,9 @@ ghost use Rattle.message_buffer.specs.Buffer.{capacity_of};
 ghost use Rattle.shared_pool.specs.Seats.{HoldsLoan, IsSeatOf, places_of, size_of, view_of};
 
 use crate::checks::{Checks, Differs};
+use memory_count::Memory;
 use message_buffer::MsgBuf;
 use shared_pool::{Loan, PoolSeat, SharedPool};
-use std::alloc::Global;
 
 /// The places of the pool, and the capacity of its buffers, in bytes.
 const PLACES: u32 = 2;
@@ -95,9 +95,9 @@ fn lend(pool: &SharedPool, seat: PoolSeat, checks: &mut Checks)
 }
 
 /// Two seats of a pool of two places: a buffer is lent to one of them at a time.
-pub fn row(alloc: Global) -> Checks {
+pub fn row(memory: &mut Memory) -> Checks {
     let mut checks = Checks::new();
-    match SharedPool::new(alloc, PLACES, CAPACITY) {
+    match SharedPool::new(memory, PLACES, CAPACITY) {
         Ok((pool, seat)) => lend(&pool, seat, &mut checks),
         Err(_) => checks.miss(Differs::Memory),
     }

@@ -8,6 +8,7 @@ mod fans;
 mod lending;
 
 use crate::checks::Checks;
+use memory_count::Memory;
 use std::io;
 
 fn tell(rt: &impl Print, name: &str, checks: Checks) -> io::Result<()> {
@@ -18,8 +19,8 @@ fn tell(rt: &impl Print, name: &str, checks: Checks) -> io::Result<()> {
 }
 
 fn main(rt: HostRuntime) -> io::Result<()> {
-    let alloc = rt.alloc();
-    tell(&rt, "a pool by hand", lending::row(alloc))?;
-    tell(&rt, "a fan by hand", fans::row(alloc))?;
-    tell(&rt, "a desk by hand", desks::row(alloc))
+    let mut memory = Memory::new(rt.alloc());
+    tell(&rt, "a pool by hand", lending::row(&mut memory))?;
+    tell(&rt, "a fan by hand", fans::row(&mut memory))?;
+    tell(&rt, "a desk by hand", desks::row(&mut memory))
 }

@@ -6,6 +6,7 @@ ghost use Rattle.share_runs.specs.Borrowing.{HoldsOnly, IsFreeSeat};
 
 use crate::caller::{ASKED, Caller};
 use crate::checks::{Checks, Differs};
+use memory_count::Memory;
 use message_buffer::MsgBuf;
 use shared_pool::{Loan, PoolSeat, SharedPool};
 use std::alloc::Global;
@@ -139,7 +140,7 @@ fn work(alloc: Global, pool: &SharedPool, seat: PoolSeat, thread: u8) -> (Checks
 {
     let mut seat = seat;
     let mut checks = Checks::new();
-    match MsgBuf::new(alloc, CAPACITY) {
+    match MsgBuf::new(&mut Memory::new(alloc), CAPACITY) {
         Ok(spare) => call_often(alloc, pool, &mut seat, thread, spare, &mut checks),
         Err(_) => checks.miss(Differs::Memory),
     }
@@ -236,7 +237,7 @@ fn times_lent(pool: &SharedPool, seat: &mut PoolSeat) -> Option<u64>
 
 /// Four threads share a pool of three places. At the end all three are at home.
 pub fn row<R: Threads + Sync>(rt: &R, alloc: Global) -> Checks {
-    match SharedPool::new(alloc, PLACES, CAPACITY) {
+    match SharedPool::new(&mut Memory::new(alloc), PLACES, CAPACITY) {
         Ok((pool, seat)) => {
             let (mut checks, mut seat) = four_work(rt, alloc, &pool, seat);
             let lent = times_lent(&pool, &mut seat);

@@ -1,12 +1,14 @@
 //! An endpoint that is its own peer: what it sends comes back to it, so that it answers its own calls.
 ghost use Rattle.std.specs.Prelude.{◌≡◌, ◌≤◌, IfSome};
+ghost use Rattle.memory_count.specs.Faults.{HasCause};
 ghost use Rattle.message_buffer.specs.Buffer.{capacity_of};
 
 use client_core::{Done, Outcome};
 use endpoint_loop::{Continuation, Endpoint, Refused};
+use memory_count::{Memory, NoMemory};
 use message_buffer::MsgBuf;
 use packet_header::{FIRST_LIFE, Life};
-use rpc_base::{LEAST_RING, Limits, NoMemory, NodeId, Peer, SessionNo, USUAL_JOBS, USUAL_TIMEOUT};
+use rpc_base::{LEAST_RING, Limits, NodeId, Peer, SessionNo, USUAL_JOBS, USUAL_TIMEOUT};
 use rpc_outside::{MemLink, NoRecord, PlainDuty, PlainService};
 use std::alloc::Global;
 use worker_crew::LocalWorkers;
@@ -31,10 +33,15 @@ pub const LIMITS: Limits = Limits {
 pub type PlainEndpoint = Endpoint<PlainService, LocalWorkers<PlainDuty>>;
 
 /// An endpoint of its own, of this node.
-pub fn plain_endpoint(alloc: Global, me: NodeId) -> Result<PlainEndpoint, NoMemory> {
-    let workers = LocalWorkers::new(alloc, PlainDuty, USUAL_JOBS)?;
+pub fn plain_endpoint(memory: &mut Memory, me: NodeId) -> Result<PlainEndpoint, NoMemory>
+    ensures cause { HasCause memory.old memory.new result }
+{
+    let workers = LocalWorkers::new(memory, PlainDuty, USUAL_JOBS)?;
     let service = PlainService::new();
-    Endpoint::new(alloc, me, FIRST, LIMITS, service, workers).map_err(|_workers| NoMemory)
+    match Endpoint::new(memory, me, FIRST, LIMITS, service, workers) {
+        Ok(endpoint) => Ok(endpoint),
+        Err(_workers) => Err(NoMemory),
+    }
 }
 
 /// The call that ended last.
@@ -51,6 +58,7 @@ impl Continuation for Newest {
 
 /// An endpoint with its link, and the buffer for its answers. It ends by `close`.
 pub struct Caller {
+    memory: Memory,
     endpoint: PlainEndpoint,
     link: MemLink,
     newest: Newest,
@@ -62,17 +70,19 @@ pub struct Caller {
 impl Caller {
     /// One that makes at most so many calls.
     pub fn new(alloc: Global, calls: u16) -> Result<Caller, NoMemory> {
-        let resp = MsgBuf::new(alloc, ASKED)?;
+        let mut memory = Memory::new(alloc);
+        let resp = MsgBuf::new(&mut memory, ASKED)?;
         let room = 2 * u32::from(calls);
         let link = MemLink::new(
-            alloc,
+            &mut memory,
             Vec::new(alloc),
             room,
             Vec::new(alloc),
             Vec::new(alloc),
         )?;
-        let endpoint = plain_endpoint(alloc, NodeId(ME))?;
+        let endpoint = plain_endpoint(&mut memory, NodeId(ME))?;
         Ok(Caller {
+            memory,
             endpoint,
             link,
             newest: Newest { done: None },
@@ -83,12 +93,14 @@ impl Caller {
 
     /// Makes both ends of session 0.
     pub fn pair(&mut self) -> bool {
+        let memory = &mut self.memory;
         let here = self
             .endpoint
-            .pair_client(Peer(ME), FIRST, SessionNo(0), 1, &mut NoRecord);
+            .pair_client(memory, Peer(ME), FIRST, SessionNo(0), 1, &mut NoRecord);
+        let memory = &mut self.memory;
         let there = self
             .endpoint
-            .pair_server(Peer(ME), FIRST, SessionNo(0), 1, &mut NoRecord);
+            .pair_server(memory, Peer(ME), FIRST, SessionNo(0), 1, &mut NoRecord);
         here.is_ok() && there.is_ok()
     }
 
@@ -97,9 +109,10 @@ impl Caller {
         let Some(resp) = self.resp.take() else {
             return Some(req);
         };
+        let memory = &mut self.memory;
         let asked = self
             .endpoint
-            .ask(SessionNo(0), ECHO, req, resp, 0, &mut NoRecord);
+            .ask(memory, SessionNo(0), ECHO, req, resp, 0, &mut NoRecord);
         match asked {
             Ok(_call) => None,
             Err(refused) => {
@@ -111,9 +124,11 @@ impl Caller {
     }
 
     fn poll(&mut self) {
+        let memory = &mut self.memory;
+        let link = &mut self.link;
         let _turn = self
             .endpoint
-            .poll(0, &mut self.link, &mut self.newest, &mut NoRecord);
+            .poll(memory, 0, link, &mut self.newest, &mut NoRecord);
     }
 
     // The datagram that was sent last comes back.
@@ -160,6 +175,7 @@ impl Caller {
     /// Lets all of it go.
     pub fn close(self) {
         let Caller {
+            memory: _memory,
             endpoint,
             link: _link,
             newest: _newest,

@@ -6,8 +6,9 @@ use crate::caller::{FIRST, PlainEndpoint, plain_endpoint};
 use crate::checks::{Checks, Differs};
 use fan_buffer::{Fan, Reading};
 use fan_calls::ask_fan;
+use memory_count::Memory;
 use message_buffer::MsgBuf;
-use rpc_base::{CallNo, Event, NoMemory, NodeId, Peer, SessionNo};
+use rpc_base::{CallNo, Event, NodeId, Peer, SessionNo};
 use rpc_outside::MemRecorder;
 use std::alloc::Global;
 use std::thread;
@@ -22,11 +23,14 @@ const ECHO: u8 = 1;
 const ROOM: u32 = 2;
 
 /// A fan of the bytes `ab`.
-fn fan_of_two(alloc: Global) -> Result<Fan, NoMemory> {
-    let mut buffer = MsgBuf::new(alloc, 2)?;
-    buffer.set_len(2);
-    buffer.write(0, b"ab");
-    Fan::new(buffer).map_err(|_buffer| NoMemory)
+fn fan_of_two(alloc: Global) -> Result<Fan, Differs> {
+    let Ok(buffer) = MsgBuf::of(&mut Memory::new(alloc), b"ab") else {
+        return Err(Differs::Memory);
+    };
+    match Fan::new(buffer) {
+        Ok(fan) => Ok(fan),
+        Err(_buffer) => Err(Differs::Open),
+    }
 }
 
 /// Opens a right to read, by as many tries as are wanted.
@@ -59,15 +63,15 @@ fn was_asked(recorder: &MemRecorder) -> bool {
 }
 
 /// The endpoint asks the fan's bytes on a session of its own.
-fn ask(alloc: Global, endpoint: &mut PlainEndpoint, fan: &Fan, checks: &mut Checks) {
-    let mut recorder = MemRecorder::new(alloc);
-    let paired = endpoint.pair_client(Peer(1), FIRST, SessionNo(0), 1, &mut recorder);
+fn ask(memory: &mut Memory, endpoint: &mut PlainEndpoint, fan: &Fan, checks: &mut Checks) {
+    let mut recorder = MemRecorder::new(memory.alloc());
+    let paired = endpoint.pair_client(memory, Peer(1), FIRST, SessionNo(0), 1, &mut recorder);
     checks.expect(paired == Ok(SessionNo(0)), Differs::Answer);
     match open_one(fan) {
         Some(reading) => {
             let rec = &mut recorder;
             let asked = ask_fan(
-                alloc,
+                memory,
                 endpoint,
                 SessionNo(0),
                 ECHO,
@@ -88,9 +92,10 @@ fn ask(alloc: Global, endpoint: &mut PlainEndpoint, fan: &Fan, checks: &mut Chec
 /// An endpoint of its own, on this thread.
 fn work(alloc: Global, fan: &Fan) -> Checks {
     let mut checks = Checks::new();
-    match plain_endpoint(alloc, NodeId(0)) {
+    let mut memory = Memory::new(alloc);
+    match plain_endpoint(&mut memory, NodeId(0)) {
         Ok(mut endpoint) => {
-            ask(alloc, &mut endpoint, fan, &mut checks);
+            ask(&mut memory, &mut endpoint, fan, &mut checks);
             let _workers = endpoint.into_workers();
         }
         Err(_) => checks.miss(Differs::Memory),
@@ -114,9 +119,9 @@ fn three_work<R: Threads + Sync>(rt: &R, alloc: Global, fan: &Fan) -> Checks {
 pub fn row<R: Threads + Sync>(rt: &R, alloc: Global) -> Checks {
     match fan_of_two(alloc) {
         Ok(fan) => three_work(rt, alloc, &fan),
-        Err(_) => {
+        Err(differs) => {
             let mut checks = Checks::new();
-            checks.miss(Differs::Memory);
+            checks.miss(differs);
             checks
         }
     }

@@ -1,6 +1,6 @@
 //! Why a run ends before its time.
 use endpoint_loop::LinkFault;
-use rpc_base::NoMemory;
+use memory_count::NoMemory;
 use std::fmt;
 
 /// Why a run ended before its time.

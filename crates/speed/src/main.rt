@@ -20,6 +20,7 @@ use crate::run::Run;
 use crate::server::{Elsewhere, Server};
 use crate::wire::Wire;
 use call_load::Caller;
+use memory_count::Memory;
 use std::alloc::AllocError;
 use std::env;
 use std::io::{self, Write};
@@ -43,17 +44,21 @@ fn words_of(rt: &(impl Env + AllocGlobal)) -> io::Result<Vec<String>> {
 
 // Calls of a server at an address.
 fn over_sockets(rt: &HostRuntime, options: &Options) -> Result<(), Fault> {
-    let caller = Caller::new(rt.alloc(), options.aim()?)?;
-    let mut run = Run::new(caller, UdpLink::new(rt.alloc(), rt), Elsewhere, rt);
+    let mut memory = Memory::new(rt.alloc());
+    let caller = Caller::new(&mut memory, options.aim()?)?;
+    let mut run = Run::new(memory, caller, UdpLink::new(rt.alloc(), rt), Elsewhere, rt);
     run.open(options)?;
     run.measure(rt, options)
 }
 
 // Calls of a server in this program.
 fn over_memory(rt: &HostRuntime, options: &Options) -> Result<(), Fault> {
-    let caller = Caller::new(rt.alloc(), options.aim()?)?;
-    let server = Server::new(rt.alloc(), Wire::new(rt.alloc())?)?;
-    let mut run = Run::new(caller, Wire::new(rt.alloc())?, server, rt);
+    let mut memory = Memory::new(rt.alloc());
+    let caller = Caller::new(&mut memory, options.aim()?)?;
+    let there = Wire::new(&mut memory)?;
+    let server = Server::new(&mut memory, there)?;
+    let here = Wire::new(&mut memory)?;
+    let mut run = Run::new(memory, caller, here, server, rt);
     run.open(options)?;
     run.measure(rt, options)
 }

@@ -5,6 +5,7 @@ use crate::run::Run;
 use crate::server::Server;
 use crate::wire::Wire;
 use call_load::{Caller, Tally};
+use memory_count::Memory;
 use rpc_outside::Link;
 use std::io::Write;
 use udp_link::UdpLink;
@@ -21,14 +22,11 @@ const ADDRESSES: [&str; 4] = [
 const ROW: &str = "--calls 1000 --sessions 8 --pending 64 --timeout 1000000";
 
 fn row_words(rt: &HostRuntime) -> Result<Vec<String>, Fault> {
+    let mut memory = Memory::new(rt.alloc());
     let mut words = Vec::new(rt.alloc());
     for word in ROW.split_whitespace() {
-        let Ok(word) = String::from_str(rt.alloc(), word) else {
-            return Err(Fault::NoMemory);
-        };
-        if words.push(word).is_err() {
-            return Err(Fault::NoMemory);
-        }
+        let word = memory.of(String::from_str(rt.alloc(), word))?;
+        memory.push(&mut words, word)?;
     }
     Ok(words)
 }
@@ -49,21 +47,25 @@ fn tell(rt: &HostRuntime, tally: &Tally) -> Result<(), Fault> {
 }
 
 fn memory_row(rt: &HostRuntime, options: &Options) -> Result<Tally, Fault> {
-    let caller = Caller::new(rt.alloc(), options.aim()?)?;
-    let server = Server::new(rt.alloc(), Wire::new(rt.alloc())?)?;
-    let mut run = Run::new(caller, Wire::new(rt.alloc())?, server, rt);
+    let mut memory = Memory::new(rt.alloc());
+    let caller = Caller::new(&mut memory, options.aim()?)?;
+    let there = Wire::new(&mut memory)?;
+    let server = Server::new(&mut memory, there)?;
+    let here = Wire::new(&mut memory)?;
+    let mut run = Run::new(memory, caller, here, server, rt);
     run.open(options)?;
     run.ask_all()
 }
 
 fn socket_row(rt: &HostRuntime, options: &Options) -> Result<Tally, Fault> {
-    let caller = Caller::new(rt.alloc(), options.aim()?)?;
+    let mut memory = Memory::new(rt.alloc());
+    let caller = Caller::new(&mut memory, options.aim()?)?;
     let mut link = UdpLink::new(rt.alloc(), rt);
     if link.bind(options.addr).is_err() {
         return Err(Fault::Link);
     }
-    let server = Server::new(rt.alloc(), link)?;
-    let mut run = Run::new(caller, UdpLink::new(rt.alloc(), rt), server, rt);
+    let server = Server::new(&mut memory, link)?;
+    let mut run = Run::new(memory, caller, UdpLink::new(rt.alloc(), rt), server, rt);
     run.open(options)?;
     run.ask_all()
 }

@@ -5,6 +5,7 @@ use crate::options::Options;
 use crate::report::{Report, Second};
 use crate::server::Other;
 use call_load::{Caller, Standing, Tally};
+use memory_count::Memory;
 use rpc_outside::Link;
 use std::io::Write;
 use std::time;
@@ -35,6 +36,7 @@ fn tell(rt: &HostRuntime, is_json: bool, report: Report) -> Result<(), Fault> {
 
 /// What a run has.
 pub struct Run<'a, L: Link, S: Other<L>, T: time::Clock> {
+    memory: Memory,
     caller: Caller,
     link: L,
     other: S,
@@ -47,6 +49,7 @@ pub struct Run<'a, L: Link, S: Other<L>, T: time::Clock> {
 impl<'a, L: Link + Drop, S: Other<L> + Drop, T: time::Clock> Drop for Run<'a, L, S, T> {
     fn drop(self) {
         let Run {
+            memory: _memory,
             caller: _caller,
             link: _link,
             other: _other,
@@ -58,8 +61,15 @@ impl<'a, L: Link + Drop, S: Other<L> + Drop, T: time::Clock> Drop for Run<'a, L,
 
 impl<'a, L: Link + Drop, S: Other<L> + Drop, T: time::Clock> Run<'a, L, S, T> {
     /// The client isn't connected yet.
-    pub fn new(caller: Caller, link: L, other: S, clock: &'a T) -> Run<'a, L, S, T> {
+    pub fn new(
+        memory: Memory,
+        caller: Caller,
+        link: L,
+        other: S,
+        clock: &'a T,
+    ) -> Run<'a, L, S, T> {
         Run {
+            memory,
             caller,
             link,
             other,
@@ -78,8 +88,10 @@ impl<'a, L: Link + Drop, S: Other<L> + Drop, T: time::Clock> Run<'a, L, S, T> {
 
     // A turn of the client, and one of the link's other end. Whether the client handled packets.
     fn turn(&mut self) -> Result<bool, Fault> {
-        let has_some = self.caller.turn(self.now, &mut self.link)?;
-        self.other.turn(self.now, &mut self.link);
+        let has_some = self
+            .caller
+            .turn(&mut self.memory, self.now, &mut self.link)?;
+        self.other.turn(&mut self.memory, self.now, &mut self.link);
         self.look();
         if !self.caller.count(self.now) {
             return Err(Fault::NoMemory);
@@ -107,7 +119,8 @@ impl<'a, L: Link + Drop, S: Other<L> + Drop, T: time::Clock> Run<'a, L, S, T> {
         if options.frame > 0 {
             self.link.pack(peer, options.frame);
         }
-        if !self.caller.connect(peer, options.aim()?.credits) {
+        let credits = options.aim()?.credits;
+        if !self.caller.connect(&mut self.memory, peer, credits) {
             return Err(Fault::NoMemory);
         }
         self.look();
@@ -128,7 +141,7 @@ impl<'a, L: Link + Drop, S: Other<L> + Drop, T: time::Clock> Run<'a, L, S, T> {
             if self.now >= end || self.caller.is_done() {
                 break;
             }
-            self.caller.ask_all(self.now);
+            self.caller.ask_all(&mut self.memory, self.now);
             let _some = self.turn()?;
         }
         match self.caller.standing() {

@@ -1,11 +1,13 @@
 //! What is at the other end of a link: a server in this program, or one that isn't in it.
+ghost use Rattle.memory_count.specs.Faults.{HasCause};
+
 use crate::wire::Wire;
 use client_core::Done;
 use endpoint_loop::{Continuation, Endpoint};
+use memory_count::{Memory, NoMemory};
 use packet_header::{FIRST_LIFE, Life};
-use rpc_base::{Limits, NoMemory, NodeId, USUAL_JOBS};
+use rpc_base::{Limits, NodeId, USUAL_JOBS};
 use rpc_outside::{Link, NoRecord, PlainDuty, PlainService};
-use std::alloc::Global;
 use std::net::Net;
 use udp_link::UdpLink;
 use worker_crew::LocalWorkers;
@@ -44,7 +46,7 @@ pub trait Other<L: Link> {
     fn is_here(&self) -> bool;
 
     /// Makes a turn at `now`, in nanoseconds, of which the client hears over its link.
-    fn turn(&mut self, now: u64, client: &mut L);
+    fn turn(&mut self, memory: &mut Memory, now: u64, client: &mut L);
 }
 
 /// Nothing of this program: the server runs by itself.
@@ -56,7 +58,7 @@ impl<L: Link> Other<L> for Elsewhere {
         false
     }
 
-    fn turn(&mut self, _now: u64, _client: &mut L) {}
+    fn turn(&mut self, _memory: &mut Memory, _now: u64, _client: &mut L) {}
 }
 
 /// A server's endpoint with the plain service, and its link.
@@ -77,10 +79,12 @@ impl<L: Carries + Drop> Drop for Server<L> {
 
 impl<L: Carries + Drop> Server<L> {
     /// A server over a link that is bound.
-    pub fn new(alloc: Global, link: L) -> Result<Server<L>, NoMemory> {
-        let workers = LocalWorkers::new(alloc, PlainDuty, USUAL_JOBS)?;
+    pub fn new(memory: &mut Memory, link: L) -> Result<Server<L>, NoMemory>
+        ensures cause { HasCause memory.old memory.new result }
+    {
+        let workers = LocalWorkers::new(memory, PlainDuty, USUAL_JOBS)?;
         let (life, service) = (Life(FIRST_LIFE), PlainService::new());
-        match Endpoint::new(alloc, NodeId(1), life, Limits::usual(), service, workers) {
+        match Endpoint::new(memory, NodeId(1), life, Limits::usual(), service, workers) {
             Ok(endpoint) => Ok(Server { endpoint, link }),
             Err(_workers) => Err(NoMemory),
         }
@@ -92,9 +96,10 @@ impl<L: Carries + Drop> Other<L> for Server<L> {
         true
     }
 
-    fn turn(&mut self, now: u64, client: &mut L) {
+    fn turn(&mut self, memory: &mut Memory, now: u64, client: &mut L) {
         client.carry(&mut self.link);
         let _turn = self.endpoint.turn(
+            memory,
             now / MICROSECOND,
             &mut self.link,
             &mut NoCalls,

@@ -1,9 +1,10 @@
 //! A link in memory.
 ghost use Rattle.std.specs.Prelude.{◌≤◌, ◌+◌, None, IfSome, length};
+ghost use Rattle.memory_count.specs.Faults.{HasCause};
 
-use rpc_base::{NoMemory, Peer};
+use memory_count::{Memory, NoMemory};
+use rpc_base::Peer;
 use rpc_outside::{Failed, Got, Link, MOST_LINK_BYTES, Taken};
-use std::alloc::Global;
 use std::mem;
 
 /// So many datagrams may be on their way in one direction.
@@ -53,9 +54,11 @@ struct Way {
 }
 
 impl Way {
-    fn new(alloc: Global) -> Result<Way, NoMemory> {
-        let mut slots = Vec::new(alloc);
-        slots.resize_with(MOST_ON_THEIR_WAY, Slot::empty)?;
+    fn new(memory: &mut Memory) -> Result<Way, NoMemory>
+        ensures cause { HasCause memory.old memory.new result }
+    {
+        let mut slots = Vec::new(memory.alloc());
+        memory.of(slots.resize_with(MOST_ON_THEIR_WAY, Slot::empty))?;
         Ok(Way {
             slots,
             next: 0,
@@ -104,10 +107,12 @@ pub struct Wire {
 
 impl Wire {
     /// An end to which nothing comes.
-    pub fn new(alloc: Global) -> Result<Wire, NoMemory> {
+    pub fn new(memory: &mut Memory) -> Result<Wire, NoMemory>
+        ensures cause { HasCause memory.old memory.new result }
+    {
         Ok(Wire {
-            out: Way::new(alloc)?,
-            incoming: Way::new(alloc)?,
+            out: Way::new(memory)?,
+            incoming: Way::new(memory)?,
             faults: 0,
             busies: 0,
         })

@@ -1,5 +1,6 @@
 //! Scripts: their commands, or the first line that is bad.
 use crate::text::bytes_of;
+use memory_count::Memory;
 use script_grammar::{ReadError, read};
 use script_help::Explanation;
 use std::io;
@@ -7,7 +8,7 @@ use std::io;
 /// Tells each command with its line, or the first bad line and why.
 pub fn tell(rt: &(impl Print + AllocGlobal), row: &str) -> io::Result<()> {
     let text = bytes_of(rt.alloc(), row)?;
-    match read(rt.alloc(), text.as_slice()) {
+    match read(&mut Memory::new(rt.alloc()), text.as_slice()) {
         Ok(script) => {
             for line in script.lines() {
                 println!(rt; "  {} {:?}", line.number, line.command)?;
@@ -22,7 +23,7 @@ pub fn tell(rt: &(impl Print + AllocGlobal), row: &str) -> io::Result<()> {
 /// Tells what a user reads of a bad script.
 pub fn explain(rt: &(impl Print + AllocGlobal), row: &str) -> io::Result<()> {
     let text = bytes_of(rt.alloc(), row)?;
-    match read(rt.alloc(), text.as_slice()) {
+    match read(&mut Memory::new(rt.alloc()), text.as_slice()) {
         Err(ReadError::Bad(bad)) => println!(rt; "  {}", Explanation::of(text.as_slice(), bad)),
         _ => println!(rt; "  no bad line"),
     }

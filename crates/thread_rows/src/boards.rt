@@ -1,5 +1,6 @@
 //! A board of two places by hand.
 ghost use Rattle.std.specs.Prelude.{◌≡◌, ◌<◌, [], replicate, IfOk, IfSome, IfNone};
+ghost use Rattle.memory_count.specs.Faults.{HasCause};
 ghost use Rattle.rpc_outside.specs.PlainAnswer.{background_answer};
 ghost use Rattle.worker_board.specs.Rule.{HasRoom, IsAnswered};
 ghost use Rattle.worker_board.specs.Word.{job_of};
@@ -8,10 +9,10 @@ ghost use Rattle.worker_board.specs.Seats.{HoldsClaim, HoldsNone};
 ghost use Rattle.worker_board.specs.Rows.{IsOnlyClaim, IsFreeHand};
 
 use crate::no_memory;
+use memory_count::{Memory, NoMemory};
 use message_buffer::MsgBuf;
-use rpc_base::{NoMemory, RequestNo, SessionNo};
+use rpc_base::{RequestNo, SessionNo};
 use rpc_outside::{Duty, PlainDuty};
-use std::alloc::Global;
 use std::io;
 use worker_board::{Board, DispatchSeat, HandSeat, Parcel, Ticket};
 
@@ -21,14 +22,15 @@ const PLACES: u32 = 2;
 const ECHO: u8 = 129;
 
 /// An echo of two bytes.
-pub fn echo_of(alloc: Global, bytes: &[u8; 2]) -> Result<Parcel, NoMemory>
-    ensures { IfOk result (HasRoom background_answer) }
+pub fn echo_of(memory: &mut Memory, bytes: &[u8; 2]) -> Result<Parcel, NoMemory>
+    ensures room { IfOk result (HasRoom background_answer) }
+    ensures cause { HasCause memory.old memory.new result }
 {
-    let mut ask = MsgBuf::new(alloc, 2)?;
+    let mut ask = MsgBuf::new(memory, 2)?;
     ask.set_len(2);
     ask.write(0, bytes);
     let _asked = ask.bytes().len();
-    let mut out = MsgBuf::new(alloc, 2)?;
+    let mut out = MsgBuf::new(memory, 2)?;
     out.set_len(2);
     Ok(Parcel {
         session: SessionNo(0),
@@ -138,11 +140,11 @@ fn work_once(
 }
 
 /// Tells what becomes of two tickets of one place.
-pub fn one_ticket(rt: &impl Print, alloc: Global) -> io::Result<()> {
-    let (Ok(job), Ok(next)) = (echo_of(alloc, b"ab"), echo_of(alloc, b"cd")) else {
+pub fn one_ticket(memory: &mut Memory, rt: &impl Print) -> io::Result<()> {
+    let (Ok(job), Ok(next)) = (echo_of(memory, b"ab"), echo_of(memory, b"cd")) else {
         return Err(no_memory(NoMemory));
     };
-    let Ok((board, mut seat)) = Board::<PlainDuty>::new(alloc, PLACES) else {
+    let Ok((board, mut seat)) = Board::<PlainDuty>::new(memory, PLACES) else {
         return Err(no_memory(NoMemory));
     };
     work_once(rt, &board, &mut seat, job, next)

@@ -1,13 +1,13 @@
 //! A board whose tickets four threads claim.
 ghost use Rattle.std.specs.Prelude.{◌≡◌, ◌<◌, [], replicate, OnOk};
+ghost use Rattle.memory_count.specs.Faults.{HasCause};
 ghost use Rattle.worker_board.specs.Seats.{IsSeatOf, places_of, view_of};
 ghost use Rattle.worker_board.specs.Rows.{IsFreeHand, IsOfferedFrom};
 
 use crate::boards::{claim, echo_of, finish};
 use crate::no_memory;
-use rpc_base::NoMemory;
+use memory_count::{Memory, NoMemory};
 use rpc_outside::PlainDuty;
-use std::alloc::Global;
 use std::thread::Threads;
 use std::{io, thread};
 use worker_board::{Board, DispatchSeat, HandSeat, Ticket};
@@ -16,9 +16,9 @@ const TICKETS: u32 = 1_000;
 
 // Offers an echo at each place of a board that was never used.
 fn offer_all(
+    memory: &mut Memory,
     board: &Board<PlainDuty>,
     seat: &mut DispatchSeat,
-    alloc: Global,
     tickets: u32,
 ) -> Result<(), NoMemory>
     requires board { IsSeatOf board.now seat.old }
@@ -26,9 +26,10 @@ fn offer_all(
     requires new { (view_of seat.old).ledger ≡ replicate tickets [] }
     ensures board { IsSeatOf board.now seat.new }
     ensures offered { OnOk result (IsOfferedFrom 0 tickets (view_of seat.new)) }
+    ensures cause { HasCause memory.old memory.new result }
 {
     for place in 0..tickets {
-        let job = echo_of(alloc, b"ab")?;
+        let job = echo_of(memory, b"ab")?;
         board.offer(seat, place, job);
     }
     Ok(())
@@ -121,15 +122,15 @@ fn claim_by_four<R: Threads + Sync>(
 }
 
 /// Tells how many tickets four threads claim together, while the dispatcher looks for their jobs.
-pub fn four_threads<R: Print + Threads + Sync>(rt: &R, alloc: Global) -> io::Result<()> {
-    let Ok((board, mut seat)) = Board::<PlainDuty>::new(alloc, TICKETS) else {
+pub fn four_threads<R: Print + Threads + Sync>(memory: &mut Memory, rt: &R) -> io::Result<()> {
+    let Ok((board, mut seat)) = Board::<PlainDuty>::new(memory, TICKETS) else {
         return Err(no_memory(NoMemory));
     };
     let one = board.hand(&mut seat, 0);
     let two = board.hand(&mut seat, 1);
     let three = board.hand(&mut seat, 2);
     let four = board.hand(&mut seat, 3);
-    let Ok(()) = offer_all(&board, &mut seat, alloc, TICKETS) else {
+    let Ok(()) = offer_all(memory, &board, &mut seat, TICKETS) else {
         return Err(no_memory(NoMemory));
     };
     let shared = &board;

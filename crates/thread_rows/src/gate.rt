@@ -1,14 +1,15 @@
 //! Two hands at once: one job waits in its handler until another was answered.
 ghost use Rattle.std.specs.Prelude.{◌≡◌, [], map, IfOk, length};
+ghost use Rattle.memory_count.specs.Faults.{HasCause};
 ghost use Rattle.worker_crew.specs.Hands.{name_of};
 ghost use Rattle.worker_crew.specs.Jobs.{HasRoom};
 ghost use Rattle.worker_crew.specs.Spawning.{Started, CameBack};
 
 use crate::no_memory;
+use memory_count::{Memory, NoMemory};
 use message_buffer::MsgBuf;
-use rpc_base::{NoMemory, RequestNo, SessionNo};
+use rpc_base::{RequestNo, SessionNo};
 use rpc_outside::Duty;
-use std::alloc::Global;
 use std::sync::atomic::{AtomicBool, Ordering};
 use std::sync::{Arc, Wait};
 use std::thread::Threads;
@@ -54,12 +55,13 @@ impl Duty for Gate {
 }
 
 /// An echo of one byte.
-fn echo_of(alloc: Global, req_type: u8) -> Result<Parcel, NoMemory>
-    ensures { IfOk result (HasRoom (λ _ ask. ask)) }
+fn echo_of(memory: &mut Memory, req_type: u8) -> Result<Parcel, NoMemory>
+    ensures room { IfOk result (HasRoom (λ _ ask. ask)) }
+    ensures cause { HasCause memory.old memory.new result }
 {
-    let mut ask = MsgBuf::new(alloc, 1)?;
+    let mut ask = MsgBuf::new(memory, 1)?;
     ask.set_len(1);
-    let mut out = MsgBuf::new(alloc, 1)?;
+    let mut out = MsgBuf::new(memory, 1)?;
     out.set_len(1);
     Ok(Parcel {
         session: SessionNo(0),
@@ -153,14 +155,14 @@ fn work_two<D: Duty + Drop + Send + Sync + 'static, R: Threads + Wait + Sync + D
 
 // Gives two jobs to a crew of two hands, the first of which waits for the second, and takes both.
 fn give_two<R: Print + Threads + Wait + Copy + Send + Sync + 'static>(
+    memory: &mut Memory,
     rt: R,
-    alloc: Global,
     crew: Crew<Gate, R>,
     shelf: &mut Shelf,
     late: &Gate,
 ) -> io::Result<()> {
     let mut crew = crew;
-    let (Ok(first), Ok(second)) = (echo_of(alloc, 1), echo_of(alloc, 2)) else {
+    let (Ok(first), Ok(second)) = (echo_of(memory, 1), echo_of(memory, 2)) else {
         return Err(no_memory(NoMemory));
     };
     let given = crew.give(first).is_ok() && crew.give(second).is_ok();
@@ -175,21 +177,21 @@ fn give_two<R: Print + Threads + Wait + Copy + Send + Sync + 'static>(
 
 /// Tells whether both come back worked.
 pub fn two_hands<R: Print + Threads + Wait + Copy + Send + Sync + 'static>(
+    memory: &mut Memory,
     rt: R,
-    alloc: Global,
 ) -> io::Result<()> {
     let mut shelf = Shelf {
-        hands: Vec::new(alloc),
+        hands: Vec::new(memory.alloc()),
         refused: 0,
     };
     let gate = Gate {
         is_open: AtomicBool::new(false),
         was_late: AtomicBool::new(false),
     };
-    let gate = Arc::new(alloc, gate)?;
+    let gate = Arc::new(memory.alloc(), gate)?;
     let seen = Arc::try_clone(&gate)?;
-    let Ok(crew) = Crew::start(rt, alloc, gate, 2, 2, &mut shelf) else {
+    let Ok(crew) = Crew::start(memory, rt, gate, 2, 2, &mut shelf) else {
         return Err(no_memory(NoMemory));
     };
-    give_two(rt, alloc, crew, &mut shelf, &seen)
+    give_two(memory, rt, crew, &mut shelf, &seen)
 }

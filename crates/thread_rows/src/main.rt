@@ -6,7 +6,7 @@ mod boards;
 mod claims;
 mod gate;
 
-use rpc_base::NoMemory;
+use memory_count::{Memory, NoMemory};
 use std::io;
 
 /// An error of want of memory.
@@ -15,10 +15,11 @@ fn no_memory(_none: NoMemory) -> io::Error {
 }
 
 fn main(rt: HostRuntime) -> io::Result<()> {
+    let mut memory = Memory::new(rt.alloc());
     println!(rt; "a ticket is claimed once")?;
-    boards::one_ticket(&rt, rt.alloc())?;
+    boards::one_ticket(&mut memory, &rt)?;
     println!(rt; "four threads claim the same tickets")?;
-    claims::four_threads(&rt, rt.alloc())?;
+    claims::four_threads(&mut memory, &rt)?;
     println!(rt; "a job waits in its handler until another was answered")?;
-    gate::two_hands(rt, rt.alloc())
+    gate::two_hands(&mut memory, rt)
 }

@@ -1,5 +1,5 @@
 //! What differs from what a row expects.
-use rpc_base::NoMemory;
+use memory_count::NoMemory;
 use rpc_tools::Status;
 use std::alloc::{AllocError, AllocFailed};
 use std::fmt;

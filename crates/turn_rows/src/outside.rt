@@ -1,6 +1,7 @@
 //! What a row is run over.
 use crate::differs::Differs;
 use crate::rows::Failing;
+use memory_count::Memory;
 use rpc_outside::{MemLink, MemSink, MemSource};
 use std::alloc::{AllocError, Global};
 use worker_crew::SerialSpawner;
@@ -44,7 +45,8 @@ fn sink(alloc: Global, failing: Failing) -> Result<MemSink, Differs> {
         Failing::Write(call) => Some(call),
         Failing::Nothing | Failing::Read(_) | Failing::Link(_) => None,
     };
-    Ok(MemSink::new(alloc, ROOM, listed(alloc, fails)?)?)
+    let fails = listed(alloc, fails)?;
+    Ok(MemSink::new(&mut Memory::new(alloc), ROOM, fails)?)
 }
 
 fn source(alloc: Global, script: &str, failing: Failing) -> Result<MemSource, Differs> {
@@ -63,7 +65,8 @@ fn link(alloc: Global, failing: Failing) -> Result<MemLink, Differs> {
         Failing::Nothing | Failing::Read(_) | Failing::Write(_) => None,
     };
     let (fails, none) = (listed(alloc, fails)?, Vec::new(alloc));
-    Ok(MemLink::new(alloc, Vec::new(alloc), LINK_ROOM, fails, none)?)
+    let arrivals = Vec::new(alloc);
+    Ok(MemLink::new(&mut Memory::new(alloc), arrivals, LINK_ROOM, fails, none)?)
 }
 
 impl Outside {

@@ -2,6 +2,7 @@
 use crate::differs::{Differs, expect};
 use crate::outside::Outside;
 use crate::rows::{Failing, Row};
+use memory_count::Memory;
 use rpc_base::Peer;
 use rpc_outside::{MemLink, NoRecord, StepClock};
 use rpc_tools::{Status, run};
@@ -27,8 +28,8 @@ fn run_words<H: Wait + Drop>(
     outside: &mut Outside,
 ) -> Status {
     run(
+        &mut Memory::new(alloc),
         rt,
-        alloc,
         words,
         &mut outside.source,
         &mut outside.sink,

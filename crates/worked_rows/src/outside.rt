@@ -1,4 +1,5 @@
 //! What a row is run over.
+use memory_count::Memory;
 use rpc_outside::{MemSink, MemSource};
 use std::alloc::{AllocError, Global};
 use std::io;
@@ -30,7 +31,7 @@ impl Drop for Outside {
 }
 
 fn sink(alloc: Global, fails: Vec<u64>) -> io::Result<MemSink> {
-    match MemSink::new(alloc, ROOM, fails) {
+    match MemSink::new(&mut Memory::new(alloc), ROOM, fails) {
         Ok(sink) => Ok(sink),
         Err(_) => Err(io::Error::from(io::ErrorKind::OutOfMemory)),
     }

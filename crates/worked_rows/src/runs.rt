@@ -1,6 +1,7 @@
 //! The program is run over a source and a sink in memory.
 use crate::outside::{Failing, Outside};
 use crate::reports::{Wants, facts_in, is_front, is_lawful_line};
+use memory_count::Memory;
 use rpc_outside::{FirmLink, NoRecord, StepClock};
 use rpc_tools::{Status, run};
 use std::alloc::{AllocError, Global};
@@ -24,8 +25,8 @@ fn run_words<H: Wait + Drop>(
     outside: &mut Outside,
 ) -> Status {
     run(
+        &mut Memory::new(alloc),
         rt,
-        alloc,
         words,
         &mut outside.source,
         &mut outside.sink,
