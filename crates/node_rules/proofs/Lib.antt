@@ -1,2 +1,2 @@
 pub mod ControlLemmas
-mod NotedLemmas
+pub mod NotedLemmas

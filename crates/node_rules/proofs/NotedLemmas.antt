@@ -43,7 +43,7 @@ alone : (a : Bool) → (a || false) ≡ true → a ≡ true
 alone true e = refl
 alone false e = cc
 
-no-bytes : (xs : List ℕ) → (length xs == 0) ≡ true → xs ≡ []
+pub no-bytes : (xs : List ℕ) → (length xs == 0) ≡ true → xs ≡ []
 no-bytes [] e = refl
 no-bytes (x ∷ xs) e = let n : length (x ∷ xs) ≡ 0 = eqb-true (length (x ∷ xs)) 0 e in absurd (omega (arith, n))
 

@@ -3,6 +3,7 @@ use Rattle.std.proofs.Common.{◌≡◌, ℕ, Bool, true, ◌&&◌, List, [], �
 use Rattle.std.proofs.Common.{length, refl, sym, ap, ◌∙◌, subst, arith}
 use Rattle.std.specs.Prelude.{◌==◌, ◌↔◌, IsTrue, if◌then◌else◌}
 use Rattle.std.proofs.lemmas.Bool.{and_from, and_parts, eq-eqb, eqb-true}
+use Rattle.node_rules.proofs.NotedLemmas.{no-bytes}
 use Rattle.rpc_base.specs.declared.event.Event.{Event}
 use Rattle.rpc_base.specs.declared.event.Event.TheVariants.{Heard, Accepted, Declined, Starved}
 use Rattle.rpc_base.specs.declared.event.Event.TheVariants.{Connected as IsConnected, FailedNoRoom}
@@ -28,10 +29,6 @@ use Rattle.rule_facts.specs.Tells.{tells_connected, tells_declined, tells_done_p
 use Rattle.rule_facts.specs.Tells.{tells_dropped, tells_ended, tells_failed_no_answer, tells_failed_no_room}
 use Rattle.rule_facts.specs.Tells.{tells_flushed, tells_given, tells_heard, tells_polled, tells_posted}
 use Rattle.rule_facts.specs.Tells.{tells_rolled, tells_starved, tells_took}
-
-no-bytes : (xs : List ℕ) → (length xs == 0) ≡ true → xs ≡ []
-no-bytes [] e = refl
-no-bytes (x ∷ xs) e = let n : length (x ∷ xs) ≡ 0 = eqb-true (length (x ∷ xs)) 0 e in absurd (omega (arith, n))
 
 pub own-node : (me : ℕ) (who : Who) → is_node me who ≡ true → who ≡ Node me
 own-node me (Node n) e = ap (λ (k : ℕ). Node k) (eqb-true n me e)
