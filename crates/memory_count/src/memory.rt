@@ -85,9 +85,10 @@ impl Memory {
         }
     }
 
-    /// Counts a refusal of which a library of the kit told otherwise than by an `AllocError`: `clap`
-    /// tells it by a kind of its errors, `atomic_table` by a `Refused`. That memory was refused then
-    /// is trusted, so only `command_line` and `shared_pool` call this, and only at these.
+    /// Counts a refusal that no `AllocError` told: `clap` tells it by a kind of its errors,
+    /// `atomic_table` by a `Refused`, and a count of facts that 64 bits can't hold is of more facts
+    /// than memory holds. That memory was refused then is trusted, so only `command_line`,
+    /// `shared_pool` and `node_tables` call this, and only at these.
     pub fn told(&mut self) -> NoMemory
         ensures cause { HasRisen self.old self.new }
     {
