@@ -1,6 +1,6 @@
 -- What a chain is after a link was written.
 use Rattle.std.proofs.Common.{◌≡◌, ◌≢◌, ℕ, zero, suc, ◌+◌, ◌<◌, List, [], ◌∷◌, ◌++◌, length, set, refl, ap, ◌∙◌}
-use Rattle.std.proofs.Common.{arith, cond, eq-eqb, ne_eqb, subst}
+use Rattle.std.proofs.Common.{arith, subst}
 use Rattle.rpc_base.proofs.TotalsLemmas.{only-same}
 use Rattle.rpc_base.specs.Totals.{only}
 use Rattle.pacing_wheel.specs.declared.chains.Link.{Link}

@@ -1,5 +1,5 @@
 -- Chains in an array: which places of it a chain has, and that no place is in two.
-use Rattle.std.specs.Prelude.{◌≡◌, ℕ, zero, suc, ◌+◌, ◌<◌, ◌≤◌, ◌==◌, List, [], ◌∷◌, ◌++◌, None, length, map, slice_index_or, cond}
+use Rattle.std.specs.Prelude.{◌≡◌, ℕ, zero, suc, ◌+◌, ◌<◌, ◌≤◌, List, [], ◌∷◌, ◌++◌, None, length, map, slice_index_or}
 use Rattle.std.specs.List.{AllByRecursion}
 use Rattle.rpc_base.specs.Totals.{only}
 use Rattle.rpc_base.specs.declared.owner.Owner.TheVariants.{Control}

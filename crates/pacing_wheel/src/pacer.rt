@@ -132,6 +132,9 @@ impl Pacer {
         ensures due { result ≡ least (is_due now) due_of self.now.items }
         ensures none { IsNone result ↔ (list_any (is_due now) self.now.items ≡ false) }
     {
+        if self.is_empty() {
+            return None;
+        }
         self.overflow.sound();
         self.dial.sound();
         earlier(self.overflow.first_due(now), self.dial.first_due(now))
