@@ -1,7 +1,10 @@
 pub mod AnswerLemmas
+pub mod BegunLemmas
+mod CallsLemmas
 pub mod ControlRows
 pub mod PacingRows
 pub mod PollLemmas
+pub mod PartsLemmas
 pub mod QueuesLemmas
 pub mod ReadyLemmas
 pub mod RunLemmas

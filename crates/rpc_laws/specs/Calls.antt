@@ -1,6 +1,6 @@
 -- The table of calls: a call waits from Asked, is active from Begun, and leaves the table at its
 -- Done.
-use Rattle.std.specs.Prelude.{ℕ, ◌+◌, ◌-◌, ◌==◌, Bool, true, false, Option, Some, None, option_map}
+use Rattle.std.specs.Prelude.{ℕ, ◌+◌, ◌-◌, ◌==◌, Bool, false, Option, Some, None, option_map}
 use Rattle.std.specs.Prelude.{is_none, List, [], ◌∷◌, ◌++◌, length, if◌then◌else◌}
 pub use Rattle.packet_header.specs.Kinds.{is_response}
 use Rattle.packet_header.specs.Parts.{packet_count}

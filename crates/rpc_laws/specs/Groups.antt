@@ -1,5 +1,5 @@
 -- What an application call notes at a node, and what room its sessions leave.
-use Rattle.std.specs.Prelude.{ℕ, ◌≡◌, ◌+◌, ◌^◌, ◌==◌, ◌||◌, nat_lt, nat_le, Bool, not, Option, Some}
+use Rattle.std.specs.Prelude.{ℕ, ◌≡◌, ◌+◌, ◌==◌, ◌||◌, nat_lt, nat_le, Bool, not, Option, Some}
 use Rattle.std.specs.Prelude.{None, List, [], ◌∷◌, length, sum_by, if◌then◌else◌}
 use Rattle.std.specs.List.{find}
 use Rattle.rpc_base.specs.declared.event.Event.{Event}

@@ -1,6 +1,8 @@
 pub mod AtMostOnce
+pub mod BegunPart
 pub mod BufferSafety
 pub mod Calls
+pub mod CallsLoan
 pub mod ClientTable
 pub mod ControlSteps
 pub mod ControlTable

@@ -1,4 +1,5 @@
 //! What a history leaves at a node: its lists and tables, as plain data that definitions speak of.
+use crate::calls::Calls;
 use packet_header::{Life, Packet};
 use rpc_base::{CallNo, Listed, NodeId, Octets, Owner, Peer, RequestNo, SessionNo, SessionState};
 
@@ -81,7 +82,7 @@ pub struct Client {
     pub asked: u64,
     /// How many requests began in each of its eight slots.
     pub turns: Listed<u64>,
-    pub calls: Listed<Call>,
+    pub calls: Calls,
 }
 
 /// The newest request of a slot of a server session.
