@@ -1,4 +1,5 @@
 pub mod Counting
+pub mod Effects
 pub mod Handing
 pub mod Keeping
 pub mod KeepsEntries

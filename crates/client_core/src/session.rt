@@ -1,33 +1,24 @@
 //! A client session: its calls begin and post here. What replies and timeouts do to them stands in
 //! the modules below.
-ghost use Rattle.std.specs.Prelude.{◌≡◌, ◌<◌, ◌≤◌, ◌+◌, ◌^◌, ◌↔◌, ◌⊎◌, ℕ, List, [], ◌∷◌};
-ghost use Rattle.std.specs.Prelude.{◌++◌, false, count_by, length, option_map, IfErr, IfNone};
-ghost use Rattle.std.specs.Prelude.{◌-◌, IfSome, IsNone, IsTrue, OnErr, OnOk, option_copied};
+ghost use Rattle.std.specs.Prelude.{◌≡◌, ◌<◌, ◌≤◌, ◌+◌, ◌↔◌, ℕ, [], ◌∷◌};
+ghost use Rattle.std.specs.Prelude.{false, length, IfErr};
+ghost use Rattle.std.specs.Prelude.{◌-◌, IsNone, IsTrue, OnErr, OnOk, option_copied};
 ghost use Rattle.std.specs.Prelude.{slice_get};
 ghost use Rattle.std.specs.List.{list_any};
 ghost use Rattle.memory_count.specs.Faults.{HasCause};
 ghost use Rattle.packet_header.specs.Header.{AreBytes};
 ghost use Rattle.buffer_pool.specs.Pool.{Pool, spare_of};
 ghost use Rattle.credit_book.specs.Credits.{limit_of};
-ghost use Rattle.rpc_laws.specs.Posting.{beginning, posting};
-ghost use Rattle.session_slots.specs.Slots.{lowest_free};
-ghost use Rattle.rpc_base.specs.declared.owner.Owner.TheVariants.{Ask};
-ghost use Rattle.packet_rings.specs.Entries.{is_of};
-ghost use Rattle.packet_rings.specs.Still.{Still, StillWith};
-ghost use Rattle.packet_rings.specs.Values.{EntryValue};
-ghost use Rattle.client_core.specs.Counting.{Counts, CountsQueued};
-ghost use Rattle.client_core.specs.Handing.{handed_of, handed_waiting};
-ghost use Rattle.client_core.specs.KeepsEntries.{KeepsEntries};
-ghost use Rattle.client_core.specs.KeepsPool.{CanHold, IsHeld, KeepsPool, LeavesOthers, held_for};
-ghost use Rattle.client_core.specs.Posting.{IsPacketOf, Starts, call_of, flushed_at, next_entry, posted, sent_at};
+ghost use Rattle.client_core.specs.Effects.{BeginsNext, Flushes, Posts, Sends, Waits};
+ghost use Rattle.client_core.specs.KeepsPool.{CanHold, KeepsPool};
+ghost use Rattle.client_core.specs.Posting.{IsPacketOf, call_of, posted};
 ghost use Rattle.client_core.specs.Replies.{call_as};
-ghost use Rattle.client_core.specs.Session.{IsSession, bytes_in, can_post, enqueued, new_session};
+ghost use Rattle.client_core.specs.Session.{IsSession, bytes_in, new_session};
 ghost use Rattle.client_core.specs.Session.{queued_in};
-ghost use Rattle.client_core.specs.Shown.{asked, begun_event, packet_of, paired, posted_event};
-ghost use Rattle.client_core.specs.Shown.{sent_event, shown, stepped};
-ghost use Rattle.client_core.specs.Timeouts.{is_numbered};
+ghost use Rattle.client_core.specs.Shown.{asked, packet_of, paired};
+ghost use Rattle.client_core.specs.Shown.{shown};
 ghost use Rattle.client_core.specs.Watching.{is_after, next_told};
-ghost use Rattle.client_core.specs.Keeping.{LeavesEntry, MayLeave};
+ghost use Rattle.client_core.specs.Keeping.{MayLeave};
 ghost use Rattle.rpc_laws.specs.Packets.{IsSpelled};
 
 mod conditions;
@@ -189,11 +180,7 @@ impl ClientSession {
     pub fn enqueue(&mut self, memory: &mut Memory, w: Waiting) -> Result<(), Waiting>
         requires message { w.req.len ≤ MOST_MESSAGE_BYTES }
         requires turns { self.old.slots.taken < MOST_CALLS }
-        ensures waits { OnOk result (self.new ≡ enqueued w self.old) }
-        ensures step { OnOk result ((pool : Pool) → (clock peer : ℕ)
-            → asked clock w (shown pool peer self.old) ≡ shown pool peer self.new ∷ []) }
-        ensures handed { OnOk result ((pool : Pool)
-            → handed_of pool self.new ≡ handed_of pool self.old ++ handed_waiting w ∷ []) }
+        ensures waits { OnOk result (Waits w self.old self.new) }
         ensures unchanged { OnErr result (self.new ≡ self.old) }
         ensures handed_back { IfErr result (λ back. back ≡ w) }
         ensures cause { HasCause memory.old memory.new result }
@@ -217,27 +204,7 @@ impl ClientSession {
     pub fn begin(&mut self, pool: &mut BufferPool) -> Option<(CallNo, RequestNo)>
         requires keeps_pool { KeepsPool pool.old self.old.active }
         requires spare { 2 ≤ spare_of pool.old }
-        ensures none { IsNone result ↔ ((self.old.slots.waiting ≡ [])
-            ⊎ (lowest_free self.old.slots ≡ None)) }
-        ensures unchanged { IfNone result ((self.new ≡ self.old) × (pool.new ≡ pool.old)) }
-        ensures turn { (peer : ℕ) → beginning (shown pool.old peer self.old)
-            ≡ option_map begun_event result }
-        // As the call Begun of the definitions, where no active call has this call's number
-        // already.
-        ensures step { IfSome result (λ b. (clock peer : ℕ)
-            → list_any (is_numbered b.0) self.old.active ≡ false →
-            stepped clock (begun_event b) (shown pool.old peer self.old)
-            ≡ shown pool.new peer self.new ∷ []) }
-        ensures starts { IfSome result (λ b. Starts b.0 b.1 self.old self.new pool.old pool.new) }
-        ensures handed { handed_of pool.new self.new ≡ handed_of pool.old self.old }
-        ensures others { LeavesOthers self.old.active self.new.active pool.old pool.new }
-        ensures entries { KeepsEntries self.old self.new }
-        ensures counts { Still (Counts pool.old) (Counts pool.new) }
-        // No entry of the call that begins is there yet.
-        ensures queued { (entries : List EntryValue) → CountsQueued self.old entries
-            → IfSome result (λ b. count_by (is_of (Ask self.old.number b.1)) entries ≡ 0
-            → CountsQueued self.new entries) }
-        ensures keeps_pool { KeepsPool pool.new self.new.active }
+        ensures { BeginsNext result self.old self.new pool.old pool.new }
     {
         let Some((request, waiting)) = self.slots.begin() else {
             return None;
@@ -263,25 +230,7 @@ impl ClientSession {
     pub fn post(&mut self, pool: &mut BufferPool, peer: Peer) -> Option<Entry>
         requires keeps_pool { KeepsPool pool.old self.old.active }
         requires can_hold { CanHold pool.old self.old.active }
-        ensures entry { result ≡ next_entry peer self.old }
-        ensures none { IsNone result ↔ ((self.old.credits.free ≡ 0)
-            ⊎ (list_any can_post self.old.active ≡ false)) }
-        ensures session { self.new ≡ posted self.old }
-        ensures turn { posting (shown pool.old peer self.old) ≡ option_map posted_event result }
-        ensures step { IfSome result (λ e. (clock : ℕ)
-            → stepped clock (posted_event e) (shown pool.old peer self.old)
-            ≡ shown pool.new peer self.new ∷ []) }
-        ensures pool { pool.new ≡ held_for result pool.old }
-        ensures stands { IfSome result (λ e. IsPacketOf (call_of self.new e) e) }
-        ensures held { IfSome result (λ e. IsHeld pool.new e.place) }
-        ensures handed { handed_of pool.new self.new ≡ handed_of pool.old self.old }
-        ensures others { LeavesOthers self.old.active self.new.active pool.old pool.new }
-        ensures entries { KeepsEntries self.old self.new }
-        ensures counts { IfSome result
-            (λ e. StillWith (e ∷ []) (Counts pool.old) (Counts pool.new)) }
-        ensures queued { IfSome result
-            (λ e. StillWith (e ∷ []) (CountsQueued self.old) (CountsQueued self.new)) }
-        ensures keeps_pool { KeepsPool pool.new self.new.active }
+        ensures { Posts peer result self.old self.new pool.old pool.new }
     {
         if self.credits.free() == 0 {
             return None;
@@ -311,10 +260,7 @@ impl ClientSession {
     /// whose answer is wanted next, the call's clock starts anew at `now`, in microseconds.
     pub fn sent(&mut self, pool: &mut BufferPool, entry: &Entry, now: u64)
         requires { MayLeave entry.now self.old pool.old }
-        ensures session { self.new ≡ sent_at entry.now now self.old }
-        ensures step { (peer : ℕ) → stepped now (sent_event entry.now)
-            (shown pool.old peer self.old) ≡ shown pool.new peer self.new ∷ [] }
-        ensures leaves { LeavesEntry entry.now self.old self.new pool.old pool.new }
+        ensures { Sends entry.now now self.old self.new pool.old pool.new }
     {
         pool.release_at(entry.place);
         self.calls.mark(self.number, entry.owner, entry.number, now);
@@ -323,9 +269,7 @@ impl ClientSession {
     /// An entry that was posted is taken out unsent: its reference is given up.
     pub fn flushed(&mut self, pool: &mut BufferPool, entry: &Entry)
         requires { MayLeave entry.now self.old pool.old }
-        ensures session { self.new ≡ flushed_at entry.now self.old }
-        ensures shown { (peer : ℕ) → shown pool.new peer self.new ≡ shown pool.old peer self.old }
-        ensures leaves { LeavesEntry entry.now self.old self.new pool.old pool.new }
+        ensures { Flushes entry.now self.old self.new pool.old pool.new }
     {
         pool.release_at(entry.place);
         self.calls.leave(self.number, entry.owner);

@@ -1,5 +1,5 @@
 -- What a session needs to handle a Request or RFR, and what handling it leaves.
-use Rattle.std.specs.Prelude.{◌≡◌, ℕ, ◌<◌, ◌++◌, Bool, false, true, List, Some, IfSome}
+use Rattle.std.specs.Prelude.{◌≡◌, ℕ, ◌<◌, ◌++◌, [], Bool, false, true, List, None, Some, IfSome}
 use Rattle.buffer_pool.specs.Pool.{Pool, spare_of}
 use Rattle.packet_header.specs.declared.packet.MessageHeader.{MessageHeader}
 use Rattle.packet_rings.specs.Rings.{ring}
@@ -9,6 +9,7 @@ use Rattle.rpc_base.specs.declared.fact.Who.{Who}
 use Rattle.rpc_base.specs.declared.state.DropReason.TheVariants.{NoMemory}
 use Rattle.rpc_laws.specs.declared.rows.ServerRow.{ServerRow}
 use Rattle.rpc_laws.specs.declared.rows.ServerRow.TheVariants.{Begins, Drops}
+use Rattle.rpc_laws.specs.Requests.{given}
 use Rattle.rpc_laws.specs.ServerTable.{server_row}
 use Rattle.rpc_laws.specs.declared.tables.Server.{Server}
 use Rattle.rpc_outside.specs.Recording.{Log}
@@ -16,17 +17,17 @@ use Rattle.rpc_outside.specs.declared.service.Mode.{Mode}
 use Rattle.rpc_outside.specs.declared.service.Service as Service
 use Rattle.server_core.specs.Counting.{IsCounted}
 use Rattle.server_core.specs.Flushing.{HoldsReplies, replies_of, ring_after}
-use Rattle.server_core.specs.Keeping.{KeepsPlaces, KeepsReplies}
+use Rattle.server_core.specs.Keeping.{BeginsWithReply, GivesReply, KeepsPlaces, KeepsReplies}
 use Rattle.server_core.specs.KeepsPool.{KeepsPool}
-use Rattle.server_core.specs.Noting.{Handled, IsByRule}
+use Rattle.server_core.specs.Noting.{Handled, IsByRule, IsServed}
 use Rattle.server_core.specs.Replies.{CanHold}
 use Rattle.server_core.specs.Rows.{row_of}
-use Rattle.server_core.specs.Scene.{Desk, Incoming, Pooled, Scene, without_ring}
+use Rattle.server_core.specs.Scene.{Desk, Incoming, Pooled, Scene, in_scene, seen, without_ring}
 use Rattle.server_core.specs.Session.{Session, newest}
 use Rattle.server_core.specs.Shown.{shown}
 use Rattle.server_core.specs.Steps.{AreServed, HasNoBytes, IfGiven, IfRan, IfReply, IsParcel}
 use Rattle.server_core.specs.Steps.{IsReply, IsStepOf, LeavesPool, LeavesSession, NeedsNoMemory}
-use Rattle.server_core.specs.Steps.{UnlessRan, asked_with, whole_with}
+use Rattle.server_core.specs.Steps.{UnlessRan, asked_with, begun_with, first_shown, whole_with}
 use Rattle.server_core.specs.declared.step.Step.{Step}
 use Rattle.server_core.specs.declared.step.Step.TheVariants.{Dropped}
 
@@ -49,9 +50,7 @@ pub record Leaves {V R : Type 0} (v : Service.Ghosts V) (log : R → Log)
     (before after : Scene Pooled V R) : Type 0 where
   -- as the facts Took, Ran and Given of the definitions. The answer of a handler that ran is that
   -- of each list of requests that the service stands for
-  pub handled : Handled log before.recorder after.recorder noted v.answer (v.stands before.service)
-      (v.stands after.service) h body (shown before.state.pool before.state.session)
-      (shown after.state.pool after.state.session) step
+  pub handled : Handled v log noted h body step (seen before) (seen after)
   pub reply : IfReply step (IsReply h.request h.number after.state.session after.state.pool)
   pub give : IfGiven step (IsParcel v.answer (v.stands before.service) h body
       (shown before.state.pool before.state.session))
@@ -62,6 +61,27 @@ pub record Leaves {V R : Type 0} (v : Service.Ghosts V) (log : R → Log)
   pub pool : LeavesPool step before.state.pool after.state.pool
   pub all_served : AreServed v.mode_of after.state.session.slots
   pub places : KeepsPlaces before.state.session after.state.session before.state.pool
+      after.state.pool
+
+-- a request that was taken with its last packet is answered: its handler ran, it has given its
+-- bytes up, and the entry is the reply to that packet
+pub record AnswersInline {V R : Type 0} (v : Service.Ghosts V) (log : R → Log) (who : Who)
+    (h : MessageHeader) (ask : List ℕ) (e : EntryValue) (before after : Scene Pooled V R)
+    : Type 0 where
+  pub answers : IsServed v log who h ask (seen before) (seen after)
+  pub no_bytes : HasNoBytes (newest h.request after.state.session)
+  pub replies : GivesReply h.request h.number e before.state.session after.state.session
+      before.state.pool after.state.pool
+
+-- and so is one that begins with this packet, its only one
+pub record BeginsInline {V R : Type 0} (v : Service.Ghosts V) (log : R → Log) (who : Who)
+    (h : MessageHeader) (body : List ℕ) (e : EntryValue) (before after : Scene Pooled V R)
+    : Type 0 where
+  pub answers : IsServed v log who h body
+      (in_scene (begun_with (given (first_shown h [] None)) (seen before).state) before)
+      (seen after)
+  pub no_bytes : HasNoBytes (newest h.request after.state.session)
+  pub replies : BeginsWithReply h e before.state.session after.state.session before.state.pool
       after.state.pool
 
 -- the facts that a packet of a row leaves, by the entries before it, all that was taken of its
@@ -75,9 +95,10 @@ abbrev pub row_for : {V : Type 0} → Service.Ghosts V → Incoming → Session 
 row_for v packet s = row_of (v.mode_of packet.head.req_type) packet.jobs_full packet.head s
 
 -- and what the server rule says of it, by what is shown of its session
-abbrev pub rule_for : {V : Type 0} → Service.Ghosts V → (lacks : Bool) → Incoming → Server → ServerRow
-rule_for v lacks packet x =
-    server_row (v.mode_of packet.head.req_type) packet.jobs_full lacks (Some x) x.way.peer packet.head
+abbrev pub rule_for : {V : Type 0} → Service.Ghosts V → (lacks : Bool) → Incoming → Server
+    → ServerRow
+rule_for v lacks packet x = server_row (v.mode_of packet.head.req_type) packet.jobs_full lacks
+    (Some x) x.way.peer packet.head
 
 -- the session handled the packet by the server rule, and these facts were noted
 pub record Handles {V R : Type 0} (v : Service.Ghosts V) (log : R → Log) (notes : Notes)

@@ -42,7 +42,8 @@ pub record StaysSound (more : List EntryValue) (s w : Session) (before after : P
   pub served : (mode_of : ℕ → Mode) → AreServed mode_of s.slots → AreServed mode_of w.slots
 
 -- so it is of a call that gives the reply to packet k of request r
-pub record GivesReply (r k : ℕ) (e : EntryValue) (s w : Session) (before after : Pool) : Type 0 where
+pub record GivesReply (r k : ℕ) (e : EntryValue) (s w : Session) (before after : Pool)
+    : Type 0 where
   pub reply : IsReply r k w after e
   pub stays : StaysSound (e ∷ []) s w before after
 

@@ -16,7 +16,6 @@ use Rattle.rpc_laws.specs.declared.tables.Server.{Server}
 use Rattle.rpc_laws.specs.Requests.{answered}
 use Rattle.rpc_laws.specs.ServerTable.{served_facts}
 use Rattle.rpc_outside.specs.Recording.{Grew, Log}
-use Rattle.rpc_outside.specs.Served.{Served}
 use Rattle.rpc_outside.specs.declared.service.Mode.{Mode}
 use Rattle.rpc_outside.specs.declared.service.Service as Service
 use Rattle.server_core.specs.declared.step.Step.{Step}
@@ -92,15 +91,14 @@ early_facts who s entries row h ask answer step =
 
 -- what a packet makes of the session, what is noted, and that the answer of a handler that ran is
 -- the service's
-pub record Handled {R : Type 0} (log : R → Log) (before now : R)
-    (noted : (answer : List ℕ) → List Fact) (answer_of : Served → ℕ → List ℕ → List ℕ)
-    (stands after : Served → Type 0) (h : MessageHeader) (body : List ℕ) (v w : Server)
-    (step : Step) : Type 0 where
+pub record Handled {V R : Type 0} (v : Service.Ghosts V) (log : R → Log)
+    (noted : (answer : List ℕ) → List Fact) (h : MessageHeader) (body : List ℕ) (step : Step)
+    (before after : Scene Server V R) : Type 0 where
   pub answer : List ℕ
-  pub steps : Steps step answer h body v w
-  pub by_service :
-      IfRan step (IsAnswer answer_of stands after h.req_type (asked_with h body v) answer)
-  pub grew : Grew (log before) (log now) (noted answer)
+  pub steps : Steps step answer h body before.state after.state
+  pub by_service : IfRan step (IsAnswer v.answer (v.stands before.service)
+      (v.stands after.service) h.req_type (asked_with h body before.state) answer)
+  pub grew : Grew (log before.recorder) (log after.recorder) (noted answer)
 
 -- a request that is taken with all its bytes is answered by its handler
 pub record IsServed {V R : Type 0} (v : Service.Ghosts V) (log : R → Log) (who : Who)

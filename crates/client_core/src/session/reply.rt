@@ -1,26 +1,19 @@
 //! The client table: what a CR or Response does to the call that it is for.
-ghost use Rattle.std.specs.Prelude.{◌≡◌, ◌≢◌, ◌+◌, ◌≤◌, ℕ, List, [], ◌∷◌, true, length, Some};
-ghost use Rattle.std.specs.List.{list_any};
-ghost use Rattle.rpc_base.specs.declared.owner.Owner.TheVariants.{Ask};
-ghost use Rattle.rpc_laws.specs.declared.tables.Queued.{Queued};
-ghost use Rattle.rpc_laws.specs.ClientTable.{client_ending, client_row};
-ghost use Rattle.rpc_laws.specs.Queues.{is_queued};
-ghost use Rattle.client_core.specs.Shown.{IsAloneAfter, after_outcome, ending_facts, shown};
+ghost use Rattle.std.specs.Prelude.{◌≡◌, ◌≢◌, ◌+◌, ◌≤◌, true, length, Some};
 ghost use Rattle.rpc_laws.specs.declared.rows.ClientRow.TheVariants.{Takes};
 ghost use Rattle.rpc_laws.specs.declared.rows.EndRow.TheVariants.{GoesOn};
 ghost use Rattle.message_buffer.specs.Buffer.{capacity_of, with_len};
 ghost use Rattle.buffer_pool.specs.Pool.{buf_at};
 ghost use Rattle.packet_header.specs.Header.{MessageInRange};
 ghost use Rattle.rpc_laws.specs.Calls.{is_response};
-ghost use Rattle.client_core.specs.Handing.{HandsBackBy, handed_of};
-ghost use Rattle.client_core.specs.KeepsEntries.{RepliesKeep};
+ghost use Rattle.client_core.specs.Effects.{RepliesTo};
 ghost use Rattle.client_core.specs.KeepsPool.{IsKept, KeepsPool};
 ghost use Rattle.client_core.specs.Session.{IsInTurn};
 ghost use Rattle.client_core.specs.Replies.{IsDone, IsPart, IsTaken, IsUnheld, NextIsUnheld};
 ghost use Rattle.client_core.specs.Replies.{Replies, after_reply, answered, call_as, end_of};
-ghost use Rattle.client_core.specs.Replies.{reply_row, returned, rewritten_at, row_told, sized};
+ghost use Rattle.client_core.specs.Replies.{returned, rewritten_at, row_told, sized};
 ghost use Rattle.client_core.specs.Replies.{with_part, without_buffers, without_call};
-ghost use Rattle.client_core.specs.Keeping.{IsActive, StillKeeps, StillKeepsAll};
+ghost use Rattle.client_core.specs.Keeping.{IsActive, StillKeeps};
 
 use super::ClientSession;
 use crate::call::ActiveCall;
@@ -50,26 +43,8 @@ impl ClientSession {
         // is the only unanswered packet.
         requires unheld { NextIsUnheld pool.old queued head.now.number
             (call_as head.now.request self.old) }
-        ensures row { row_told result ≡ reply_row queued head.now (length body.now)
-            (call_as head.now.request self.old) }
-        // As the client rule says of what is shown, whatever else is queued.
-        ensures rule { (queue : List Queued) → list_any
-            (is_queued (Ask head.now.session head.now.request) head.now.number) queue ≡ queued →
-            (peer : ℕ) → client_row queue (Some (shown pool.old peer self.old)) peer head.now
-            (length body.now) ≡ row_told result }
-        ensures facts { row_told result ≡ Takes → (me peer : ℕ)
-            → client_ending me head.now body.now (Some (shown pool.old peer self.old))
-            ≡ ending_facts me result }
-        // As the facts Took and Done of the definitions, where no other active call has this call's
-        // number.
-        ensures step { IsAloneAfter result self.old → (peer : ℕ) →
-            after_outcome now result head.now body.now (shown pool.old peer self.old)
-            ≡ shown pool.new peer self.new ∷ [] }
-        ensures replies { Replies result now head.now body.now self.old self.new pool.old pool.new }
-        ensures handed { HandsBackBy result self.old.number (handed_of pool.old self.old)
-            (handed_of pool.new self.new) }
-        ensures entries { RepliesKeep result head.now.request self.old self.new }
-        ensures still { StillKeepsAll self.old self.new pool.old pool.new }
+        ensures { RepliesTo now head.now body.now queued result self.old self.new pool.old
+            pool.new }
     {
         let Some(call) = self.calls.of_request(head.request) else {
             return Reply::Dropped(DropReason::NoCall);

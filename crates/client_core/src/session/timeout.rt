@@ -1,5 +1,5 @@
 //! Timeouts: a call is rolled back, and the calls of a session that lost its peer end.
-ghost use Rattle.std.specs.Prelude.{◌≡◌, ◌<◌, ◌↔◌, ℕ, Bool, false, List, [], ◌∷◌, IfNone, IfSome};
+ghost use Rattle.std.specs.Prelude.{◌≡◌, ◌<◌, ◌↔◌, Bool, false, List, [], IfNone, IfSome};
 ghost use Rattle.std.specs.Prelude.{IsNone, IsSome, Some};
 ghost use Rattle.std.specs.List.{AllByRecursion, list_any};
 ghost use Rattle.rpc_base.specs.declared.owner.Owner.TheVariants.{Ask};
@@ -8,17 +8,13 @@ ghost use Rattle.rpc_laws.specs.declared.tables.Queued.{Queued};
 ghost use Rattle.rpc_laws.specs.GoBackN.{row_of};
 ghost use Rattle.rpc_laws.specs.Queues.{is_queued};
 ghost use Rattle.client_core.specs.declared.outcome.Timer.TheVariants.{Quiet};
-ghost use Rattle.packet_rings.specs.Still.{Still};
-ghost use Rattle.client_core.specs.Counting.{Counts, CountsQueued};
-ghost use Rattle.client_core.specs.Handing.{HandsBack, handed_of};
-ghost use Rattle.client_core.specs.KeepsEntries.{KeepsOthers, LossKeeps};
-ghost use Rattle.client_core.specs.KeepsPool.{KeepsPool, LeavesOthers};
+ghost use Rattle.client_core.specs.Effects.{LosesNext, RollsBack};
+ghost use Rattle.client_core.specs.KeepsPool.{KeepsPool};
 ghost use Rattle.rpc_laws.specs.declared.rows.TimerRow.TheVariants.{Waits};
-ghost use Rattle.client_core.specs.Losing.{GivesUp, Loses, next_lost};
+ghost use Rattle.client_core.specs.Losing.{GivesUp};
 ghost use Rattle.client_core.specs.Replies.{IsUnheld};
-ghost use Rattle.client_core.specs.Shown.{IsAlone, done_event, rolled_event, shown, shown_active};
-ghost use Rattle.client_core.specs.Shown.{shown_broken, stepped};
-ghost use Rattle.client_core.specs.Timeouts.{after_roll, call_numbered, call_timer, timer_told};
+ghost use Rattle.client_core.specs.Shown.{shown_active};
+ghost use Rattle.client_core.specs.Timeouts.{call_numbered, call_timer, timer_told};
 
 use super::ClientSession;
 use super::reply::returned;
@@ -59,18 +55,7 @@ impl ClientSession {
         requires active { IsSome (call_numbered call self.old) }
         requires few { IfSome (call_numbered call self.old) (λ c. c.rolls < 8) }
         requires idle { IfSome (call_numbered call self.old) (λ c. c.queued ≡ 0) }
-        ensures session { IfSome (call_numbered call self.old)
-            (λ c. self.new ≡ after_roll c self.old) }
-        ensures step { IfSome (call_numbered call self.old) (λ c. (pool : Pool) → (clock peer : ℕ) →
-            stepped clock (rolled_event c) (shown pool peer self.old)
-            ≡ shown pool peer self.new ∷ []) }
-        ensures handed { (pool : Pool) → handed_of pool self.new ≡ handed_of pool self.old }
-        ensures others { (pool : Pool) → LeavesOthers self.old.active self.new.active pool pool }
-        ensures entries { IfSome (call_numbered call self.old)
-            (λ c. KeepsOthers c.request self.old self.new) }
-        ensures queued { Still (CountsQueued self.old) (CountsQueued self.new) }
-        ensures keeps_pool { (pool : Pool) → KeepsPool pool self.old.active
-            → KeepsPool pool self.new.active }
+        ensures { RollsBack call self.old self.new }
     {
         let Some(call) = self.calls.of_number(call) else {
             unreachable!()
@@ -85,21 +70,7 @@ impl ClientSession {
     pub fn lose(&mut self, pool: &mut BufferPool) -> Option<Done>
         requires keeps_pool { KeepsPool pool.old self.old.active }
         requires unheld { AllByRecursion (IsUnheld pool.old) self.old.active }
-        ensures none { IsNone result ↔ ((self.old.active ≡ []) × (self.old.slots.waiting ≡ [])) }
-        ensures unchanged { IfNone result ((self.new ≡ self.old) × (pool.new ≡ pool.old)) }
-        // As the fact Done of the definitions, where no other active call has this call's number.
-        ensures step { IfSome result (λ d. IsAlone d.call self.old → (clock peer : ℕ) →
-            stepped clock (done_event d) (shown_broken pool.old peer self.old)
-            ≡ shown_broken pool.new peer self.new ∷ []) }
-        ensures loses { IfSome result (λ d. Loses (next_lost self.old) d self.old self.new pool.old
-            pool.new) }
-        ensures handed { IfSome result (λ d. HandsBack self.old.number d
-            (handed_of pool.old self.old) (handed_of pool.new self.new)) }
-        ensures others { LeavesOthers self.old.active self.new.active pool.old pool.new }
-        ensures entries { LossKeeps (next_lost self.old) self.old self.new }
-        ensures counts { Still (Counts pool.old) (Counts pool.new) }
-        ensures queued { Still (CountsQueued self.old) (CountsQueued self.new) }
-        ensures keeps_pool { KeepsPool pool.new self.new.active }
+        ensures { LosesNext result self.old self.new pool.old pool.new }
     {
         if let Some(call) = self.calls.next() {
             return Some(self.end(pool, call, Outcome::PeerLost));

@@ -1,20 +1,16 @@
 //! A request of one packet that is handled inline: its answer is written over the older one of its
 //! slot where both stand in the slot's own buffer.
-ghost use Rattle.std.specs.Prelude.{◌≡◌, ◌<◌, ◌≤◌, [], IfSome, None, true};
+ghost use Rattle.std.specs.Prelude.{◌≡◌, ◌≤◌, IfSome, true};
 ghost use Rattle.packet_header.specs.Parts.{packet_count, IsMessage};
 ghost use Rattle.buffer_pool.specs.Pool.{IsFull, held, refs_of};
-ghost use Rattle.rpc_laws.specs.Requests.{given};
-ghost use Rattle.server_core.specs.Noting.{IsServed};
+ghost use Rattle.server_core.specs.Handling.{BeginsInline};
 ghost use Rattle.server_core.specs.Replies.{entry_at};
 ghost use Rattle.server_core.specs.Homes.{is_lent};
 ghost use Rattle.server_core.specs.Reusing.{IsOwn, IsReusable, IsRoom, size_in};
 ghost use Rattle.server_core.specs.Serving.{begun, first_answered, with_slots};
-ghost use Rattle.server_core.specs.Session.{IsSession, newest};
-ghost use Rattle.server_core.specs.Shown.{shown};
-ghost use Rattle.server_core.specs.Steps.{HasNoBytes, begun_with, first_shown};
-ghost use Rattle.server_core.specs.Wanting.{CanBeginWhole, CanServe};
-ghost use Rattle.server_core.specs.Scene.{in_scene, pooled, seen};
-ghost use Rattle.server_core.specs.Keeping.{BeginsWithReply};
+ghost use Rattle.server_core.specs.Session.{newest};
+ghost use Rattle.server_core.specs.Wanting.{CanServe, MayBeginWhole};
+ghost use Rattle.server_core.specs.Scene.{pooled};
 
 use super::ServerSession;
 use crate::running::{Room, serve_at};
@@ -38,19 +34,13 @@ impl ServerSession {
         who: &Who,
         rec: &mut R,
     ) -> Entry
-        requires session { IsSession self.old }
-        requires whole { CanBeginWhole head.now self.old pool.old }
-        requires newer { IfSome (newest head.now.request self.old)
-            (λ q. q.number < head.now.request) }
+        requires begins { MayBeginWhole head.now self.old pool.old }
         requires serves { CanServe V.Service service.old head.now.req_type body.now (size_in room) }
         requires room { IsRoom room }
         requires first { head.now.number ≡ 0 }
-        ensures answers { IsServed V.Service R.log who.now head.now body.now
-            (in_scene (begun_with (given (first_shown head.now [] None)) (shown pool.old self.old))
-            (pooled self.old pool.old service.old rec.old))
-            (seen (pooled self.new pool.new service.new rec.new)) }
-        ensures no_bytes { HasNoBytes (newest head.now.request self.new) }
-        ensures replies { BeginsWithReply head.now result self.old self.new pool.old pool.new }
+        ensures { BeginsInline V.Service R.log who.now head.now body.now result
+            (pooled self.old pool.old service.old rec.old)
+            (pooled self.new pool.new service.new rec.new) }
     {
         if let Some(place) = self.reusable(head.request, &room) {
             let size = room.size();
@@ -93,19 +83,13 @@ impl ServerSession {
         who: &Who,
         rec: &mut R,
     ) -> Entry
-        requires session { IsSession self.old }
-        requires whole { CanBeginWhole head.now self.old pool.old }
+        requires begins { MayBeginWhole head.now self.old pool.old }
         requires reusable { IsReusable place (newest head.now.request self.old) }
-        requires newer { IfSome (newest head.now.request self.old)
-            (λ q. q.number < head.now.request) }
         requires short { size ≤ PART_BYTES }
         requires serves { CanServe V.Service service.old head.now.req_type body.now size }
-        ensures answers { IsServed V.Service R.log who.now head.now body.now
-            (in_scene (begun_with (given (first_shown head.now [] None)) (shown pool.old self.old))
-            (pooled self.old pool.old service.old rec.old))
-            (seen (pooled self.new pool.new service.new rec.new)) }
-        ensures no_bytes { HasNoBytes (newest head.now.request self.new) }
-        ensures replies { BeginsWithReply head.now result self.old self.new pool.old pool.new }
+        ensures { BeginsInline V.Service R.log who.now head.now body.now result
+            (pooled self.old pool.old service.old rec.old)
+            (pooled self.new pool.new service.new rec.new) }
     {
         serve_at(pool, service, place, size, head.req_type, body);
         self.note_ran(head, body, pool.get(place).bytes(), who, rec);

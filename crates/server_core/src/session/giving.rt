@@ -1,25 +1,22 @@
 //! Background jobs: a request goes to a worker with its bytes, and its answer comes back.
-ghost use Rattle.std.specs.Prelude.{◌≡◌, ◌≢◌, ℕ, ◌<◌, ◌≤◌, ◌+◌, List, [], ◌∷◌, ◌++◌, IfNone};
-ghost use Rattle.std.specs.Prelude.{IfSome, None, Some};
+ghost use Rattle.std.specs.Prelude.{◌≡◌, ◌<◌, ◌+◌, List, [], ◌∷◌, ◌++◌};
+ghost use Rattle.std.specs.Prelude.{None, Some};
 ghost use Rattle.packet_header.specs.Parts.{packet_count};
 ghost use Rattle.message_buffer.specs.Buffer.{bytes_of};
 ghost use Rattle.buffer_pool.specs.Pool.{buf_at, spare_of};
 ghost use Rattle.packet_rings.specs.Values.{EntryValue};
 ghost use Rattle.rpc_laws.specs.Requests.{answered, given};
-ghost use Rattle.rpc_outside.specs.declared.service.Mode.{Mode};
 ghost use Rattle.server_core.specs.Counting.{CountsQueued};
-ghost use Rattle.server_core.specs.Finishing.{IsFinished, IsLeft};
-ghost use Rattle.server_core.specs.Flushing.{HoldsAll};
+ghost use Rattle.server_core.specs.Finishing.{Finishes};
 ghost use Rattle.server_core.specs.KeepsPool.{IsAsked, KeepsPool};
 ghost use Rattle.server_core.specs.Serving.{first_given, last_given};
 ghost use Rattle.server_core.specs.declared.slot.SlotState.TheVariants.{Taking};
-ghost use Rattle.server_core.specs.Session.{IsSession, newest};
+ghost use Rattle.server_core.specs.Session.{newest};
 ghost use Rattle.server_core.specs.Shown.{shown};
-ghost use Rattle.server_core.specs.Steps.{AreServed, HasNoBytes, begun_with, first_shown};
+ghost use Rattle.server_core.specs.Steps.{HasNoBytes, begun_with, first_shown};
 ghost use Rattle.server_core.specs.Steps.{gone_on_as, grown};
 ghost use Rattle.packet_header.specs.Parts.{IsMessage};
-ghost use Rattle.buffer_pool.specs.Counting.{Counts};
-ghost use Rattle.server_core.specs.Keeping.{BeginsSound, KeepsPlaces, StaysSound};
+ghost use Rattle.server_core.specs.Keeping.{BeginsSound, StaysSound};
 ghost use Rattle.server_core.specs.Wanting.{CanBeginWhole, IsAwaited, IsNewest};
 ghost use Rattle.server_core.specs.Keeping.{GivesReply};
 
@@ -43,22 +40,8 @@ impl ServerSession {
         requires answer { IsMessage parcel.out.len }
         requires keeps_pool { KeepsPool pool.old self.old.slots }
         requires spare { 0 < spare_of pool.old }
-        ensures finished { IfSome result
-            (IsFinished parcel.request (bytes_of parcel.out) self.old self.new pool.old pool.new) }
-        ensures no_bytes { IfSome result (λ e. HasNoBytes (newest parcel.request self.new)) }
-        ensures left { IfNone result (IsLeft parcel.request self.old self.new pool.old pool.new) }
-        ensures sound { IsSession self.old }
-        ensures all_served { (mode_of : ℕ → Mode) → AreServed mode_of self.old.slots →
-            AreServed mode_of self.new.slots }
-        ensures places { KeepsPlaces self.old self.new pool.old pool.new }
-        ensures holds { (entries : List EntryValue) → HoldsAll self.old pool.old entries →
-            IfSome result (λ e. HoldsAll self.new pool.new (entries ++ e ∷ [])) }
-        ensures still_holds { (entries : List EntryValue) → HoldsAll self.old pool.old entries →
-            IfNone result (HoldsAll self.new pool.new entries) }
-        ensures queued { (entries : List EntryValue) → CountsQueued self.old entries →
-            IfSome result (λ e. CountsQueued self.new (entries ++ e ∷ [])) }
-        ensures counts { (entries : List EntryValue) → Counts pool.old entries →
-            IfSome result (λ e. Counts pool.new (entries ++ e ∷ [])) }
+        ensures { Finishes parcel.request (bytes_of parcel.out) result self.old self.new pool.old
+            pool.new }
     {
         let Some(request) = self.slots.of_slot(parcel.request.slot()) else {
             return None;
@@ -67,6 +50,7 @@ impl ServerSession {
             return None;
         }
         let reply = self.put_answer(pool, request, parcel.out);
+        self.sound();
         Some(reply)
     }
 

@@ -1,14 +1,11 @@
 //! The handler of a request runs.
-ghost use Rattle.std.specs.Prelude.{◌≡◌, ℕ, ◌<◌, ◌≤◌, ◌+◌, [], ◌∷◌, ◌++◌};
-ghost use Rattle.packet_header.specs.Parts.{packet_count, IsMessage};
+ghost use Rattle.std.specs.Prelude.{◌≤◌};
+ghost use Rattle.packet_header.specs.Parts.{IsMessage};
 ghost use Rattle.message_buffer.specs.Buffer.{capacity_of};
-ghost use Rattle.server_core.specs.Noting.{IsServed};
 ghost use Rattle.server_core.specs.Reusing.{IsRoom, size_in};
-ghost use Rattle.server_core.specs.Session.{newest};
-ghost use Rattle.server_core.specs.Steps.{HasNoBytes};
-ghost use Rattle.server_core.specs.Wanting.{CanServe, IsAwaited};
-ghost use Rattle.server_core.specs.Scene.{pooled, seen};
-ghost use Rattle.server_core.specs.Keeping.{GivesReply};
+ghost use Rattle.server_core.specs.Handling.{AnswersInline};
+ghost use Rattle.server_core.specs.Scene.{pooled};
+ghost use Rattle.server_core.specs.Wanting.{CanServe, IsLastOf};
 
 use super::ServerSession;
 use crate::running::{Room, serve, serve_at};
@@ -34,17 +31,12 @@ impl ServerSession {
         who: &Who,
         rec: &mut R,
     ) -> Entry
-        requires awaited { IsAwaited request self.old pool.old }
-        requires own { request.number ≡ head.now.request }
-        requires last { head.now.number + 1 ≡ packet_count request.size }
+        requires asked { IsLastOf head.now request self.old pool.old }
         requires serves { CanServe V.Service service.old head.now.req_type ask.now (size_in room) }
         requires room { IsRoom room }
-        ensures answers { IsServed V.Service R.log who.now head.now ask.now
-            (seen (pooled self.old pool.old service.old rec.old))
-            (seen (pooled self.new pool.new service.new rec.new)) }
-        ensures no_bytes { HasNoBytes (newest head.now.request self.new) }
-        ensures replies { GivesReply head.now.request head.now.number result self.old self.new
-            pool.old pool.new }
+        ensures { AnswersInline V.Service R.log who.now head.now ask.now result
+            (pooled self.old pool.old service.old rec.old)
+            (pooled self.new pool.new service.new rec.new) }
     {
         match room {
             Room::Own(size) => {
@@ -68,17 +60,12 @@ impl ServerSession {
         who: &Who,
         rec: &mut R,
     ) -> Entry
-        requires awaited { IsAwaited request self.old pool.old }
-        requires own { request.number ≡ head.now.request }
-        requires last { head.now.number + 1 ≡ packet_count request.size }
+        requires asked { IsLastOf head.now request self.old pool.old }
         requires serves { CanServe V.Service service.old head.now.req_type ask.now size }
         requires short { size ≤ PART_BYTES }
-        ensures answers { IsServed V.Service R.log who.now head.now ask.now
-            (seen (pooled self.old pool.old service.old rec.old))
-            (seen (pooled self.new pool.new service.new rec.new)) }
-        ensures no_bytes { HasNoBytes (newest head.now.request self.new) }
-        ensures replies { GivesReply head.now.request head.now.number result self.old self.new
-            pool.old pool.new }
+        ensures { AnswersInline V.Service R.log who.now head.now ask.now result
+            (pooled self.old pool.old service.old rec.old)
+            (pooled self.new pool.new service.new rec.new) }
     {
         let place = self.slots.lend(pool, &request, size);
         serve_at(pool, service, place, size, head.req_type, ask);
@@ -105,17 +92,12 @@ impl ServerSession {
         who: &Who,
         rec: &mut R,
     ) -> Entry
-        requires awaited { IsAwaited request self.old pool.old }
-        requires own { request.number ≡ head.now.request }
-        requires last { head.now.number + 1 ≡ packet_count request.size }
+        requires asked { IsLastOf head.now request self.old pool.old }
         requires serves { CanServe V.Service service.old head.now.req_type ask.now room.len }
         requires message { IsMessage room.len × (room.len ≤ capacity_of room) }
-        ensures answers { IsServed V.Service R.log who.now head.now ask.now
-            (seen (pooled self.old pool.old service.old rec.old))
-            (seen (pooled self.new pool.new service.new rec.new)) }
-        ensures no_bytes { HasNoBytes (newest head.now.request self.new) }
-        ensures replies { GivesReply head.now.request head.now.number result self.old self.new
-            pool.old pool.new }
+        ensures { AnswersInline V.Service R.log who.now head.now ask.now result
+            (pooled self.old pool.old service.old rec.old)
+            (pooled self.new pool.new service.new rec.new) }
     {
         let mut answer = room;
         serve(service, head.req_type, ask, &mut answer);

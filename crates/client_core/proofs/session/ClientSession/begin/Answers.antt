@@ -1,4 +1,4 @@
-use Rattle.std.proofs.Common.{refl, ap, arith}
+use Rattle.std.proofs.Common.{refl, ap, arith, rules}
 use Rattle.std.proofs.lemmas.List.{length-drop}
 use Rattle.client_core.specs.contracts.session.ClientSession.{the_view}
 use Rattle.client_core.proofs.PoolLemmas.{keeps-begun}
@@ -35,75 +35,68 @@ invariant_of-self-2 c =
           (ap (λ x. x.call) is) begins.slot turn (ap (λ x. x.posted) is) sound,
     )
 
-pub returns-clause-keeps_pool : goal.returns-clause-keeps_pool
-returns-clause-keeps_pool c =
-    let keeps = rw (← c.self.view_is) at c.requires.keeps_pool in
-    let own = rw c.start-call.ensures.pool at c.start-call.ensures.kept in
-    rw (c.start-call.ensures.pool, c.push.ensures)
-    (keeps-begun c.args.pool.now _ _ _ _ c.start-call.ensures.ask c.start-call.ensures.answer
-    c.start-call.result c.self.inside.calls refl refl own keeps)
+pub returns-in_default : goal.returns-in_default
+returns-in_default c = record {
+  sound = rw (← c.self.view_is) c.self.invariant.1;
+  none = search rules;
+  unchanged = search rules;
+  turn = λ peer. rw (← c.self.view_is) (nothing-begins c.args.pool.now peer _ c.self.invariant.1
+      (c.in_default.ensures.none.0 refl));
+  step = tt;
+  starts = tt;
+  handed = search rules;
+  others = search rules;
+  entries = search rules;
+  counts = λ entries counts. counts;
+  queued = λ entries all. tt;
+  keeps_pool = search rules;
+}
 
-pub returns-in_default-clause-turn : goal.returns-in_default-clause-turn
-returns-in_default-clause-turn c = λ peer.
-    rw (← c.self.view_is) (nothing-begins c.args.pool.now peer _ c.self.invariant.1
-    (c.in_default.ensures.none.0 refl))
-
-pub returns-clause-turn : goal.returns-clause-turn
-returns-clause-turn c = λ peer.
-    rw (← c.self.view_is, ap (λ x. x.call) c.start-call.ensures.call)
-    (call-begins c.args.pool.now peer _ _ _ _ c.self.invariant.1 c.in-Some.ensures.begins)
-
-pub returns-clause-step : goal.returns-clause-step
-returns-clause-step c = λ clock peer fresh.
-    let is = c.start-call.ensures.call in
-    let begins = c.in-Some.ensures.begins in
-    let keeps = rw (← c.self.view_is) at c.requires.keeps_pool in
-    let kept = rw c.start-call.ensures.pool at c.start-call.ensures.kept in
-    let size = rw (ap (λ x. x.len) is) at kept.size in
-    let unlisted = rw (← c.self.view_is, ap (λ x. x.call) is) at fresh in
-    rw (← c.self.view_is, c.push.ensures, c.start-call.ensures.pool, begins.table, is)
-    (beginning-step c.args.pool.now peer _ _ _ c.start-call.ensures.ask c.start-call.ensures.answer
-    clock (the_view c.self.inside) _ _ keeps begins size unlisted)
-
-pub returns-clause-others : goal.returns-clause-others
-returns-clause-others c =
-    rw (← c.self.view_is, c.push.ensures, c.start-call.ensures.pool)
-    (begun-leaves c.args.pool.now c.start-call.result.ask c.start-call.result.answer _ _
-    c.start-call.result c.self.inside.calls c.start-call.ensures.ask c.start-call.ensures.answer
-    refl refl)
-
-pub returns-clause-entries : goal.returns-clause-entries
-returns-clause-entries c = rw (← c.self.view_is, c.push.ensures)
-    (λ e was. find-front (is_owner c.self.inside.number e.owner) e c.self.inside.calls c.start-call.result was)
-
-pub returns-clause-counts : goal.returns-clause-counts
-returns-clause-counts c = λ entries counts.
-    let a = c.start-call.result in
+pub returns : goal.returns
+returns c =
+    let session = c.self.inside in
+    let pool = c.args.pool.now in
+    let call = c.start-call.result in
     let w = c.in-Some.waiting in
-    let first = counts-filled c.args.pool.now entries counts a.ask w.req c.start-call.ensures.ask in
-    rw c.start-call.ensures.pool (counts-filled (filled a.ask w.req c.args.pool.now) entries first
-    a.answer w.resp c.start-call.ensures.answer)
-
-pub returns-clause-queued : goal.returns-clause-queued
-returns-clause-queued c = λ entries all none.
-    let is = c.start-call.ensures.call in
-    let before = rw (← c.self.view_is) at all in
-    let fresh = rw (← c.self.view_is) at none in
-    let own : c.start-call.result.queued ≡ count_by
-    (is_of (Ask c.self.inside.number c.start-call.result.request)) entries =
-    ap (λ x. x.queued) is ∙ sym fresh
-    ∙ ap (λ x. count_by (is_of (Ask c.self.inside.number x.request)) entries) (sym is) in
-    rw c.push.ensures (all-push (λ x. x.queued
-    ≡ count_by (is_of (Ask c.self.inside.number x.request)) entries) c.self.inside.calls
-    c.start-call.result before own)
-
-pub returns-clause-handed : goal.returns-clause-handed
-returns-clause-handed c =
     let is = c.start-call.ensures.call in
     let begins = c.in-Some.ensures.begins in
     let keeps = rw (← c.self.view_is) at c.requires.keeps_pool in
     let kept = rw c.start-call.ensures.pool at c.start-call.ensures.kept in
     let size = rw (ap (λ x. x.len) is) at kept.size in
-    rw (← c.self.view_is, c.push.ensures, c.start-call.ensures.pool, begins.table, is)
-    (handed-begun c.args.pool.now _ _ _ c.start-call.ensures.ask c.start-call.ensures.answer
-    (the_view c.self.inside) _ _ keeps begins size)
+    record {
+      sound = rw (← c.self.view_is) c.self.invariant.1;
+      none = search rules;
+      unchanged = tt;
+      turn = λ peer. rw (← c.self.view_is, ap (λ x. x.call) is)
+          (call-begins pool peer _ _ _ _ c.self.invariant.1 begins);
+      step = λ clock peer fresh.
+          let unlisted = rw (← c.self.view_is, ap (λ x. x.call) is) at fresh in
+          rw (← c.self.view_is, c.push.ensures, c.start-call.ensures.pool, begins.table, is)
+          (beginning-step pool peer _ _ _ c.start-call.ensures.ask c.start-call.ensures.answer clock
+          (the_view session) _ _ keeps begins size unlisted);
+      starts = search rules;
+      handed = rw (← c.self.view_is, c.push.ensures, c.start-call.ensures.pool, begins.table, is)
+          (handed-begun pool _ _ _ c.start-call.ensures.ask c.start-call.ensures.answer
+          (the_view session) _ _ keeps begins size);
+      others = rw (← c.self.view_is, c.push.ensures, c.start-call.ensures.pool)
+          (begun-leaves pool call.ask call.answer _ _ call session.calls c.start-call.ensures.ask
+          c.start-call.ensures.answer refl refl);
+      entries = rw (← c.self.view_is, c.push.ensures)
+          (λ e was. find-front (is_owner session.number e.owner) e session.calls call was);
+      counts = λ entries counts.
+          let first = counts-filled pool entries counts call.ask w.req c.start-call.ensures.ask in
+          rw c.start-call.ensures.pool (counts-filled (filled call.ask w.req pool) entries first
+          call.answer w.resp c.start-call.ensures.answer);
+      queued = λ entries all none.
+          let before = rw (← c.self.view_is) at all in
+          let fresh = rw (← c.self.view_is) at none in
+          let own : call.queued ≡ count_by (is_of (Ask session.number call.request)) entries =
+          ap (λ x. x.queued) is ∙ sym fresh
+          ∙ ap (λ x. count_by (is_of (Ask session.number x.request)) entries) (sym is) in
+          rw c.push.ensures (all-push (λ x. x.queued
+          ≡ count_by (is_of (Ask session.number x.request)) entries) session.calls call before
+          own);
+      keeps_pool = rw (c.start-call.ensures.pool, c.push.ensures)
+          (keeps-begun pool _ _ _ _ c.start-call.ensures.ask c.start-call.ensures.answer call
+          session.calls refl refl kept keeps);
+    }

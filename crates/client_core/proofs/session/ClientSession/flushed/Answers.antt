@@ -20,37 +20,38 @@ invariant_of-self c =
           (is_owner c.self.inside.number c.entry.inside.owner) c.self.invariant.1,
     )
 
-pub returns-clause-shown : goal.returns-clause-shown
-returns-clause-shown c = λ peer.
-    rw (← c.self.view_is, c.release_at.ensures, c.leave.ensures)
-    (left-shown c.args.pool.now peer c.entry.inside.place (the_view c.self.inside)
-    (is_owner c.self.inside.number c.entry.inside.owner))
-
-pub returns-clause-leaves : goal.returns-clause-leaves
-returns-clause-leaves c = record {
-  pool = rw (c.release_at.ensures, ap (λ e. released_at e.place c.args.pool.now) c.entry.view_is) refl;
-  handed = rw (← c.self.view_is, c.release_at.ensures, c.leave.ensures)
-      (handed-released c.args.pool.now (is_owner c.self.inside.number c.entry.inside.owner)
-      one_left (λ x. refl) c.self.inside.calls c.self.inside.slots.waiting c.entry.inside.place);
-  others = rw (← c.self.view_is, ← c.entry.view_is, c.release_at.ensures, c.leave.ensures)
-      (gone-leaves c.args.pool.now (the_view c.self.inside) (entry_view c.entry.inside)
-      (is_owner c.self.inside.number c.entry.inside.owner) one_left (λ p x. refl));
-  entries = rw (← c.self.view_is, c.leave.ensures)
-      (λ e was. stays c.self.inside.number (is_owner c.self.inside.number c.entry.inside.owner)
-      one_left leaving-keeps e c.self.inside.calls was);
-  counts = λ passes old new out counts.
-      rw (c.release_at.ensures, ap (λ e. released_at e.place c.args.pool.now) c.entry.view_is)
-      (counts-released c.args.pool.now old counts passes c.args.entry.now new out c.requires.held);
-  queued = λ posted passes old new out all.
-      let before = rw (← c.self.view_is) at all in
-      let stands = rw (← c.self.view_is, ← c.entry.view_is) at posted in
-      let taken = rw (← c.entry.view_is) at out in
-      rw c.leave.ensures (left-queued (the_view c.self.inside)
-      (entry_view c.entry.inside) one_left passes old new c.self.invariant.1 taken (λ x. refl)
-      (λ x. refl) stands before);
-  keeps_pool = let keeps = rw (← c.self.view_is) at c.requires.keeps_pool in
-      rw (c.release_at.ensures, ap (λ e. released_at e.place c.args.pool.now) c.entry.view_is, c.leave.ensures)
-      (keeps-left _ (is_owner c.self.inside.number c.entry.inside.owner) c.self.inside.calls
-      (keeps-released c.args.pool.now c.args.entry.now.place c.self.inside.calls c.requires.held
-      keeps));
+pub returns : goal.returns
+returns c = record {
+  session = rw (← c.self.view_is, ← c.entry.view_is, c.leave.ensures) refl;
+  same = λ peer.
+      rw (← c.self.view_is, c.release_at.ensures, c.leave.ensures)
+      (left-shown c.args.pool.now peer c.entry.inside.place (the_view c.self.inside)
+      (is_owner c.self.inside.number c.entry.inside.owner));
+  leaves = record {
+    pool = rw (c.release_at.ensures, ap (λ e. released_at e.place c.args.pool.now) c.entry.view_is) refl;
+    handed = rw (← c.self.view_is, c.release_at.ensures, c.leave.ensures)
+        (handed-released c.args.pool.now (is_owner c.self.inside.number c.entry.inside.owner)
+        one_left (λ x. refl) c.self.inside.calls c.self.inside.slots.waiting c.entry.inside.place);
+    others = rw (← c.self.view_is, ← c.entry.view_is, c.release_at.ensures, c.leave.ensures)
+        (gone-leaves c.args.pool.now (the_view c.self.inside) (entry_view c.entry.inside)
+        (is_owner c.self.inside.number c.entry.inside.owner) one_left (λ p x. refl));
+    entries = rw (← c.self.view_is, c.leave.ensures)
+        (λ e was. stays c.self.inside.number (is_owner c.self.inside.number c.entry.inside.owner)
+        one_left leaving-keeps e c.self.inside.calls was);
+    counts = λ passes old new out counts.
+        rw (c.release_at.ensures, ap (λ e. released_at e.place c.args.pool.now) c.entry.view_is)
+        (counts-released c.args.pool.now old counts passes c.args.entry.now new out c.requires.held);
+    queued = λ posted passes old new out all.
+        let before = rw (← c.self.view_is) at all in
+        let stands = rw (← c.self.view_is, ← c.entry.view_is) at posted in
+        let taken = rw (← c.entry.view_is) at out in
+        rw c.leave.ensures (left-queued (the_view c.self.inside)
+        (entry_view c.entry.inside) one_left passes old new c.self.invariant.1 taken (λ x. refl)
+        (λ x. refl) stands before);
+    keeps_pool = let keeps = rw (← c.self.view_is) at c.requires.keeps_pool in
+        rw (c.release_at.ensures, ap (λ e. released_at e.place c.args.pool.now) c.entry.view_is, c.leave.ensures)
+        (keeps-left _ (is_owner c.self.inside.number c.entry.inside.owner) c.self.inside.calls
+        (keeps-released c.args.pool.now c.args.entry.now.place c.self.inside.calls c.requires.held
+        keeps));
+  };
 }

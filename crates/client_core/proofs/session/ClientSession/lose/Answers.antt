@@ -1,4 +1,4 @@
-use Rattle.std.proofs.Common.{◌≡◌, ℕ, None, [], ◌∷◌, refl, sym}
+use Rattle.std.proofs.Common.{◌≡◌, ℕ, None, [], ◌∷◌, refl, sym, rules}
 use Rattle.client_core.specs.Losing.{GivesUp, Loses, next_lost}
 use Rattle.client_core.specs.Replies.{IsUnheld}
 use Rattle.client_core.specs.Shown.{IsAlone, done_event, shown_broken, stepped}
@@ -30,94 +30,82 @@ end-requires-clause-unheld c =
     found-holds test (IsUnheld c.args.pool.now) c.self.inside.calls c.in-Some.call
     (rw (← c.self.view_is) at c.requires.unheld) found
 
-pub returns-clause-none : goal.returns-clause-none
-returns-clause-none c =
-    let none = least-none-of call_number c.self.inside.calls (sym c.in_default.ensures) in
-    (λ e. (rw (← c.self.view_is) none, c.give_up.ensures.none.0 e), λ both. c.give_up.ensures.none.1 both.1)
-
-pub returns-in-Some-clause-step : goal.returns-in-Some-clause-step
-returns-in-Some-clause-step c = λ alone clock peer.
+pub returns-in-Some : goal.returns-in-Some
+returns-in-Some c =
+    let session = the_view c.self.inside in
+    let pool = c.args.pool.now in
+    let call = c.in-Some.call in
     let keeps = rw (← c.self.view_is) at c.requires.keeps_pool in
-    let apart = rw (← c.self.view_is) at alone in
-    let done = rw (← c.self.view_is) at c.end.ensures.done in
-    let session = rw (← c.self.view_is) at c.end.ensures.session in
-    let lost : Loses (next_lost (the_view c.self.inside)) c.end.result (the_view c.self.inside)
-    c.end.new.self c.args.pool.now c.end.new.pool =
-    rw (← c.in-Some.ensures) (record {
-      done = done;
-      session = session;
-      pool = c.end.ensures.pool;
-    }) in
-    rw (← c.self.view_is) (lose-step c.args.pool.now c.end.new.pool clock peer c.end.result
-    (the_view c.self.inside) c.end.new.self c.self.invariant.1 keeps apart lost)
-
-pub returns-clause-step : goal.returns-clause-step
-returns-clause-step c =
-    let keeps = rw (← c.self.view_is) at c.requires.keeps_pool in
-    let given = rw (← c.self.view_is) at c.give_up.ensures.given_up in
-    rw (← c.self.view_is) (if-map (λ d. GivesUp d (the_view c.self.inside) c.give_up.new.self)
-    (λ d. IsAlone d.call (the_view c.self.inside) → (clock peer : ℕ)
-    → stepped clock (done_event d) (shown_broken c.args.pool.now peer (the_view c.self.inside))
-    ≡ shown_broken c.args.pool.now peer c.give_up.new.self ∷ []) c.give_up.result
-    (λ d gives alone clock peer.
-    let lost : Loses (next_lost (the_view c.self.inside)) d (the_view c.self.inside)
-    c.give_up.new.self c.args.pool.now c.args.pool.now =
-    rw (← c.in_default.ensures) (gives, refl) in
-    lose-step c.args.pool.now c.args.pool.now clock peer d (the_view c.self.inside)
-    c.give_up.new.self c.self.invariant.1 keeps alone lost) given)
-
-pub returns-in-Some-clause-others : goal.returns-in-Some-clause-others
-returns-in-Some-clause-others c =
-    let (test, found) = least-found (is_after None) call_number c.self.inside.calls c.in-Some.call
+    let (test, found) = least-found (is_after None) call_number c.self.inside.calls call
     (sym c.in-Some.ensures) in
-    rw (c.end.ensures.session, c.end.ensures.pool, ← c.self.view_is)
-    (end-leaves c.args.pool.now (is_request c.in-Some.call.request) test c.in-Some.call
-    c.self.inside.calls found)
-
-pub returns-in-Some-clause-entries : goal.returns-in-Some-clause-entries
-returns-in-Some-clause-entries c =
-    rw (c.end.ensures.session, ← c.self.view_is, ← c.in-Some.ensures)
-    (end-others c.in-Some.call (the_view c.self.inside))
-
-pub returns-in-Some-clause-queued : goal.returns-in-Some-clause-queued
-returns-in-Some-clause-queued c = λ entries all.
-    let before = rw (← c.self.view_is) at all in
-    rw (c.end.ensures.session, ← c.self.view_is)
-    (all-left (is_request c.in-Some.call.request)
-    (λ x. x.queued ≡ count_by (is_of (Ask c.self.inside.number x.request)) entries)
-    c.self.inside.calls before)
-
-pub returns-in-Some-clause-handed : goal.returns-in-Some-clause-handed
-returns-in-Some-clause-handed c =
-    let keeps = rw (← c.self.view_is) at c.requires.keeps_pool in
-    let done = rw (← c.self.view_is) at c.end.ensures.done in
-    let session = rw (← c.self.view_is) at c.end.ensures.session in
-    let lost : Loses (next_lost (the_view c.self.inside)) c.end.result (the_view c.self.inside)
-    c.end.new.self c.args.pool.now c.end.new.pool =
+    let lost : Loses (next_lost session) c.end.result session c.end.new.self pool c.end.new.pool =
     rw (← c.in-Some.ensures) (record {
-      done = done;
-      session = session;
+      done = rw (← c.self.view_is) at c.end.ensures.done;
+      session = rw (← c.self.view_is) at c.end.ensures.session;
       pool = c.end.ensures.pool;
     }) in
-    rw (← c.self.view_is) (lose-handed c.args.pool.now c.end.new.pool c.end.result
-    (the_view c.self.inside) c.end.new.self c.self.invariant.1 keeps lost)
+    record {
+      sound = rw (← c.self.view_is) c.self.invariant.1;
+      none = search rules;
+      unchanged = tt;
+      step = λ alone clock peer. rw (← c.self.view_is) (lose-step pool c.end.new.pool clock peer
+          c.end.result session c.end.new.self c.self.invariant.1 keeps
+          (rw (← c.self.view_is) at alone) lost);
+      loses = rw (← c.self.view_is) lost;
+      handed = rw (← c.self.view_is) (lose-handed pool c.end.new.pool c.end.result session
+          c.end.new.self c.self.invariant.1 keeps lost);
+      entries = rw (c.end.ensures.session, ← c.self.view_is, ← c.in-Some.ensures)
+          (end-others call session);
+      still = record {
+        others = rw (c.end.ensures.session, c.end.ensures.pool, ← c.self.view_is)
+            (end-leaves pool (is_request call.request) test call c.self.inside.calls found);
+        counts = c.end.ensures.still.counts;
+        queued = λ entries all.
+            let before = rw (← c.self.view_is) at all in
+            rw (c.end.ensures.session, ← c.self.view_is)
+            (all-left (is_request call.request)
+            (λ x. x.queued ≡ count_by (is_of (Ask c.self.inside.number x.request)) entries)
+            c.self.inside.calls before);
+        keeps_pool = c.end.ensures.still.keeps_pool;
+      };
+    }
 
-pub returns-clause-handed : goal.returns-clause-handed
-returns-clause-handed c =
+pub returns : goal.returns
+returns c =
+    let session = the_view c.self.inside in
+    let pool = c.args.pool.now in
+    let new = c.give_up.new.self in
     let keeps = rw (← c.self.view_is) at c.requires.keeps_pool in
     let given = rw (← c.self.view_is) at c.give_up.ensures.given_up in
-    rw (← c.self.view_is) (if-map (λ d. GivesUp d (the_view c.self.inside) c.give_up.new.self)
-    (λ d. HandsBack c.self.inside.number d (handed_of c.args.pool.now (the_view c.self.inside))
-    (handed_of c.args.pool.now c.give_up.new.self)) c.give_up.result
-    (λ d gives.
-    let lost : Loses (next_lost (the_view c.self.inside)) d (the_view c.self.inside)
-    c.give_up.new.self c.args.pool.now c.args.pool.now =
-    rw (← c.in_default.ensures) (gives, refl) in
-    lose-handed c.args.pool.now c.args.pool.now d (the_view c.self.inside)
-    c.give_up.new.self c.self.invariant.1 keeps lost) given)
-
-pub returns-in-Some-clause-counts : goal.returns-in-Some-clause-counts
-returns-in-Some-clause-counts c = c.end.ensures.still.counts
-
-pub returns-in-Some-clause-keeps_pool : goal.returns-in-Some-clause-keeps_pool
-returns-in-Some-clause-keeps_pool c = c.end.ensures.still.keeps_pool
+    let none = least-none-of call_number c.self.inside.calls (sym c.in_default.ensures) in
+    record {
+      sound = rw (← c.self.view_is) c.self.invariant.1;
+      none = (
+        λ e. (rw (← c.self.view_is) none, c.give_up.ensures.none.0 e),
+        λ both. c.give_up.ensures.none.1 both.1,
+      );
+      unchanged = search rules;
+      step = rw (← c.self.view_is) (if-map (λ d. GivesUp d session new)
+          (λ d. IsAlone d.call session → (clock peer : ℕ)
+          → stepped clock (done_event d) (shown_broken pool peer session)
+          ≡ shown_broken pool peer new ∷ []) c.give_up.result
+          (λ d gives alone clock peer.
+          let lost : Loses (next_lost session) d session new pool pool =
+          rw (← c.in_default.ensures) (gives, refl) in
+          lose-step pool pool clock peer d session new c.self.invariant.1 keeps alone lost) given);
+      loses = search rules;
+      handed = rw (← c.self.view_is) (if-map (λ d. GivesUp d session new)
+          (λ d. HandsBack c.self.inside.number d (handed_of pool session) (handed_of pool new))
+          c.give_up.result
+          (λ d gives.
+          let lost : Loses (next_lost session) d session new pool pool =
+          rw (← c.in_default.ensures) (gives, refl) in
+          lose-handed pool pool d session new c.self.invariant.1 keeps lost) given);
+      entries = search rules;
+      still = record {
+        others = search rules;
+        counts = search rules;
+        queued = search rules;
+        keeps_pool = search rules;
+      };
+    }

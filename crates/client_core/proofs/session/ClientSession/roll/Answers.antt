@@ -35,98 +35,28 @@ invariant_of-self c =
           c.roll.ensures.balanced 0 (ap (λ b. b.unanswered) credits) none,
     )
 
-pub returns-clause-session : goal.returns-clause-session
-returns-clause-session c =
-    let found = by-request _ (is_numbered c.args.call) c.in-Some.call c.self.invariant.1 (sym c.in-Some.ensures) in
+pub returns : goal.returns
+returns c =
+    let numbered = sym c.in-Some.ensures in
+    let call = c.in-Some.call in
+    let calls = c.self.inside.calls in
+    let found = by-request _ (is_numbered c.args.call) call c.self.invariant.1 numbered in
+    let own = eqb-true call.call c.args.call
+    (find-passes (is_numbered c.args.call) calls call numbered) in
     let credits = c.roll.ensures.rolled ∙ ap (λ n. rolled n c.self.inside.credits) c.slot.ensures in
-    rw (
-      ← c.self.view_is,
-      ← c.in-Some.ensures,
-      c.replace.ensures,
-      c.rolled.ensures,
-      credits,
-      same-change (is_request c.in-Some.call.request) c.in-Some.call rolled_call
-          c.self.inside.calls found,
-    ) refl
-
-pub returns-clause-step : goal.returns-clause-step
-returns-clause-step c =
-    let found = by-request _ (is_numbered c.args.call) c.in-Some.call c.self.invariant.1 (sym c.in-Some.ensures) in
-    let own = eqb-true c.in-Some.call.call c.args.call
-    (find-passes (is_numbered c.args.call) c.self.inside.calls c.in-Some.call
-    (sym c.in-Some.ensures)) in
-    let credits = c.roll.ensures.rolled ∙ ap (λ n. rolled n c.self.inside.credits) c.slot.ensures in
-    rw (
-      ← c.self.view_is,
-      ← c.in-Some.ensures,
-      c.replace.ensures,
-      c.rolled.ensures,
-      credits,
-      same-change (is_request c.in-Some.call.request) c.in-Some.call rolled_call
-          c.self.inside.calls found,
-    )
-    (λ pool clock peer. roll-step pool clock peer c.args.call c.in-Some.call
-    (the_view c.self.inside) c.self.invariant.1 (sym c.in-Some.ensures) own)
-
-pub returns-clause-others : goal.returns-clause-others
-returns-clause-others c = λ pool.
-    let found = by-request _ (is_numbered c.args.call) c.in-Some.call c.self.invariant.1 (sym c.in-Some.ensures) in
-    rw (
-      ← c.self.view_is,
-      c.replace.ensures,
-      c.rolled.ensures,
-      same-change (is_request c.in-Some.call.request) c.in-Some.call rolled_call
-          c.self.inside.calls found,
-    )
-    (roll-leaves pool (is_request c.in-Some.call.request) c.self.inside.calls)
-
-pub returns-clause-entries : goal.returns-clause-entries
-returns-clause-entries c =
-    let found = by-request _ (is_numbered c.args.call) c.in-Some.call c.self.invariant.1 (sym c.in-Some.ensures) in
-    rw (
-      ← c.self.view_is,
-      ← c.in-Some.ensures,
-      c.replace.ensures,
-      c.rolled.ensures,
-      same-change (is_request c.in-Some.call.request) c.in-Some.call rolled_call
-          c.self.inside.calls found,
-    )
-    (roll-others c.in-Some.call.request (the_view c.self.inside))
-
-pub returns-clause-keeps_pool : goal.returns-clause-keeps_pool
-returns-clause-keeps_pool c = λ pool keeps.
-    let found = by-request _ (is_numbered c.args.call) c.in-Some.call c.self.invariant.1 (sym c.in-Some.ensures) in
-    rw (
-      c.replace.ensures,
-      c.rolled.ensures,
-      same-change (is_request c.in-Some.call.request)
-          c.in-Some.call rolled_call c.self.inside.calls found,
-    )
-    (keeps-rolled pool (is_request c.in-Some.call.request) c.self.inside.calls (rw (← c.self.view_is) at keeps))
-
-pub returns-clause-queued : goal.returns-clause-queued
-returns-clause-queued c = λ entries all.
-    let found = by-request _ (is_numbered c.args.call) c.in-Some.call c.self.invariant.1 (sym c.in-Some.ensures) in
-    let before = rw (← c.self.view_is) at all in
-    rw (
-      c.replace.ensures,
-      c.rolled.ensures,
-      same-change (is_request c.in-Some.call.request)
-          c.in-Some.call rolled_call c.self.inside.calls found,
-    )
-    (all-kept (is_request c.in-Some.call.request) rolled_call
-    (λ x. x.queued ≡ count_by (is_of (Ask c.self.inside.number x.request)) entries)
-    c.self.inside.calls (λ x here passes. here) before)
-
-pub returns-clause-handed : goal.returns-clause-handed
-returns-clause-handed c = λ pool.
-    let found = by-request _ (is_numbered c.args.call) c.in-Some.call c.self.invariant.1 (sym c.in-Some.ensures) in
-    rw (
-      ← c.self.view_is,
-      c.replace.ensures,
-      c.rolled.ensures,
-      same-change (is_request c.in-Some.call.request) c.in-Some.call rolled_call
-          c.self.inside.calls found,
-    )
-    (handed-changed pool (is_request c.in-Some.call.request) rolled_call (λ x. refl)
-    c.self.inside.calls c.self.inside.slots.waiting)
+    let same = same-change (is_request call.request) call rolled_call calls found in
+    rw (← c.self.view_is, c.replace.ensures, c.rolled.ensures, credits, same) (record {
+      call = call;
+      found = numbered;
+      session = refl;
+      step = λ pool clock peer. roll-step pool clock peer c.args.call call (the_view c.self.inside)
+          c.self.invariant.1 numbered own;
+      handed = λ pool. handed-changed pool (is_request call.request) rolled_call (λ x. refl) calls
+          c.self.inside.slots.waiting;
+      others = λ pool. roll-leaves pool (is_request call.request) calls;
+      entries = roll-others call.request (the_view c.self.inside);
+      queued = λ entries all. all-kept (is_request call.request) rolled_call
+          (λ x. x.queued ≡ count_by (is_of (Ask c.self.inside.number x.request)) entries) calls
+          (λ x here passes. here) all;
+      keeps_pool = λ pool keeps. keeps-rolled pool (is_request call.request) calls keeps;
+    })

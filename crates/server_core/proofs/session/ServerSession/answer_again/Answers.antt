@@ -18,12 +18,12 @@ use Rattle.server_core.proofs.session.ServerSession.answer_again.Goals as goal
 pub serve_at-requires-clause-full : goal.serve_at-requires-clause-full
 serve_at-requires-clause-full g c =
     again-full c.args.pool.now c.args.self.now c.args.head.now c.args.size c.args.place
-    c.requires.reusable c.requires.whole.begins.keeps_pool
+    c.requires.reusable c.requires.begins.whole.begins.keeps_pool
 
 pub serve_at-requires-clause-own : goal.serve_at-requires-clause-own
 serve_at-requires-clause-own g c =
     again-own c.args.pool.now c.args.self.now c.args.head.now c.args.size c.args.place
-    c.requires.reusable c.requires.whole.begins.keeps_pool
+    c.requires.reusable c.requires.begins.whole.begins.keeps_pool
 
 pub begin_answered-requires-clause-lent : goal.begin_answered-requires-clause-lent
 begin_answered-requires-clause-lent g c =
@@ -32,79 +32,69 @@ begin_answered-requires-clause-lent g c =
 pub get-requires : goal.get-requires
 get-requires g c = rw c.serve_at.ensures.rewritten.after_is
     (again-full c.args.pool.now c.args.self.now c.args.head.now c.args.size c.args.place
-    c.requires.reusable c.requires.whole.begins.keeps_pool)
+    c.requires.reusable c.requires.begins.whole.begins.keeps_pool)
 
 pub begin_answered-requires-clause-full : goal.begin_answered-requires-clause-full
 begin_answered-requires-clause-full g c =
     rw c.serve_at.ensures.rewritten.after_is
     (again-full c.args.pool.now c.args.self.now c.args.head.now c.args.size c.args.place
-    c.requires.reusable c.requires.whole.begins.keeps_pool)
+    c.requires.reusable c.requires.begins.whole.begins.keeps_pool)
 
-pub returns-clause-no_bytes : goal.returns-clause-no_bytes
-returns-clause-no_bytes g c =
-    let d = again_request c.args.head.now c.args.size c.args.place in
-    let own : newest c.args.head.now.request (with_slots (begun d c.args.self.now.slots) c.args.self.now) ≡ Some d =
-    begun-newest c.args.self.now d c.requires.session in
-    rw (c.begin_answered.ensures.session, own) refl
-
-pub returns-clause-answers : goal.returns-clause-answers
-returns-clause-answers g c =
-    let re = c.serve_at.ensures.rewritten in
-    let v = shown c.args.pool.now c.args.self.now in
-    let none = none-shown c.args.pool.now c.args.self.now c.args.head.now.request c.requires.session
-    c.requires.newer in
-    let bytes : message_in (buf_at c.serve_at.new.pool c.args.place) ≡ bytes_of re.buf = ap message_in re.there in
-    let same : bytes_of c.get.result.now ≡ bytes_of re.buf = ap message_in (sym c.get.ensures ∙ re.there) in
-    record {
-      answer = bytes_of re.buf;
-      shown_is = rw (c.begin_answered.ensures.session, c.begin_answered.ensures.pool, re.after_is)
-          (again-shows c.args.pool.now c.args.self.now c.args.head.now c.args.size c.args.place
-          c.requires.reusable c.requires.whole.begins.keeps_pool re.buf (rw re.after_is at re.there) re.size_is re.own)
-          ∙ answered-begun v c.args.head.now (bytes_of re.buf) none;
-      by_service = λ served stands. (
-        sym bytes ∙ c.serve_at.ensures.answer served stands,
-        c.serve_at.ensures.next served stands,
-      );
-      grew = rw (c.bytes.ensures.message, same) at c.note_ran.ensures;
-    }
-
-pub returns-clause-replies : goal.returns-clause-replies
-returns-clause-replies g c =
+pub returns : goal.returns
+returns g c =
     let s = c.args.self.now in
     let head = c.args.head.now in
     let pool = c.args.pool.now in
+    let reusable = c.requires.reusable in
+    let keeps = c.requires.begins.whole.begins.keeps_pool in
+    let one = c.requires.begins.whole.one in
+    let session = c.requires.begins.session in
     let re = c.serve_at.ensures.rewritten in
     let e = c.begin_answered.result in
     let d = again_request head c.args.size c.args.place in
+    let own : newest head.request (with_slots (begun d s.slots) s) ≡ Some d = begun-newest s d session in
+    let there = rw re.after_is at re.there in
+    let bytes : message_in (buf_at c.serve_at.new.pool c.args.place) ≡ bytes_of re.buf = ap message_in re.there in
+    let same : bytes_of c.get.result.now ≡ bytes_of re.buf = ap message_in (sym c.get.ensures ∙ re.there) in
     let turn = answered-turn head (record { place = c.args.place; size = c.args.size; own = true })
-    c.requires.whole.begins.size c.requires.whole.one (omega (arith, c.requires.short)) in
-    let unheld = again-unheld pool s head c.args.size c.args.place c.requires.reusable
-    c.requires.whole.begins.keeps_pool (rw c.requires.reusable.newest_is at c.requires.whole.begins.unheld) in
+    c.requires.begins.whole.begins.size one (omega (arith, c.requires.short)) in
+    let unheld = again-unheld pool s head c.args.size c.args.place reusable keeps
+    (rw reusable.newest_is at c.requires.begins.whole.begins.unheld) in
     let place = ap (λ x. x.place) c.begin_answered.ensures.reply
     ∙ late-placed d (record { place = c.args.place; size = c.args.size; own = true }) 0 refl
-    (omega (arith, c.requires.whole.one)) in
+    (omega (arith, one)) in
     rw (c.begin_answered.ensures.session, c.begin_answered.ensures.pool, re.after_is) (record {
-      reply = rw c.begin_answered.ensures.reply (again-reply pool s head c.args.size c.args.place
-          c.requires.reusable c.requires.whole.begins.keeps_pool re.buf c.requires.session turn
-          (omega (arith, c.requires.whole.one)));
-      begins = record {
-        places = record {
-          spare = again-spare pool s head c.args.size c.args.place c.requires.reusable
-              c.requires.whole.begins.keeps_pool re.buf;
-          others = again-others pool s head c.args.size c.args.place c.requires.reusable re.buf;
-          keeps_pool = again-keeps pool s head c.args.size c.args.place c.requires.reusable
-              c.requires.whole.begins.keeps_pool re.buf (rw re.after_is at re.there) re.size_is re.own;
+      answers = record {
+        answer = bytes_of re.buf;
+        shown_is = again-shows pool s head c.args.size c.args.place reusable keeps re.buf there
+            re.size_is re.own ∙ answered-begun (shown pool s) head (bytes_of re.buf)
+            (none-shown pool s head.request session c.requires.begins.newer);
+        by_service = λ served stands. (
+          sym bytes ∙ c.serve_at.ensures.answer served stands,
+          c.serve_at.ensures.next served stands,
+        );
+        grew = rw (c.bytes.ensures.message, same) at c.note_ran.ensures;
+      };
+      no_bytes = rw own refl;
+      replies = record {
+        reply = rw c.begin_answered.ensures.reply (again-reply pool s head c.args.size c.args.place
+            reusable keeps re.buf session turn (omega (arith, one)));
+        begins = record {
+          places = record {
+            spare = again-spare pool s head c.args.size c.args.place reusable keeps re.buf;
+            others = again-others pool s head c.args.size c.args.place reusable re.buf;
+            keeps_pool = again-keeps pool s head c.args.size c.args.place reusable keeps re.buf
+                there re.size_is re.own;
+          };
+          replies = λ es. record {
+            holds = λ all. rw c.begin_answered.ensures.reply (again-holds pool s head c.args.size
+                c.args.place reusable keeps re.buf session turn (omega (arith, one)) es all unheld);
+            queued = λ all counted. first-counted pool s head.request session keeps d refl pool es
+                all counted e refl (ap (λ x. x.owner) c.begin_answered.ensures.reply);
+            counts = λ p. again-counts pool s head c.args.size c.args.place reusable keeps re.buf es
+                e p place;
+          };
+          served = λ mode_of new all. begun-served mode_of s.slots d new all;
         };
-        replies = λ es. record {
-          holds = λ all. rw c.begin_answered.ensures.reply (again-holds pool s head c.args.size
-              c.args.place c.requires.reusable c.requires.whole.begins.keeps_pool re.buf c.requires.session turn
-              (omega (arith, c.requires.whole.one)) es all unheld);
-          queued = λ all counted. first-counted pool s head.request c.requires.session
-              c.requires.whole.begins.keeps_pool d refl pool es all counted e refl
-              (ap (λ x. x.owner) c.begin_answered.ensures.reply);
-          counts = λ p. again-counts pool s head c.args.size c.args.place c.requires.reusable
-              c.requires.whole.begins.keeps_pool re.buf es e p place;
-        };
-        served = λ mode_of new all. begun-served mode_of s.slots d new all;
       };
     })

@@ -1,4 +1,5 @@
-use Rattle.std.proofs.Common.{◌≡◌, ◌∙◌, [], drop, arith}
+use Rattle.std.proofs.Common.{◌≡◌, ◌∙◌, [], drop, refl, arith}
+use Rattle.server_core.specs.Serving.{all_given_up}
 use Rattle.std.proofs.Math.ListN.{drop_of_length-le}
 use Rattle.server_core.proofs.GivenLemmas.{front-beside, next-front, unheld-rest}
 use Rattle.server_core.proofs.PlaceLemmas.{gone-keeps}
@@ -28,23 +29,18 @@ loop-request-preserved c =
       unheld = unheld-rest c.loop-request.pool c.request-item.result _ beside unheld.1;
     })
 
-pub returns-clause-pool : goal.returns-clause-pool
-returns-clause-pool c =
+pub returns : goal.returns
+returns c =
+    let slots = c.args.self.slots in
+    let pool = c.args.pool.now in
+    let keeps = c.requires.keeps_pool in
     let none : drop c.loop-request.request-index c.as_slice-request-items.result.now ≡ [] =
     drop_of_length-le c.as_slice-request-items.result.now {i = c.loop-request.request-index}
     c.loop-request-test.false in
-    rw none at c.loop-request.invariant.left
-
-pub returns-clause-counts : goal.returns-clause-counts
-returns-clause-counts c = λ entries counts p.
-    rw (returns-clause-pool c) (all-refs c.args.pool.now c.args.self.slots p c.requires.keeps_pool
-    c.requires.unheld ∙ counts p)
-
-pub returns-clause-spare : goal.returns-clause-spare
-returns-clause-spare c =
-    rw (returns-clause-pool c) (all-spare c.args.pool.now c.args.self.slots c.requires.keeps_pool
-    c.requires.unheld)
-
-pub returns-clause-others : goal.returns-clause-others
-returns-clause-others c =
-    rw (returns-clause-pool c) (all-others c.args.pool.now c.args.self.slots)
+    let left : c.loop-request.pool ≡ all_given_up slots pool = rw none at c.loop-request.invariant.left in
+    rw left (record {
+      pool = refl;
+      spare = all-spare pool slots keeps c.requires.unheld;
+      others = all-others pool slots;
+      counts = λ entries counts p. all-refs pool slots p keeps c.requires.unheld ∙ counts p;
+    })

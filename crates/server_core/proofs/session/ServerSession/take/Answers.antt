@@ -130,9 +130,22 @@ last_given-given-requires g c =
     c.in-Some.request c.requires.ready.session.in_turn found in
     omega (arith, packet_count_most c.in-Some.request.size turn.size, part.within, next.in_turn)
 
-pub answer_inline-reply-requires-clause-awaited : goal.answer_inline-reply-requires-clause-awaited
-answer_inline-reply-requires-clause-awaited g c =
-    rw c.last_given-given.ensures c.take_working-ask-2.ensures.awaited
+pub answer_inline-reply-requires-clause-asked : goal.answer_inline-reply-requires-clause-asked
+answer_inline-reply-requires-clause-asked g c =
+    let next = rw (sym c.in-Some.ensures) at c.requires.next in
+    let part = next.part (sym c.is_rfr.ensures ∙ c.if-is_rfr.false) in
+    rw c.last_given-given.ensures (record {
+      awaited = c.take_working-ask-2.ensures.awaited;
+      own = next.same;
+      last = omega (
+        arith,
+        part.within,
+        next.in_turn,
+        c.if-from-count.false,
+        c.from.ensures,
+        c.count.ensures,
+      );
+    })
 
 pub answer_inline-reply-requires-clause-serves : goal.answer_inline-reply-requires-clause-serves
 answer_inline-reply-requires-clause-serves g c =
