@@ -17,8 +17,7 @@ use Rattle.rpc_laws.specs.Groups.{state_of, told_state}
 use Rattle.rpc_laws.specs.Sessions.{asks}
 use Rattle.session_slots.specs.declared.waiting.Waiting.{Waiting}
 use Rattle.client_core.specs.KeepsPool.{names}
-use Rattle.client_core.specs.Session.{Session, enqueued, new_session}
-use Rattle.client_core.specs.Shown.{asked, shown}
+use Rattle.client_core.specs.Session.{Session, new_session}
 use Rattle.server_core.specs.Session.{Session as Serving}
 use Rattle.session_store.specs.declared.side.Side.{Side}
 use Rattle.session_store.specs.declared.stage.Stage.{Stage}
@@ -30,12 +29,13 @@ use Rattle.session_store.specs.Joined.{joined, shown_with, undue}
 use Rattle.pacing_wheel.specs.Wheel.{Wheel}
 use Rattle.session_store.proofs.ChangesLemmas.{changes-calls}
 use Rattle.session_store.proofs.UndueLemmas.{flat}
+use Rattle.client_core.specs.Effects.{Waits}
 use Rattle.session_store.specs.Effects.{SideWaits, asking_in}
 use Rattle.session_store.specs.Ends.{shown_end}
 use Rattle.session_store.specs.Sides.{HasSlots, IsOf, IsOfOwner, IsOfSide, Kept, Shown, SideAscends}
 use Rattle.session_store.specs.Sides.{places_in, served_places, SideKept, SideQueued, shown_of}
 use Rattle.session_store.specs.Sides.{shown_side}
-use Rattle.client_core.specs.Handing.{handed_of, handed_waiting}
+use Rattle.client_core.specs.Handing.{handed_waiting}
 use Rattle.session_store.specs.Handing.{HandsInAt}
 use Rattle.session_store.specs.Sides.{side_handed}
 use Rattle.session_store.proofs.EndLemmas.{Steps, ask-steps, calls-end}
@@ -165,21 +165,11 @@ module _ (pool : Pool) (sides : List Side) (servers : List Serving) (tx : Ring E
 
 pub side-waits : {E : Type 0} (i : ℕ) (w : Waiting) (sides : List Side) (side : Side)
     (later : Session) → slice_get sides i ≡ Some side → (r : Result (Unit {0}) E)
-    → OnOk r (later ≡ enqueued w side.session)
-    → OnOk r ((pool : Pool) → (clock peer : ℕ)
-    → asked clock w (shown pool peer side.session) ≡ shown pool peer later ∷ [])
-    → OnOk r ((pool : Pool)
-    → handed_of pool later ≡ handed_of pool side.session ++ handed_waiting w ∷ [])
+    → OnOk r (Waits w side.session later)
     → OnOk r (SideWaits i w sides (slice_set sides i (record side { session = later })))
-side-waits i w sides side later at (Ok u) waits step handed =
-    record {
-      side = side;
-      at = at;
-      later = later;
-      step = record { waits = waits; step = step; handed = handed };
-      changed = refl;
-    }
-side-waits i w sides side later at (Err e) waits step handed = tt
+side-waits i w sides side later at (Ok u) waits =
+    record { side = side; at = at; later = later; step = waits; changed = refl }
+side-waits i w sides side later at (Err e) waits = tt
 
 -- one session more
 get-front : {A : Type 0} (xs : List A) (y x : A) (j : ℕ) → slice_get xs j ≡ Some x

@@ -183,7 +183,7 @@ module _ (pool after : Pool) (sides : List Side) (servers now : List Serving) (t
   end-acts : ServerActs pool after sides servers i h.server bare tx tx
   end-acts = record {
     acts = record {
-      leaves = h.ends.leaves;
+      leaves = h.ends.others;
       few = λ p. omega arith;
       counts = h.ends.counts tx.items kept.counted;
       beside = refl;

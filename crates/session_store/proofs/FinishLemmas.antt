@@ -85,15 +85,15 @@ module _ (pool after : Pool) (sides : List Side) (servers now : List Serving) (t
       let reply = h.step.finished.reply in
       record {
         acts = record {
-          leaves = h.step.leaves;
-          few = h.step.keeps.apart;
+          leaves = h.step.places.others;
+          few = h.step.places.keeps_pool.apart;
           counts = h.step.counts tx.items kept.counted;
           beside = rest-push (λ d. is_reply_of h.server.number d.owner) tx.items e
               (own-reply h.server.number r e.owner (reply.owner ∙ ap (λ n. Reply n r) same-number));
           within = omega (arith, has-room, length-append tx.items (e ∷ []));
           size = refl;
         };
-        keeps = h.step.keeps;
+        keeps = h.step.places.keeps_pool;
         number = same-number;
         stands = all-push (IsOf sides (slice_set servers i h.later)) tx.items e
             (ends-all sides servers i h.server h.later h.at same-number same-peer tx.items
@@ -101,8 +101,8 @@ module _ (pool after : Pool) (sides : List Side) (servers now : List Serving) (t
             reply.peer);
         holds = h.step.holds tx.items (all-at (ServerHolds pool tx.items) servers i h.server kept.holds h.at);
         queued = h.step.queued tx.items (all-at (ServerQueued tx.items) servers i h.server kept.replies h.at);
-        served = places-most h.later h.step.sound;
-        spare = h.step.spare;
+        served = places-most h.later h.step.then_sound;
+        spare = h.step.places.spare;
       }
 
   pub finish-kept : Kept after sides now (ring (tx.items ++ e ∷ []) tx.size)

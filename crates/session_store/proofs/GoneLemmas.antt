@@ -28,7 +28,8 @@ use Rattle.client_core.proofs.CallsLemmas.{length-at_first}
 use Rattle.client_core.proofs.OutcomeLemmas.{active-found}
 use Rattle.server_core.specs.Session.{Session as Serving}
 use Rattle.session_store.specs.declared.side.Side.{Side}
-use Rattle.session_store.specs.Effects.{Leaves, SideFlushes, SideSends, SpellsIn}
+use Rattle.client_core.specs.Keeping.{LeavesEntry}
+use Rattle.session_store.specs.Effects.{SideFlushes, SideSends, SpellsIn}
 use Rattle.session_store.specs.declared.stage.Stage.{Stage}
 use Rattle.session_store.specs.declared.stage.Stage.TheVariants.{Connecting, Connected, Closing, Closed}
 use Rattle.session_store.specs.declared.stage.Stage.TheVariants.{Failed, Broken}
@@ -46,13 +47,13 @@ use Rattle.session_store.proofs.PostedLemmas.{spare-released}
 use Rattle.session_store.proofs.StandLemmas.{OfSide, all-taken, of-side, stands-all}
 use Rattle.session_store.proofs.StoreLemmas.{own-ask}
 
-pub sent-long : (e : EntryValue) (now : ℕ) (s new : Session) → new ≡ sent_at e now s
+sent-long : (e : EntryValue) (now : ℕ) (s new : Session) → new ≡ sent_at e now s
     → length new.active ≡ length s.active
 sent-long e now s new is =
     ap (λ (x : Session). length x.active) is ∙ length-at_first (is_owner s.number e.owner)
     (marked e.number now) s.active
 
-pub flushed-long : (e : EntryValue) (s new : Session) → new ≡ flushed_at e s
+flushed-long : (e : EntryValue) (s new : Session) → new ≡ flushed_at e s
     → length new.active ≡ length s.active
 flushed-long e s new is =
     ap (λ (x : Session). length x.active) is ∙ length-at_first (is_owner s.number e.owner) one_left
@@ -139,7 +140,8 @@ module _ (pool after : Pool) (sides : List Side) (servers : List Serving) (tx : 
   gone-stands = subst (IsOfSide e) (sym gone-side.at) gone-side.is
 
   module _ (side : Side) (at : slice_get sides i ≡ Some side) (later : Session)
-      (g : Leaves e side.session later pool after)
+      (g : LeavesEntry e side.session later pool after) (number : later.number ≡ side.session.number)
+      (long : length later.active ≡ length side.session.active)
       (up : SideAscends after (record side { session = later })) where
     abbrev changed : Side
     changed = record side { session = later }
@@ -152,22 +154,22 @@ module _ (pool after : Pool) (sides : List Side) (servers : List Serving) (tx : 
         let fewer = taken-fewer passes e tx.items left out in
         record {
           acts = record {
-            leaves = g.leaves gone-of.2;
-            few = g.keeps.apart;
+            leaves = g.others gone-of.2;
+            few = g.keeps_pool.apart;
             counts = g.counts passes tx.items left out kept.counted;
             beside = rest-taken (λ d. is_ask_of i d.owner) passes e tx.items left out (own-ask i r e.owner own);
             within = omega (arith, kept.within, fewer);
             size = refl;
           };
-          keeps = g.keeps;
-          number = g.number;
+          keeps = g.keeps_pool;
+          number = number;
           ascends = up;
           stands = stands-all sides servers i side changed at refl refl g.entries left
               (all-taken (IsOf sides servers) passes e tx.items left out kept.stands).1;
           queued = g.queued gone-of.2 passes tx.items left out
               (all-at (SideQueued tx.items) sides i side kept.queued at);
-          slots = omega (arith, g.long, all-at HasSlots sides i side kept.slots at);
-          spare = omega (arith, g.long, ap (λ (x : Pool). spare_of x) g.pool, spare-released pool e.place gone-held);
+          slots = omega (arith, long, all-at HasSlots sides i side kept.slots at);
+          spare = omega (arith, long, ap (λ (x : Pool). spare_of x) g.pool, spare-released pool e.place gone-held);
         }
 
 -- it was sent
@@ -186,7 +188,8 @@ module _ (pool after : Pool) (sides now : List Side) (servers : List Serving) (t
   sent-acts : ClientActs pool after sides servers i h.side (record h.side { session = h.later }) tx
       (ring left tx.size)
   sent-acts = gone-acts pool after sides servers tx i r e passes left kept out own h.side h.at
-      h.later h.step.gone sent-steps.calls
+      h.later h.step.leaves (ap (λ (x : Session). x.number) h.step.session)
+      (sent-long e clock h.side.session h.later h.step.session) sent-steps.calls
 
   pub sent-kept : Kept after now servers (ring left tx.size)
   sent-kept = subst (λ xs. Kept after xs servers (ring left tx.size)) (sym h.changed)
@@ -209,7 +212,7 @@ module _ (pool after : Pool) (sides now : List Side) (servers : List Serving) (t
   pub sent-handed : map (side_handed after) now ≡ map (side_handed pool) sides
   sent-handed = ap (map (side_handed after)) h.changed
       ∙ handed-kept pool after sides servers i h.side (record h.side { session = h.later }) tx
-      (ring left tx.size) h.at kept sent-acts h.step.gone.handed
+      (ring left tx.size) h.at kept sent-acts h.step.leaves.handed
 
 -- it was taken out unsent
 module _ (pool after : Pool) (sides now : List Side) (servers : List Serving) (tx : Ring EntryValue)
@@ -225,7 +228,8 @@ module _ (pool after : Pool) (sides now : List Side) (servers : List Serving) (t
   flushed-acts : ClientActs pool after sides servers i h.side (record h.side { session = h.later })
       tx (ring left tx.size)
   flushed-acts = gone-acts pool after sides servers tx i r e passes left kept out own h.side h.at
-      h.later h.step.gone (rw flushed-view (all-at (SideAscends pool) sides i h.side kept.ascends
+      h.later h.step.leaves (ap (λ (x : Session). x.number) h.step.session)
+      (flushed-long e h.side.session h.later h.step.session) (rw flushed-view (all-at (SideAscends pool) sides i h.side kept.ascends
       h.at))
 
   pub flushed-kept : Kept after now servers (ring left tx.size)
@@ -250,7 +254,7 @@ module _ (pool after : Pool) (sides now : List Side) (servers : List Serving) (t
   pub flushed-handed : map (side_handed after) now ≡ map (side_handed pool) sides
   flushed-handed = ap (map (side_handed after)) h.changed
       ∙ handed-kept pool after sides servers i h.side (record h.side { session = h.later }) tx
-      (ring left tx.size) h.at kept flushed-acts h.step.gone.handed
+      (ring left tx.size) h.at kept flushed-acts h.step.leaves.handed
 
 -- its packet is that of what is shown
 packet-cases : (stage : Stage) (pool : Pool) (peer r : ℕ) (s : Session) (e : EntryValue)

@@ -47,7 +47,8 @@ use Rattle.session_store.specs.declared.stage.Stage.TheVariants.{Failed, Broken}
 use Rattle.session_store.specs.Changes.{ActiveAt, ChangesAt, IsConnected, IsIdle, IsLost, LosesAt}
 use Rattle.session_store.specs.Changes.{RowAt}
 use Rattle.session_store.specs.Changes.{calls_in, first_number}
-use Rattle.session_store.specs.Effects.{LosesNext, SideLoses}
+use Rattle.client_core.specs.Effects.{LosesNext}
+use Rattle.session_store.specs.Effects.{SideLoses}
 use Rattle.session_store.specs.Ends.{progress_of, shown_end}
 use Rattle.session_store.specs.Sides.{HasSlots, IsOf, IsOfOwner, IsOfSide, Kept, ServerHolds, Shown}
 use Rattle.session_store.specs.Sides.{SideAscends, SideKept, SideQueued, places_in, queued_of}
@@ -302,20 +303,20 @@ module _ (pool after : Pool) (sides now : List Side) (servers : List Serving) (t
       (all-at (SideKept pool) sides i h.side kept.keeps h.at) h.step in
       record {
         acts = record {
-          leaves = h.step.leaves;
-          few = h.step.keeps.apart;
-          counts = h.step.counts tx.items kept.counted;
+          leaves = h.step.still.others;
+          few = h.step.still.keeps_pool.apart;
+          counts = h.step.still.counts tx.items kept.counted;
           beside = refl;
           within =
               kept.within;
           size = refl;
         };
-        keeps = h.step.keeps;
+        keeps = h.step.still.keeps_pool;
         number = spends.number;
         ascends = up-cases o h.step;
         stands = stands-idle sides servers i less tx.items
             (idle-entries pool sides servers tx kept seen-as view i idle) kept.stands;
-        queued = h.step.queued tx.items (all-at (SideQueued tx.items) sides i h.side kept.queued h.at);
+        queued = h.step.still.queued tx.items (all-at (SideQueued tx.items) sides i h.side kept.queued h.at);
         slots = omega (arith, spends.fewer, all-at HasSlots sides i h.side kept.slots h.at);
         spare = spends.spare;
       }

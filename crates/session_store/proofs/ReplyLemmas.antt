@@ -43,7 +43,8 @@ use Rattle.client_core.proofs.PlacesLemmas.{two-places}
 use Rattle.server_core.specs.Session.{Session as Serving}
 use Rattle.server_core.specs.Shown.{shown as shown_server}
 use Rattle.session_store.specs.declared.side.Side.{Side}
-use Rattle.session_store.specs.Effects.{RepliesTo, SideChanges}
+use Rattle.client_core.specs.Effects.{RepliesTo}
+use Rattle.session_store.specs.Effects.{SideChanges}
 use Rattle.session_store.specs.Hearing.{RepliesAt}
 use Rattle.session_store.specs.Stages.{is_connected}
 use Rattle.session_store.specs.declared.stage.Stage.TheVariants.{Connected}
@@ -186,19 +187,19 @@ module _ (pool after : Pool) (sides now : List Side) (servers : List Serving) (t
       (all-at (SideKept pool) sides i g.side kept.keeps g.at) r g.step.replies in
       record {
         acts = record {
-          leaves = g.step.leaves;
-          few = g.step.keeps.apart;
-          counts = g.step.counts tx.items kept.counted;
+          leaves = g.step.still.others;
+          few = g.step.still.keeps_pool.apart;
+          counts = g.step.still.counts tx.items kept.counted;
           beside = refl;
           within =
               kept.within;
           size = refl;
         };
-        keeps = g.step.keeps;
+        keeps = g.step.still.keeps_pool;
         number = spends.number;
         ascends = steps.calls;
         stands = stands-cases r g.step.row g.step.replies g.step.entries;
-        queued = g.step.queued tx.items (all-at (SideQueued tx.items) sides i g.side kept.queued g.at);
+        queued = g.step.still.queued tx.items (all-at (SideQueued tx.items) sides i g.side kept.queued g.at);
         slots = omega (arith, spends.fewer, all-at HasSlots sides i g.side kept.slots g.at);
         spare = spends.spare;
       }

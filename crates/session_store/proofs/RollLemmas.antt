@@ -21,15 +21,10 @@ use Rattle.rpc_laws.specs.declared.tables.Client.{Client}
 use Rattle.rpc_laws.specs.declared.tables.Progress.{Progress}
 use Rattle.session_slots.specs.declared.waiting.Waiting.{Waiting}
 use Rattle.client_core.specs.declared.call.ActiveCall.{ActiveCall}
-use Rattle.client_core.specs.Counting.{CountsQueued}
-use Rattle.client_core.specs.Handing.{handed_of}
-use Rattle.client_core.specs.KeepsEntries.{KeepsOthers}
-use Rattle.client_core.specs.KeepsPool.{KeepsPool, LeavesOthers}
 use Rattle.client_core.specs.Replies.{is_request}
 use Rattle.client_core.specs.Session.{Session}
-use Rattle.client_core.specs.Shown.{parts_of, rolled_event, shown, shown_active, shown_waiting}
-use Rattle.client_core.specs.Shown.{stepped}
-use Rattle.client_core.specs.Timeouts.{after_roll, call_numbered, is_numbered, rolled_call}
+use Rattle.client_core.specs.Shown.{parts_of, shown, shown_active, shown_waiting}
+use Rattle.client_core.specs.Timeouts.{call_numbered, is_numbered, rolled_call}
 use Rattle.client_core.proofs.CallsLemmas.{length-at_first}
 use Rattle.client_core.proofs.ShownLemmas.{found-shown}
 use Rattle.server_core.specs.Session.{Session as Serving}
@@ -38,7 +33,7 @@ use Rattle.session_store.specs.declared.stage.Stage.{Stage}
 use Rattle.session_store.specs.declared.stage.Stage.TheVariants.{Connecting, Connected, Closing, Closed}
 use Rattle.session_store.specs.declared.stage.Stage.TheVariants.{Failed, Broken}
 use Rattle.session_store.specs.Changes.{MayRoll, RollsAt}
-use Rattle.session_store.specs.Effects.{RollsBack, SideRolls}
+use Rattle.session_store.specs.Effects.{SideRolls}
 use Rattle.session_store.specs.Ends.{progress_of, shown_end}
 use Rattle.session_store.specs.Queue.{is_owned}
 use Rattle.session_store.specs.Sides.{HasSlots, Kept, Shown, SideAscends, SideKept, SideQueued}
@@ -49,46 +44,6 @@ use Rattle.session_store.proofs.KeptLemmas.{ClientActs, client-kept, client-plac
 use Rattle.session_store.proofs.KeptLemmas.{handed-kept}
 use Rattle.session_store.proofs.StandLemmas.{stands-but}
 use Rattle.session_store.proofs.TimerLemmas.{RollsEnd, numbered-same, progress-found, roll-end}
-
--- what the session did
-rolls-by : (number : ℕ) (old new : Session) (o : Option ActiveCall) → call_numbered number old ≡ o
-    → IsSome o → IfSome o (λ c. new ≡ after_roll c old)
-    → IfSome o (λ c. (pool : Pool) → (clock peer : ℕ)
-    → stepped clock (rolled_event c) (shown pool peer old) ≡ shown pool peer new ∷ [])
-    → ((pool : Pool) → handed_of pool new ≡ handed_of pool old)
-    → ((pool : Pool) → LeavesOthers old.active new.active pool pool)
-    → IfSome o (λ c. KeepsOthers c.request old new)
-    → ((es : List EntryValue) → CountsQueued old es → CountsQueued new es)
-    → ((pool : Pool) → KeepsPool pool old.active → KeepsPool pool new.active)
-    → RollsBack number old new
-rolls-by number old new None e some session step handed leaves entries queued keeps = cc
-rolls-by number old new (Some c) e some session step handed leaves entries queued keeps =
-    record {
-      call = c;
-      found = e;
-      session = session;
-      step = step;
-      handed = handed;
-      leaves = leaves;
-      entries = entries;
-      queued = queued;
-      keeps = keeps;
-    }
-
-pub rolls-back : (number : ℕ) (old new : Session) → IsSome (call_numbered number old)
-    → IfSome (call_numbered number old) (λ c. new ≡ after_roll c old)
-    → IfSome (call_numbered number old)
-    (λ c. (pool : Pool) → (clock peer : ℕ)
-    → stepped clock (rolled_event c) (shown pool peer old) ≡ shown pool peer new ∷ [])
-    → ((pool : Pool) → handed_of pool new ≡ handed_of pool old)
-    → ((pool : Pool) → LeavesOthers old.active new.active pool pool)
-    → IfSome (call_numbered number old) (λ c. KeepsOthers c.request old new)
-    → ((es : List EntryValue) → CountsQueued old es → CountsQueued new es)
-    → ((pool : Pool) → KeepsPool pool old.active → KeepsPool pool new.active)
-    → RollsBack number old new
-rolls-back number old new some session step handed leaves entries queued keeps =
-    rolls-by number old new (call_numbered number old) refl some session step handed leaves entries queued
-    keeps
 
 module _ (pool : Pool) (sides now : List Side) (servers : List Serving) (tx : Ring EntryValue)
     (i number : ℕ) (kept : Kept pool sides servers tx) (h : SideRolls i number sides now)
@@ -103,10 +58,10 @@ module _ (pool : Pool) (sides now : List Side) (servers : List Serving) (tx : Ri
 
   roll-acts : ClientActs pool pool sides servers i h.side rolled_side tx tx
   roll-acts =
-      let keeps = h.step.keeps pool (all-at (SideKept pool) sides i h.side kept.keeps h.at) in
+      let keeps = h.step.keeps_pool pool (all-at (SideKept pool) sides i h.side kept.keeps h.at) in
       record {
         acts = record {
-          leaves = h.step.leaves pool;
+          leaves = h.step.others pool;
           few = keeps.apart;
           counts = kept.counted;
           beside = refl;

@@ -59,7 +59,7 @@ use Rattle.session_store.specs.Joined.{put_ready}
 use Rattle.session_store.specs.Queue.{is_owned}
 use Rattle.session_store.specs.Serving.{AreServedAt, HandlesAt, ServerCanHold}
 use Rattle.session_store.specs.Serving.{IsReplyOf, ServerServed, handled_facts, queue_handled}
-use Rattle.session_store.specs.Serving.{row_at, without_owned}
+use Rattle.session_store.specs.Serving.{in_store, row_at, without_owned}
 use Rattle.session_store.specs.Sides.{IsOf, Kept, ServerHolds, ServerQueued, Shown, places_in}
 use Rattle.session_store.specs.Sides.{queued_of, served_places, shown_of, shown_side}
 use Rattle.session_store.specs.Sides.{side_handed}
@@ -260,6 +260,46 @@ pub seen-served : (pool : Pool) (mode_of : ℕ → Mode) (qs : List SlotRequest)
 seen-served pool mode_of [] all = tt
 seen-served pool mode_of (q ∷ qs) all = (all.0, seen-served pool mode_of qs all.1)
 
+-- what stands at its place then
+pub later-is : {Made : Serving → Serving → Type 0} {i : ℕ} {servers now : List Serving}
+    (g : ServerStep i Made servers now) → slice_get now i ≡ Some g.later
+later-is {i = i} {servers = servers} g =
+    ap (λ vs. slice_get vs i) g.changed ∙ set-here servers i g.server g.later g.at
+
+-- server session i, as it is looked at
+module _ (pool : Pool) (servers : List Serving) (i : ℕ) where
+  pub served-at : (mode_of : ℕ → Mode) → AreServedAt mode_of i (map (shown_server pool) servers)
+      → IfSome (slice_get servers i) (ServerServed mode_of)
+  served-at mode_of all = cases (slice_get servers i) refl
+    where
+      cases : (o : Option Serving) → slice_get servers i ≡ o → IfSome o (ServerServed mode_of)
+      cases None e = tt
+      cases (Some v) e =
+          let here : AllByRecursion (λ q. mode_of q.req_type ≢ Unserved)
+          (map (shown_request pool) v.slots) =
+          rw (get-map (shown_server pool) servers i v e) at all in
+          served-seen pool mode_of v.slots here
+
+  none-map : slice_get servers i ≡ None → slice_get (map (shown_server pool) servers) i ≡ None
+  none-map e = by servers i e
+    where
+      by : (vs : List Serving) (j : ℕ) → slice_get vs j ≡ None
+          → slice_get (map (shown_server pool) vs) j ≡ None
+      by [] j e = refl
+      by (v ∷ vs) zero e = cc
+      by (v ∷ vs) (suc j) e = by vs j e
+
+  pub at-served : (mode_of : ℕ → Mode) → IfSome (slice_get servers i) (ServerServed mode_of)
+      → AreServedAt mode_of i (map (shown_server pool) servers)
+  at-served mode_of all = cases (slice_get servers i) refl
+    where
+      cases : (o : Option Serving) → slice_get servers i ≡ o
+          → AreServedAt mode_of i (map (shown_server pool) servers)
+      cases None e = rw (none-map e) tt
+      cases (Some v) e =
+          let here : ServerServed mode_of v = rw e at all in
+          rw (get-map (shown_server pool) servers i v e) (seen-served pool mode_of v.slots here)
+
 -- server session i handled a packet
 module _ {V R : Type 0} {v : Service.Ghosts V} {log : R → Log} {jobs_full : Bool} {me i : ℕ}
     {h : MessageHeader} {body : List ℕ} {step : Step} {old new : Ring EntryValue}
@@ -400,14 +440,18 @@ module _ {V R : Type 0} {v : Service.Ghosts V} {log : R → Log} {jobs_full : Bo
   reply-own (Dropped why) is = tt
 
   pub serve-at : (session : h.session ≡ g.server.number) (before then : Shown)
-      → map (shown_server pool) servers ≡ before.servers
-      → map (shown_server after) now ≡ then.servers
+      (queued now_queued : List Queued)
+      → record (shown_of pool sides servers old) { queued = queued } ≡ before
+      → record (shown_of after sides now new) { queued = now_queued } ≡ then
       → ((r : ℕ) → numbers_of (Reply g.server.number r) (map queued_of old.items)
       ≡ numbers_of (Reply g.server.number r) before.queued)
       → then.queued ≡ queue_handled (row_at mode jobs_full false h server_seen) step server_seen h
-      before.queued → HandlesAt log mode jobs_full me i h body v.answer (v.stands serving)
-      (v.stands then_serving) rec then_rec step before then
-  serve-at session before then view later-view numbers queue =
+      before.queued → HandlesAt v log me i (incoming h body jobs_full) step
+      (in_store before serving rec) (in_store then then_serving then_rec)
+  serve-at session before then queued now_queued was is numbers queue =
+      let view : map (shown_server pool) servers ≡ before.servers = ap (λ (x : Shown). x.servers) was in
+      let later-view : map (shown_server after) now ≡ then.servers =
+      ap (λ (x : Shown). x.servers) is in
       let done = g.step.leaves.handled in
       let ruled = facts-same me mode g.server old.items row h body (asked_with h body server_seen)
       done.answer server_seen step (g.step.facts session me done.answer) in
@@ -437,6 +481,16 @@ module _ {V R : Type 0} {v : Service.Ghosts V} {log : R → Log} {jobs_full : Bo
             ∙ servers-set pool after sides servers i g.server g.later old final g.at kept
             serve-acts ∙ ap (λ vs. slice_set vs i (shown_server after g.later)) view;
         queue = queue;
+        all_served = subst (λ vs. AreServedAt v.mode_of i vs) later-view
+            (at-served after now i v.mode_of (rw (later-is g) g.step.leaves.all_served));
+        service = g.step.leaves.service;
+        clients = sym (ap (λ (x : Shown). x.clients) is) ∙ serve-clients
+            ∙ ap (λ (x : Shown). x.clients) was;
+        size = sym (ap (λ (x : Shown). x.size) is) ∙ size-is ∙ ap (λ (x : Shown). x.size) was;
+        handed = sym (ap (λ (x : Shown). x.handed) is) ∙ serve-handed
+            ∙ ap (λ (x : Shown). x.handed) was;
+        places = sym (ap (λ (x : Shown). x.places) is) ∙ serve-places
+            ∙ ap (λ (x : Shown). x.places) was;
       }
 
   pub final-none : replies_of step ≡ [] → final ≡ new
@@ -445,46 +499,6 @@ module _ {V R : Type 0} {v : Service.Ghosts V} {log : R → Log} {jobs_full : Bo
   pub final-one : (e : EntryValue) → replies_of step ≡ e ∷ []
       → final ≡ ring (new.items ++ e ∷ []) new.size
   final-one e is = ap (λ rs. ring (new.items ++ rs) new.size) is
-
--- what stands at its place then
-pub later-is : {Made : Serving → Serving → Type 0} {i : ℕ} {servers now : List Serving}
-    (g : ServerStep i Made servers now) → slice_get now i ≡ Some g.later
-later-is {i = i} {servers = servers} g =
-    ap (λ vs. slice_get vs i) g.changed ∙ set-here servers i g.server g.later g.at
-
--- server session i, as it is looked at
-module _ (pool : Pool) (servers : List Serving) (i : ℕ) where
-  pub served-at : (mode_of : ℕ → Mode) → AreServedAt mode_of i (map (shown_server pool) servers)
-      → IfSome (slice_get servers i) (ServerServed mode_of)
-  served-at mode_of all = cases (slice_get servers i) refl
-    where
-      cases : (o : Option Serving) → slice_get servers i ≡ o → IfSome o (ServerServed mode_of)
-      cases None e = tt
-      cases (Some v) e =
-          let here : AllByRecursion (λ q. mode_of q.req_type ≢ Unserved)
-          (map (shown_request pool) v.slots) =
-          rw (get-map (shown_server pool) servers i v e) at all in
-          served-seen pool mode_of v.slots here
-
-  none-map : slice_get servers i ≡ None → slice_get (map (shown_server pool) servers) i ≡ None
-  none-map e = by servers i e
-    where
-      by : (vs : List Serving) (j : ℕ) → slice_get vs j ≡ None
-          → slice_get (map (shown_server pool) vs) j ≡ None
-      by [] j e = refl
-      by (v ∷ vs) zero e = cc
-      by (v ∷ vs) (suc j) e = by vs j e
-
-  pub at-served : (mode_of : ℕ → Mode) → IfSome (slice_get servers i) (ServerServed mode_of)
-      → AreServedAt mode_of i (map (shown_server pool) servers)
-  at-served mode_of all = cases (slice_get servers i) refl
-    where
-      cases : (o : Option Serving) → slice_get servers i ≡ o
-          → AreServedAt mode_of i (map (shown_server pool) servers)
-      cases None e = rw (none-map e) tt
-      cases (Some v) e =
-          let here : ServerServed mode_of v = rw e at all in
-          rw (get-map (shown_server pool) servers i v e) (seen-served pool mode_of v.slots here)
 
 pub seen-own : (pool : Pool) (sides : List Side) (servers : List Serving) (tx : Ring EntryValue)
     (seen : Shown) (i n : ℕ) (v : Serving) → shown_of pool sides servers tx ≡ seen

@@ -117,14 +117,14 @@ module _ (pool after : Pool) (sides now : List Side) (servers : List Serving) (t
       h.step.session h.step.pool in
       record {
         acts = record {
-          leaves = h.step.leaves;
-          few = h.step.keeps.apart;
+          leaves = h.step.others;
+          few = h.step.keeps_pool.apart;
           counts = h.step.counts tx.items kept.counted;
           beside = rest-push (λ d. is_ask_of i d.owner) tx.items e (own-ask i asks.1 e.owner mine);
           within = omega (arith, has-room, length-append tx.items (e ∷ []));
           size = refl;
         };
-        keeps = h.step.keeps;
+        keeps = h.step.keeps_pool;
         number = posted-number pool after h.side.peer h.side.session h.later e own h.step.entry
             h.step.session h.step.pool;
         ascends = steps.calls;
@@ -333,15 +333,15 @@ module _ (pool after : Pool) (sides now : List Side) (servers : List Serving) (t
       let none = unbegun-all sides servers i b.1 h.side h.at number empty tx.items kept.stands in
       record {
         acts = record {
-          leaves = h.step.leaves;
-          few = h.step.keeps.apart;
+          leaves = h.step.others;
+          few = h.step.keeps_pool.apart;
           counts = h.step.counts tx.items kept.counted;
           beside = refl;
           within =
               kept.within;
           size = refl;
         };
-        keeps = h.step.keeps;
+        keeps = h.step.keeps_pool;
         number = ap (λ (x : Session). x.number) starts.session;
         ascends = begin-steps.calls;
         stands = stands-all sides servers i h.side started_side h.at refl refl h.step.entries tx.items kept.stands;

@@ -11,6 +11,7 @@ use Rattle.packet_rings.specs.Values.{EntryValue}
 use Rattle.rpc_laws.specs.Queues.{is_due, put_queued}
 use Rattle.rpc_laws.specs.declared.tables.Queued.{Queued}
 use Rattle.server_core.specs.Session.{Session as Serving}
+use Rattle.session_store.specs.declared.queue.Queue.{Queue}
 use Rattle.session_store.specs.declared.side.Side.{Side}
 use Rattle.session_store.specs.Sides.{Shown, queued_of, shown_of}
 
@@ -61,6 +62,16 @@ ready_first (Some n) (Some m) = nat_le n m
 pub record Paces (tx : Ring EntryValue) (paced : Wheel) : Type 0 where
   pub calls : AllByRecursion (λ p. is_reply p.entry ≡ false) paced.items
   pub half : 2 * paced.size ≡ tx.size
+
+-- the same of a queue
+abbrev pub joined_in : Queue → Ring EntryValue
+joined_in q = joined q.tx q.pacer
+
+abbrev pub queue_in : Queue → List Queued
+queue_in q = queue_of q.tx q.pacer
+
+abbrev pub PacesIn : Queue → Type 0
+PacesIn q = Paces q.tx q.pacer
 
 -- what contracts see of all sessions, of the ring and of the pacer
 abbrev pub shown_with : Pool → List Side → List Serving → Ring EntryValue → Wheel → Shown

@@ -18,15 +18,17 @@ use Rattle.rpc_laws.specs.declared.rows.ServerRow.TheVariants.{Drops}
 use Rattle.rpc_laws.specs.declared.tables.Queued.{Queued}
 use Rattle.rpc_laws.specs.declared.tables.Served.{Served as ServedRequest}
 use Rattle.rpc_laws.specs.declared.tables.Server.{Server}
-use Rattle.rpc_outside.specs.Served.{Served}
 use Rattle.rpc_outside.specs.declared.service.Mode.{Mode}
 use Rattle.rpc_outside.specs.declared.service.Mode.TheVariants.{Unserved}
+use Rattle.rpc_outside.specs.declared.service.Service as Service
 use Rattle.server_core.specs.Flushing.{has_begun, replies_of}
+use Rattle.server_core.specs.Handling.{rule_for}
 use Rattle.server_core.specs.Noting.{Handled}
 use Rattle.server_core.specs.Replies.{CanHold}
+use Rattle.server_core.specs.Scene.{Incoming, Scene, in_scene}
 use Rattle.server_core.specs.Session.{Session as Serving}
 use Rattle.server_core.specs.Steps.{AreServed, IfGiven, IfReply, IsParcel, IsStepOf, NeedsNoMemory}
-use Rattle.server_core.specs.Steps.{whole_with}
+use Rattle.server_core.specs.Steps.{UnlessRan, whole_with}
 use Rattle.server_core.specs.declared.step.Step.{Step}
 use Rattle.server_core.specs.declared.step.Step.TheVariants.{Took, Again, Ran, Give, Dropped}
 use Rattle.session_store.specs.Queue.{is_owned}
@@ -75,24 +77,36 @@ IsReplyOf t h e = (e.owner ≡ Reply t h.request) × (e.number ≡ h.number)
 abbrev pub row_at : Mode → (jobs_full lacks : Bool) → MessageHeader → Server → ServerRow
 row_at mode jobs_full lacks h v = server_row mode jobs_full lacks (Some v) v.way.peer h
 
+-- a store, with the service and the recorder beside it
+abbrev pub in_store : {V R : Type 0} → Shown → V → R → Scene Shown V R
+in_store s service recorder = record { state = s; service = service; recorder = recorder }
+
 -- server session i handled the packet as the node me, by the server rule
-pub record HandlesAt {R : Type 0} (log : R → Log)
-    (mode : Mode) (jobs_full : Bool) (me i : ℕ) (h : MessageHeader) (body : List ℕ)
-    (answer_of : Served → ℕ → List ℕ → List ℕ) (stands then_stands : Served → Type 0)
-    (noted_before noted_now : R) (step : Step) (old new : Shown) : Type 0 where
+pub record HandlesAt {V R : Type 0} (v : Service.Ghosts V) (log : R → Log) (me i : ℕ)
+    (packet : Incoming) (step : Step) (before after : Scene Shown V R) : Type 0 where
   pub server : Server
-  pub place : slice_get old.servers i ≡ Some server
-  pub row : IsStepOf mode h (row_at mode jobs_full false h server) step
-  pub lacks : step ≡ Dropped NoMemory → row_at mode jobs_full true h server ≡ Drops NoMemory
-  pub later : Server
-  pub handled : Handled log noted_before noted_now (λ answer. handled_facts me
-      (served_facts mode me answer old.queued (Some server) h body
-      (row_at mode jobs_full false h server)) step) answer_of stands then_stands h body server later
+  pub place : slice_get before.state.servers i ≡ Some server
+  pub row : IsStepOf (v.mode_of packet.head.req_type) packet.head (rule_for v false packet server)
       step
-  pub reply : IfReply step (IsReplyOf server.way.number h)
-  pub give : IfGiven step (IsParcel answer_of stands h body server)
+  pub lacks : step ≡ Dropped NoMemory → rule_for v true packet server ≡ Drops NoMemory
+  pub later : Server
+  pub handled : Handled v log (λ answer. handled_facts me
+      (served_facts (v.mode_of packet.head.req_type) me answer before.state.queued (Some server)
+      packet.head packet.body (rule_for v false packet server)) step) packet.head packet.body step
+      (in_scene server before) (in_scene later after)
+  pub reply : IfReply step (IsReplyOf server.way.number packet.head)
+  pub give : IfGiven step
+      (IsParcel v.answer (v.stands before.service) packet.head packet.body server)
   -- a short answer of a type that is handled inline needs no memory
-  pub short : NeedsNoMemory mode answer_of stands h (whole_with h body server) step
-  pub changed : new.servers ≡ slice_set old.servers i later
-  pub queue : new.queued ≡ queue_handled (row_at mode jobs_full false h server) step server h
-      old.queued
+  pub short : NeedsNoMemory (v.mode_of packet.head.req_type) v.answer (v.stands before.service)
+      packet.head (whole_with packet.head packet.body server) step
+  pub changed : after.state.servers ≡ slice_set before.state.servers i later
+  pub queue : after.state.queued ≡ queue_handled (rule_for v false packet server) step server
+      packet.head before.state.queued
+  pub all_served : AreServedAt v.mode_of i after.state.servers
+  pub service : UnlessRan step (after.service ≡ before.service)
+  -- nothing else changes
+  pub clients : after.state.clients ≡ before.state.clients
+  pub size : after.state.size ≡ before.state.size
+  pub handed : after.state.handed ≡ before.state.handed
+  pub places : after.state.places ≡ before.state.places

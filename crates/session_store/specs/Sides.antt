@@ -192,6 +192,14 @@ MayPost pool s = KeepsPool pool s.session.active × CanHold pool s.session.activ
 abbrev pub ServerKept : Pool → Serving → Type 0
 ServerKept pool v = KeepsAnswers pool v.slots
 
+-- an entry is a reply of the server session with a number: those of all sessions rise, and the pool
+-- keeps each
+pub record IsReplyThere (number : ℕ) (e : EntryValue) (pool : Pool) (servers : List Serving)
+    : Type 0 where
+  pub rises : Rises (numbers_in servers)
+  pub keeps : AllByRecursion (ServerKept pool) servers
+  pub stands : HasReply number e servers
+
 abbrev pub ServerHolds : Pool → List EntryValue → Serving → Type 0
 ServerHolds pool entries v = HoldsAll v pool entries
 

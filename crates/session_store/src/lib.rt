@@ -3,7 +3,7 @@
 #![tactic(auto)]
 
 mod ends;
-mod line;
+mod queue;
 mod server;
 mod side;
 mod stage;

@@ -12,7 +12,7 @@ ghost use Rattle.session_store.specs.Effects.{ServerEnds, ServerFinishes, Server
 ghost use Rattle.session_store.specs.Effects.{ServerSpells, ServerStep};
 ghost use Rattle.packet_rings.specs.Entries.{listed_entry, option_is};
 ghost use Rattle.session_store.specs.Serving.{ServerCanHold, ServerServed};
-ghost use Rattle.session_store.specs.Sides.{HasReply, ServerHolds, ServerKept, ServerQueued};
+ghost use Rattle.session_store.specs.Sides.{IsReplyThere, ServerHolds, ServerKept, ServerQueued};
 ghost use Rattle.session_store.specs.Sides.{Rises, has_number, numbers_in};
 ghost use Rattle.server_core.specs.Flushing.{replies_of};
 ghost use Rattle.server_core.specs.Serving.{IsUnheld};
@@ -79,9 +79,7 @@ pub fn reply_at<'a>(
     entry: &Entry,
     head: &mut [u8; HEAD_BYTES],
 ) -> &'a [u8]
-    requires rises { Rises (numbers_in servers.now.items) }
-    requires keeps { AllByRecursion (ServerKept pool.now) servers.now.items }
-    requires stands { HasReply session entry.now servers.now.items }
+    requires there { IsReplyThere session entry.now pool.now servers.now.items }
     ensures spells { ServerSpells session pool.now entry.now head.new result.now
         servers.now.items }
     ensures bytes { AreBytes head.new }
@@ -99,9 +97,7 @@ pub fn reply_sent_at(
     pool: &mut BufferPool,
     entry: &Entry,
 )
-    requires rises { Rises (numbers_in servers.old.items) }
-    requires keeps { AllByRecursion (ServerKept pool.old) servers.old.items }
-    requires stands { HasReply session entry.now servers.old.items }
+    requires there { IsReplyThere session entry.now pool.old servers.old.items }
     requires held { IsHeld pool.old entry.now.place }
     ensures { ServerGone session entry.now servers.old.items servers.new.items pool.old pool.new }
 {
@@ -118,9 +114,7 @@ pub fn reply_flushed_at(
     pool: &mut BufferPool,
     entry: &Entry,
 )
-    requires rises { Rises (numbers_in servers.old.items) }
-    requires keeps { AllByRecursion (ServerKept pool.old) servers.old.items }
-    requires stands { HasReply session entry.now servers.old.items }
+    requires there { IsReplyThere session entry.now pool.old servers.old.items }
     requires held { IsHeld pool.old entry.now.place }
     ensures { ServerGone session entry.now servers.old.items servers.new.items pool.old pool.new }
 {
@@ -146,9 +140,7 @@ pub fn finished_at(
         servers.new.items pool.old pool.new }
 {
     let server = &mut servers[i];
-    let reply = server.on_finished(pool, parcel);
-    server.sound();
-    reply
+    server.on_finished(pool, parcel)
 }
 
 /// The server session at place `i` ends, of which no reply is queued: its buffers leave the pool.

@@ -4,13 +4,14 @@ ghost use Rattle.std.specs.Prelude.{OnOk};
 ghost use Rattle.std.specs.List.{AllByRecursion};
 ghost use Rattle.memory_count.specs.Faults.{HasCause};
 ghost use Rattle.buffer_pool.specs.Pool.{spare_of};
+ghost use Rattle.client_core.specs.Effects.{RepliesTo};
 ghost use Rattle.client_core.specs.KeepsPool.{IsHeld};
 ghost use Rattle.client_core.specs.Replies.{IsUnheld, NextIsUnheld, call_as};
 ghost use Rattle.client_core.specs.Timeouts.{call_numbered, timer_told};
 ghost use Rattle.client_core.specs.declared.call.ActiveCall.{ActiveCall};
 ghost use Rattle.packet_header.specs.Header.{AreBytes, MessageInRange};
 ghost use Rattle.session_store.specs.Effects.{SideBegins, SideFlushes, SideLoses, SidePosts};
-ghost use Rattle.session_store.specs.Effects.{RepliesTo, SideChanges, SideRolls, SideSends};
+ghost use Rattle.session_store.specs.Effects.{SideChanges, SideRolls, SideSends};
 ghost use Rattle.session_store.specs.Effects.{SideWaits};
 ghost use Rattle.session_store.specs.Effects.{SpellsIn};
 ghost use Rattle.session_store.specs.Sides.{IsOfSide, MayPost, SideKept, life_at, server_at};
@@ -95,7 +96,6 @@ pub fn begin_at(
     ensures { SideBegins i result sides.old.items sides.new.items pool.old pool.new }
 {
     let side = &mut sides[i];
-    side.session.sound();
     side.session.begin(pool)
 }
 
@@ -207,7 +207,6 @@ pub fn lose_at(sides: &mut Vec<Side>, i: usize, pool: &mut BufferPool) -> Option
     ensures { SideLoses i result sides.old.items sides.new.items pool.old pool.new }
 {
     let side = &mut sides[i];
-    side.session.sound();
     side.session.lose(pool)
 }
 

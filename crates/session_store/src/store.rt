@@ -11,6 +11,7 @@ mod servers;
 mod shares;
 mod timers;
 
+use crate::queue::Queue;
 use crate::side::Side;
 use buffer_pool::BufferPool;
 pub use control::OwnRequests;
@@ -28,8 +29,7 @@ use std::marker::Model;
 #[derive(Drop)]
 pub struct Store {
     pool: BufferPool,
-    tx: TxRing,
-    pacer: Pacer,
+    queue: Queue,
     sides: Vec<Side>,
     servers: Vec<ServerSession>,
     // The credits of the live sessions.
@@ -47,10 +47,11 @@ impl Model for Store {
 
     ghost Value = { Shown };
 
-    ghost view = { λ s. shown_with s.pool s.sides.items s.servers.items s.tx s.pacer };
+    ghost view = { λ s. shown_with s.pool s.sides.items s.servers.items s.queue.tx s.queue.pacer };
 
-    ghost invariant = { λ s. Kept s.pool s.sides.items s.servers.items (joined s.tx s.pacer)
-        × Paces s.tx s.pacer
+    ghost invariant = { λ s. Kept s.pool s.sides.items s.servers.items
+        (joined s.queue.tx s.queue.pacer)
+        × Paces s.queue.tx s.queue.pacer
         × CountsShares s.shares (map (shown_side s.pool) s.sides.items)
         (map (shown s.pool) s.servers.items)
         × EndOrder s.ends.items (map way_of s.servers.items) };
@@ -70,8 +71,7 @@ impl Store {
         let pacer = Pacer::new(memory, ring)?;
         Ok(Store {
             pool,
-            tx,
-            pacer,
+            queue: Queue { tx, pacer },
             sides: Vec::new(memory.alloc()),
             servers: Vec::new(memory.alloc()),
             shares: 0,

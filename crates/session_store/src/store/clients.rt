@@ -1,5 +1,5 @@
 //! The client sessions: calls are asked, begin and are answered.
-ghost use Rattle.std.specs.Prelude.{◌≡◌, ◌<◌, ◌≤◌, ◌+◌, ◌*◌, ◌++◌, [], ◌∷◌, length};
+ghost use Rattle.std.specs.Prelude.{◌≡◌, ◌<◌, ◌≤◌, ◌+◌, ◌*◌, [], length};
 ghost use Rattle.std.specs.Prelude.{option_and_then, option_map, slice_get, IfErr, IfSome, OnErr};
 ghost use Rattle.std.specs.Prelude.{IsSome, List, OnOk};
 ghost use Rattle.std.specs.List.{AllByRecursion, list_any};
@@ -29,7 +29,6 @@ ghost use Rattle.session_store.specs.Stages.{named};
 ghost use Rattle.session_store.specs.Leaving.{MakesClient};
 
 use super::Store;
-use crate::line::{holds_in, put_in};
 use crate::side::{Side, begin_at, enqueue_at, heard_at, post_at};
 use crate::stage::Stage;
 use client_core::{Active, ClientSession, Reply};
@@ -236,7 +235,7 @@ impl Store {
         let Some(entry) = posted else {
             return None;
         };
-        put_in(&mut self.tx, &mut self.pacer, due, entry);
+        self.queue.put(due, entry);
         Some(entry)
     }
 
@@ -289,6 +288,6 @@ impl Store {
             session: self.sides[i].session.session(),
             request,
         };
-        holds_in(&self.tx, &self.pacer, &owner, number)
+        self.queue.holds(&owner, number)
     }
 }

@@ -13,7 +13,6 @@ ghost use Rattle.session_store.specs.Queue.{queued_number};
 ghost use Rattle.session_store.specs.Sides.{queued_of};
 
 use super::Store;
-use crate::line::{first_in, flush_in, front_at, make_ready_in, pop_in};
 use crate::server::{reply_at, reply_flushed_at, reply_sent_at};
 use crate::side::{flushed_at, packet_at, sent_at};
 use client_core::Reply;
@@ -27,21 +26,21 @@ impl Store {
         ensures front { IfSome result (IsFront now self.now) }
         ensures none { IfNone result (line now self.now.queued ≡ []) }
     {
-        front_at(&self.tx, &self.pacer, now)
+        self.queue.front(now)
     }
 
     /// How many packets are queued.
     pub fn queued(&self) -> u32
         ensures { result ≡ length self.now.queued }
     {
-        self.tx.len() + self.pacer.len()
+        self.queue.tx.len() + self.queue.pacer.len()
     }
 
     /// How many replies are queued.
     pub fn replies(&self) -> u32
         ensures { result ≡ replies self.now.queued }
     {
-        self.tx.replies()
+        self.queue.tx.replies()
     }
 
     /// Writes the header of the entry in front of the queue, and lends its body.
@@ -50,7 +49,7 @@ impl Store {
         ensures spells { SpellsFront self.now head.new result.now }
         ensures bytes { AreBytes head.new }
     {
-        let Some(entry) = first_in(&self.tx, &self.pacer) else {
+        let Some(entry) = self.queue.first() else {
             unreachable!()
         };
         match &entry.owner {
@@ -79,7 +78,7 @@ impl Store {
         requires some { self.old.queued ≢ [] }
         ensures { ChangesQueue (SendsFront now self.old.queued) (drop 1) self.old self.new }
     {
-        let Some(entry) = pop_in(&mut self.tx, &mut self.pacer) else {
+        let Some(entry) = self.queue.pop() else {
             unreachable!()
         };
         match &entry.owner {
@@ -112,7 +111,7 @@ impl Store {
             session: self.sides[i].session.session(),
             request,
         };
-        let flushed = flush_in(&mut self.tx, &mut self.pacer, &owner);
+        let flushed = self.queue.flush(&owner);
         let Some(entry) = flushed else {
             return None;
         };
@@ -129,7 +128,7 @@ impl Store {
             queued_number) self.old self.new }
     {
         let owner = Owner::Reply { session, request };
-        let flushed = flush_in(&mut self.tx, &mut self.pacer, &owner);
+        let flushed = self.queue.flush(&owner);
         let Some(entry) = flushed else {
             return None;
         };
@@ -141,6 +140,6 @@ impl Store {
     pub fn make_ready(&mut self, now: u64)
         ensures { ChangesQueued (map (made_ready now)) self.old self.new }
     {
-        make_ready_in(&mut self.tx, &mut self.pacer, now);
+        self.queue.make_ready(now);
     }
 }

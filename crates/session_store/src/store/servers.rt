@@ -1,5 +1,5 @@
 //! The server sessions: packets and the answers of workers.
-ghost use Rattle.std.specs.Prelude.{◌≡◌, ◌<◌, ◌≤◌, ◌+◌, ◌*◌, ◌++◌, [], ◌∷◌, None, length, slice_get};
+ghost use Rattle.std.specs.Prelude.{◌≡◌, ◌<◌, ◌≤◌, None, length, slice_get};
 ghost use Rattle.std.specs.Prelude.{IfSome};
 ghost use Rattle.std.specs.List.{AllByRecursion, position};
 ghost use Rattle.memory_count.specs.Faults.{HasCause, HasRisenBy};
@@ -9,8 +9,9 @@ ghost use Rattle.packet_header.specs.Parts.{IsMessage};
 ghost use Rattle.rpc_laws.specs.ControlTable.{is_end_of, is_older};
 ghost use Rattle.rpc_laws.specs.Requests.{is_server, server_end};
 ghost use Rattle.server_core.specs.Lacks.{lacks_of};
-ghost use Rattle.server_core.specs.Steps.{IsAsking, UnlessRan};
-ghost use Rattle.session_store.specs.Serving.{AreServedAt, HandlesAt};
+ghost use Rattle.server_core.specs.Scene.{incoming};
+ghost use Rattle.server_core.specs.Steps.{IsAsking};
+ghost use Rattle.session_store.specs.Serving.{AreServedAt, HandlesAt, in_store};
 ghost use Rattle.session_store.specs.Changes.{IsEnd};
 ghost use Rattle.session_store.specs.Sides.{HasRoom};
 ghost use Rattle.session_store.specs.Leaving.{FinishesServer, MakesServer};
@@ -139,15 +140,8 @@ impl Store {
         requires room { HasRoom self.old }
         requires all_served { AreServedAt V.mode_of i self.old.servers }
         requires founded { StandsForSome (V.stands service.old) }
-        ensures handles { HandlesAt R.log (V.mode_of head.now.req_type) jobs_full me i
-            head.now body.now V.answer (V.stands service.old) (V.stands service.new) rec.old rec.new
-            result self.old self.new }
-        ensures clients { self.new.clients ≡ self.old.clients }
-        ensures size { self.new.size ≡ self.old.size }
-        ensures handed { self.new.handed ≡ self.old.handed }
-        ensures places { self.new.places ≡ self.old.places }
-        ensures service { UnlessRan result (service.new ≡ service.old) }
-        ensures all_served { AreServedAt V.mode_of i self.new.servers }
+        ensures handles { HandlesAt V.Service R.log me i (incoming head.now body.now jobs_full)
+            result (in_store self.old service.old rec.old) (in_store self.new service.new rec.new) }
         ensures cause { HasRisenBy (lacks_of result) memory.old memory.new }
     {
         let step = asked_at(
@@ -155,7 +149,7 @@ impl Store {
             &mut self.servers,
             i,
             &mut self.pool,
-            &mut self.tx,
+            &mut self.queue.tx,
             service,
             head,
             body,
@@ -166,7 +160,7 @@ impl Store {
         let Some(reply) = reply_of(&step) else {
             return step;
         };
-        self.tx.push(reply);
+        self.queue.tx.push(reply);
         step
     }
 
@@ -186,7 +180,7 @@ impl Store {
         let Some(entry) = reply else {
             return None;
         };
-        self.tx.push(entry);
+        self.queue.tx.push(entry);
         Some(entry)
     }
 }

@@ -7,10 +7,6 @@ returns c = record {
   server = c.remove-server.result;
   at = slice_get-get_or c.args.servers.now.items c.args.i c.remove-server.result c.requires.known
       ∙ ap Some (sym c.remove-server.ensures.value);
-  ends = record {
-    spare = c.finish.ensures.spare;
-    leaves = c.finish.ensures.others;
-    counts = c.finish.ensures.counts;
-  };
+  ends = c.finish.ensures;
   changed = c.remove-server.ensures.items;
 }

@@ -6,7 +6,7 @@ use Rattle.session_store.proofs.server.reply_at.Goals as goal
 
 pub unreachable-requires : goal.unreachable-requires
 unreachable-requires c =
-    no-first c.args.session c.args.entry.now c.args.servers.now.items c.requires.stands
+    no-first c.args.session c.args.entry.now c.args.servers.now.items c.requires.there.stands
     (sym c.place_of.ensures ∙ c.in_default.is)
 
 pub packet-requires : goal.packet-requires
@@ -14,10 +14,10 @@ packet-requires c =
     let first = sym c.place_of.ensures ∙ c.in-Some.is in
     record {
       keeps_pool = all-at (ServerKept c.args.pool.now) c.args.servers.now.items c.in-Some.place
-          c.index.result.now c.requires.keeps (first-at c.args.session c.args.servers.now.items
+          c.index.result.now c.requires.there.keeps (first-at c.args.session c.args.servers.now.items
           c.in-Some.place c.index.result.now first c.index.ensures);
       posted = first-reply c.args.session c.args.entry.now c.args.servers.now.items c.in-Some.place
-          c.index.result.now first c.index.ensures c.requires.stands;
+          c.index.result.now first c.index.ensures c.requires.there.stands;
     }
 
 pub returns-clause-spells : goal.returns-clause-spells

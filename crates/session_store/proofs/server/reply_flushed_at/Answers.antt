@@ -6,7 +6,7 @@ use Rattle.session_store.proofs.server.reply_flushed_at.Goals as goal
 
 pub unreachable-requires : goal.unreachable-requires
 unreachable-requires c =
-    no-first c.args.session c.args.entry.now c.args.servers.now.items c.requires.stands
+    no-first c.args.session c.args.entry.now c.args.servers.now.items c.requires.there.stands
     (sym c.place_of.ensures ∙ c.in_default.is)
 
 pub flushed-requires : goal.flushed-requires
@@ -14,7 +14,7 @@ flushed-requires c =
     let first = sym c.place_of.ensures ∙ c.in-Some.is in
     record {
       keeps_pool = all-at (ServerKept c.args.pool.now) c.args.servers.now.items c.in-Some.place
-          c.index_mut.result.now c.requires.keeps (first-at c.args.session
+          c.index_mut.result.now c.requires.there.keeps (first-at c.args.session
           c.args.servers.now.items c.in-Some.place c.index_mut.result.now first
           c.index_mut.ensures.value);
       held = c.requires.held;

@@ -3,26 +3,11 @@ use Rattle.session_store.proofs.ListLemmas.{get-there}
 use Rattle.session_store.proofs.side.begin_at.Goals as goal
 
 pub returns : goal.returns
-returns c =
-    let e = c.begin.ensures in
-    record {
-      side = c.index_mut-side.result.now;
-      at = get-there c.args.sides.now.items c.args.i c.index_mut-side.result.now c.requires.known
-          c.index_mut-side.ensures.value;
-      later = c.begin.new.self;
-      step = record {
-        sound = c.sound.ensures;
-        unchanged = e.unchanged;
-        turn = e.turn;
-        step = e.step;
-        starts = e.starts;
-        handed = e.handed;
-        leaves = e.others;
-        entries = e.entries;
-        counts =
-            e.counts;
-        queued = e.queued;
-        keeps = e.keeps_pool;
-      };
-      changed = refl;
-    }
+returns c = record {
+  side = c.index_mut-side.result.now;
+  at = get-there c.args.sides.now.items c.args.i c.index_mut-side.result.now c.requires.known
+      c.index_mut-side.ensures.value;
+  later = c.begin.new.self;
+  step = c.begin.ensures;
+  changed = refl;
+}

@@ -7,4 +7,3 @@ returns-clause-waits c =
     side-waits c.args.i c.args.waiting c.args.sides.now.items c.index_mut-side.result.now
     c.enqueue.new.self (get-there c.args.sides.now.items c.args.i c.index_mut-side.result.now
     c.requires.known c.index_mut-side.ensures.value) c.enqueue.result c.enqueue.ensures.waits
-    c.enqueue.ensures.step c.enqueue.ensures.handed

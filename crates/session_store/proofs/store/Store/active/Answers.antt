@@ -14,14 +14,14 @@ pub returns : goal.returns
 returns c =
     let s = c.self.inside in
     let x = c.index.result.now in
-    let at = there-at s.pool s.sides.items s.servers.items (joined s.tx s.pacer) c.self.invariant.0
+    let at = there-at s.pool s.sides.items s.servers.items (joined s.queue.tx s.queue.pacer) c.self.invariant.0
     (undue c.args.self.now) (flat c.self.inside.pool c.self.inside.sides.items
-    c.self.inside.servers.items c.self.inside.tx c.self.inside.pacer c.args.self.now
+    c.self.inside.servers.items c.self.inside.queue.tx c.self.inside.queue.pacer c.args.self.now
     c.self.view_is) c.args.i x c.requires.known c.index.ensures in
     let told = next-end x.stage s.pool x.peer x.session c.args.after
     (all-at (SideAscends s.pool) s.sides.items c.args.i x c.self.invariant.0.ascends at) in
-    read-at s.pool s.sides.items s.servers.items (joined s.tx s.pacer) (undue c.args.self.now)
-    (flat c.self.inside.pool c.self.inside.sides.items c.self.inside.servers.items c.self.inside.tx
-    c.self.inside.pacer c.args.self.now c.self.view_is) c.args.i x
+    read-at s.pool s.sides.items s.servers.items (joined s.queue.tx s.queue.pacer) (undue c.args.self.now)
+    (flat c.self.inside.pool c.self.inside.sides.items c.self.inside.servers.items c.self.inside.queue.tx
+    c.self.inside.queue.pacer c.args.self.now c.self.view_is) c.args.i x
     at (λ y. c.active.result ≡ option_and_then told_call (next_above c.args.after y))
     (c.active.ensures.told ∙ told)

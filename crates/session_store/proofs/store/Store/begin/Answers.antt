@@ -13,9 +13,9 @@ use Rattle.session_store.proofs.store.Store.begin.Goals as goal
 pub begin_at-requires-clause-spare : goal.begin_at-requires-clause-spare
 begin_at-requires-clause-spare c =
     two-spare c.self.inside.pool c.self.inside.sides.items c.self.inside.servers.items
-    (joined c.self.inside.tx c.self.inside.pacer) (undue c.args.self.now) c.self.invariant.0
+    (joined c.self.inside.queue.tx c.self.inside.queue.pacer) (undue c.args.self.now) c.self.invariant.0
     (flat c.self.inside.pool c.self.inside.sides.items c.self.inside.servers.items
-    c.self.inside.tx c.self.inside.pacer c.args.self.now c.self.view_is) c.requires.room
+    c.self.inside.queue.tx c.self.inside.queue.pacer c.args.self.now c.self.view_is) c.requires.room
 
 pub invariant_of-self : goal.invariant_of-self
 invariant_of-self c =
@@ -23,14 +23,14 @@ invariant_of-self c =
     let connected = connected-at c.self.inside.sides.items c.args.i c.index.result.now h.side
     c.index.ensures h.at (sym c.is_connected.ensures ∙ c.if-not-is_connected.false) in (
       kept-begin c.self.inside.pool c.begin_at.new.pool c.self.inside.sides.items
-          c.begin_at.new.sides.items c.self.inside.servers.items (joined c.self.inside.tx c.self.inside.pacer) c.args.i
+          c.begin_at.new.sides.items c.self.inside.servers.items (joined c.self.inside.queue.tx c.self.inside.queue.pacer) c.args.i
           c.self.invariant.0 c.begin_at.result h connected,
       c.self.invariant.1,
       clients-kept c.self.inside.shares c.self.inside.pool c.begin_at.new.pool
           c.self.inside.sides.items c.begin_at.new.sides.items c.self.inside.servers.items
           (begins-kept c.args.i c.begin_at.result _ _ (clients-begin c.self.inside.pool
           c.begin_at.new.pool c.self.inside.sides.items c.begin_at.new.sides.items
-          c.self.inside.servers.items (joined c.self.inside.tx c.self.inside.pacer) c.args.i
+          c.self.inside.servers.items (joined c.self.inside.queue.tx c.self.inside.queue.pacer) c.args.i
           c.self.invariant.0 c.begin_at.result h connected)) c.self.invariant.2,
       c.self.invariant.3,
     )
@@ -42,16 +42,16 @@ returns c =
     let connected = connected-at s.sides.items c.args.i c.index.result.now h.side
     c.index.ensures h.at (sym c.is_connected.ensures ∙ c.if-not-is_connected.false) in
     changes-clients s.pool c.begin_at.new.pool s.sides.items c.begin_at.new.sides.items
-    s.servers.items s.servers.items s.tx s.tx s.pacer s.pacer c.args.self.now c.self.view_is
+    s.servers.items s.servers.items s.queue.tx s.queue.tx s.queue.pacer s.queue.pacer c.args.self.now c.self.view_is
     (BeginsAt c.args.i c.begin_at.result) (rw (← c.self.view_is) (clients-begin s.pool c.begin_at.new.pool s.sides.items
-    c.begin_at.new.sides.items s.servers.items (joined s.tx s.pacer) c.args.i c.self.invariant.0
+    c.begin_at.new.sides.items s.servers.items (joined s.queue.tx s.queue.pacer) c.args.i c.self.invariant.0
     c.begin_at.result h connected))
     (servers-begin s.pool c.begin_at.new.pool s.sides.items
-    c.begin_at.new.sides.items s.servers.items (joined s.tx s.pacer) c.args.i c.self.invariant.0
+    c.begin_at.new.sides.items s.servers.items (joined s.queue.tx s.queue.pacer) c.args.i c.self.invariant.0
     c.begin_at.result h connected)
     (size-begin s.pool c.begin_at.new.pool s.sides.items
-    c.begin_at.new.sides.items s.servers.items (joined s.tx s.pacer) c.args.i c.self.invariant.0
+    c.begin_at.new.sides.items s.servers.items (joined s.queue.tx s.queue.pacer) c.args.i c.self.invariant.0
     c.begin_at.result h connected)
     (handed-begin s.pool c.begin_at.new.pool s.sides.items
-    c.begin_at.new.sides.items s.servers.items (joined s.tx s.pacer) c.args.i c.self.invariant.0
+    c.begin_at.new.sides.items s.servers.items (joined s.queue.tx s.queue.pacer) c.args.i c.self.invariant.0
     c.begin_at.result h connected) refl refl

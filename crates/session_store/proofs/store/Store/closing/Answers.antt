@@ -13,16 +13,16 @@ use Rattle.session_store.proofs.store.Store.closing.Goals as goal
 pub invariant_of-self : goal.invariant_of-self
 invariant_of-self c =
     let s = c.self.inside in
-    let seen = flat s.pool s.sides.items s.servers.items s.tx s.pacer c.args.self.now c.self.view_is in
-    let at = there-at s.pool s.sides.items s.servers.items (joined s.tx s.pacer) c.self.invariant.0
+    let seen = flat s.pool s.sides.items s.servers.items s.queue.tx s.queue.pacer c.args.self.now c.self.view_is in
+    let at = there-at s.pool s.sides.items s.servers.items (joined s.queue.tx s.queue.pacer) c.self.invariant.0
     (undue c.args.self.now) seen c.args.i c.index_mut-side.result.now c.requires.known
     c.index_mut-side.ensures.value in
-    let moved = moved-closing s.pool s.sides.items s.servers.items (joined s.tx s.pacer) c.self.invariant.0
+    let moved = moved-closing s.pool s.sides.items s.servers.items (joined s.queue.tx s.queue.pacer) c.self.invariant.0
     (undue c.args.self.now) seen c.args.i c.index_mut-side.result.now at c.requires.connected c.requires.idle in (
       moved.kept,
       c.self.invariant.1,
       share-stays s.shares s.pool s.sides.items s.servers.items c.self.invariant.2 c.args.i
-          c.index_mut-side.result.now at s.tx s.pacer c.args.self.now c.self.view_is
+          c.index_mut-side.result.now at s.queue.tx s.queue.pacer c.args.self.now c.self.view_is
           (live-connected _ c.requires.connected) _ refl,
       c.self.invariant.3,
     )
@@ -30,12 +30,12 @@ invariant_of-self c =
 pub returns : goal.returns
 returns c =
     let s = c.self.inside in
-    let seen = flat s.pool s.sides.items s.servers.items s.tx s.pacer c.args.self.now c.self.view_is in
-    let at = there-at s.pool s.sides.items s.servers.items (joined s.tx s.pacer) c.self.invariant.0
+    let seen = flat s.pool s.sides.items s.servers.items s.queue.tx s.queue.pacer c.args.self.now c.self.view_is in
+    let at = there-at s.pool s.sides.items s.servers.items (joined s.queue.tx s.queue.pacer) c.self.invariant.0
     (undue c.args.self.now) seen c.args.i c.index_mut-side.result.now c.requires.known
     c.index_mut-side.ensures.value in
-    let moved = moved-closing s.pool s.sides.items s.servers.items (joined s.tx s.pacer) c.self.invariant.0
+    let moved = moved-closing s.pool s.sides.items s.servers.items (joined s.queue.tx s.queue.pacer) c.self.invariant.0
     (undue c.args.self.now) seen c.args.i c.index_mut-side.result.now at c.requires.connected c.requires.idle in
-    changes-clients s.pool s.pool s.sides.items _ s.servers.items s.servers.items s.tx s.tx s.pacer
-    s.pacer c.args.self.now c.self.view_is (ChangesAt c.args.i (comes_to SessionState.Closing)) moved.clients refl
+    changes-clients s.pool s.pool s.sides.items _ s.servers.items s.servers.items s.queue.tx s.queue.tx s.queue.pacer
+    s.queue.pacer c.args.self.now c.self.view_is (ChangesAt c.args.i (comes_to SessionState.Closing)) moved.clients refl
     moved.places moved.handed refl refl

@@ -52,7 +52,7 @@ remove-requires c =
 pub end_at-requires-clause-unheld : goal.end_at-requires-clause-unheld
 end_at-requires-clause-unheld c =
     let s = c.self.inside in
-    unheld-at s.pool s.sides.items s.servers.items s.tx s.pacer c.self.invariant.0 c.args.self.now
+    unheld-at s.pool s.sides.items s.servers.items s.queue.tx s.queue.pacer c.self.invariant.0 c.args.self.now
     c.self.view_is c.args.i c.requires.drained
 
 pub invariant_of-self : goal.invariant_of-self
@@ -75,7 +75,7 @@ invariant_of-self c =
       c.client.ensures,
       c.session.ensures,
     ) in
-    let h = ended s.pool s.sides.items s.servers.items s.tx s.pacer c.self.invariant.0 c.args.self.now
+    let h = ended s.pool s.sides.items s.servers.items s.queue.tx s.queue.pacer c.self.invariant.0 c.args.self.now
     c.self.view_is c.args.i c.requires.drained c.end_at.new.pool c.end_at.new.servers.items
     c.end_at.ensures in (
       h.kept,
@@ -94,7 +94,7 @@ invariant_of-self c =
 pub returns : goal.returns
 returns c =
     let s = c.self.inside in
-    let h = ended s.pool s.sides.items s.servers.items s.tx s.pacer c.self.invariant.0 c.args.self.now
+    let h = ended s.pool s.sides.items s.servers.items s.queue.tx s.queue.pacer c.self.invariant.0 c.args.self.now
     c.self.view_is c.args.i c.requires.drained c.end_at.new.pool c.end_at.new.servers.items
     c.end_at.ensures in
     record {

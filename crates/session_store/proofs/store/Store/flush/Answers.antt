@@ -28,56 +28,56 @@ pub returns-in_default-clause-taken : goal.returns-in_default-clause-taken
 returns-in_default-clause-taken c =
     let s = c.self.inside in
     let number = c.session.ensures ∙ number-at s.pool s.sides.items s.servers.items
-    (joined s.tx s.pacer) c.self.invariant.0 (undue c.args.self.now) (flat s.pool s.sides.items
-    s.servers.items s.tx s.pacer c.args.self.now c.self.view_is) c.args.i c.index.result.now
+    (joined s.queue.tx s.queue.pacer) c.self.invariant.0 (undue c.args.self.now) (flat s.pool s.sides.items
+    s.servers.items s.queue.tx s.queue.pacer c.args.self.now c.self.view_is) c.args.i c.index.result.now
     c.requires.known c.index.ensures in
-    let h = rw c.in_default.is at c.flush_in-flushed.ensures in
+    let h = rw c.in_default.is at c.flush-flushed.ensures in
     rw (← c.self.view_is) (ap (option_map queued_of) h.taken
-    ∙ taken-seen (Ask c.session.result c.args.request) s.tx s.pacer
+    ∙ taken-seen (Ask c.session.result c.args.request) s.queue.tx s.queue.pacer
     ∙ ap (λ n. option_map without_due (least (is_owned (Ask n c.args.request)) queued_number
-    (queue_of s.tx s.pacer))) number)
+    (queue_of s.queue.tx s.queue.pacer))) number)
 
 pub flushed_at-requires-clause-held : goal.flushed_at-requires-clause-held
 flushed_at-requires-clause-held c =
     let s = c.self.inside in
-    let number = c.session.ensures ∙ number-at s.pool s.sides.items s.servers.items (joined s.tx s.pacer)
+    let number = c.session.ensures ∙ number-at s.pool s.sides.items s.servers.items (joined s.queue.tx s.queue.pacer)
     c.self.invariant.0 (undue c.args.self.now) (flat c.self.inside.pool c.self.inside.sides.items
-    c.self.inside.servers.items c.self.inside.tx c.self.inside.pacer c.args.self.now c.self.view_is)
+    c.self.inside.servers.items c.self.inside.queue.tx c.self.inside.queue.pacer c.args.self.now c.self.view_is)
     c.args.i c.index.result.now
     c.requires.known c.index.ensures in
-    let h = rw c.in-Some.is at c.flush_in-flushed.ensures in
+    let h = rw c.in-Some.is at c.flush-flushed.ensures in
     let own = least-own c.session.result c.args.request c.in-Some.entry h.own
     ∙ ap (λ n. Ask n c.args.request) number in
-    gone-held s.pool s.pool s.sides.items s.servers.items (joined s.tx s.pacer) c.args.i c.args.request
+    gone-held s.pool s.pool s.sides.items s.servers.items (joined s.queue.tx s.queue.pacer) c.args.i c.args.request
     c.in-Some.entry (is_entry (Ask c.session.result c.args.request) c.in-Some.entry.number)
-    (joined c.flush_in-flushed.new.tx c.flush_in-flushed.new.pacer).items c.self.invariant.0 h.nearest own
+    (joined c.flush-flushed.new.self.tx c.flush-flushed.new.self.pacer).items c.self.invariant.0 h.nearest own
 
 pub invariant_of-self-2 : goal.invariant_of-self-2
 invariant_of-self-2 c =
     let s = c.self.inside in
-    let number = c.session.ensures ∙ number-at s.pool s.sides.items s.servers.items (joined s.tx s.pacer)
+    let number = c.session.ensures ∙ number-at s.pool s.sides.items s.servers.items (joined s.queue.tx s.queue.pacer)
     c.self.invariant.0 (undue c.args.self.now) (flat c.self.inside.pool c.self.inside.sides.items
-    c.self.inside.servers.items c.self.inside.tx c.self.inside.pacer c.args.self.now c.self.view_is)
+    c.self.inside.servers.items c.self.inside.queue.tx c.self.inside.queue.pacer c.args.self.now c.self.view_is)
     c.args.i c.index.result.now
     c.requires.known c.index.ensures in
-    let h = rw c.in-Some.is at c.flush_in-flushed.ensures in
+    let h = rw c.in-Some.is at c.flush-flushed.ensures in
     let own = least-own c.session.result c.args.request c.in-Some.entry h.own
     ∙ ap (λ n. Ask n c.args.request) number in (
       subst (λ n. Kept c.flushed_at.new.pool c.flushed_at.new.sides.items s.servers.items
-          (ring (joined c.flush_in-flushed.new.tx
-          c.flush_in-flushed.new.pacer).items n)) (sym (ap (λ r. r.size) h.left))
+          (ring (joined c.flush-flushed.new.self.tx
+          c.flush-flushed.new.self.pacer).items n)) (sym (ap (λ r. r.size) h.left))
           (flushed-kept s.pool c.flushed_at.new.pool s.sides.items c.flushed_at.new.sides.items
-          s.servers.items (joined s.tx s.pacer) c.args.i c.args.request c.in-Some.entry
+          s.servers.items (joined s.queue.tx s.queue.pacer) c.args.i c.args.request c.in-Some.entry
           (is_entry (Ask c.session.result c.args.request) c.in-Some.entry.number)
-          (joined c.flush_in-flushed.new.tx c.flush_in-flushed.new.pacer).items
+          (joined c.flush-flushed.new.self.tx c.flush-flushed.new.self.pacer).items
           c.self.invariant.0 h.nearest own c.flushed_at.ensures),
       h.paces,
       clients-kept s.shares s.pool c.flushed_at.new.pool s.sides.items c.flushed_at.new.sides.items
           s.servers.items (ap (map live_credits) (flushed-clients s.pool c.flushed_at.new.pool
-          s.sides.items c.flushed_at.new.sides.items s.servers.items (joined s.tx s.pacer) c.args.i
+          s.sides.items c.flushed_at.new.sides.items s.servers.items (joined s.queue.tx s.queue.pacer) c.args.i
           c.args.request c.in-Some.entry
           (is_entry (Ask c.session.result c.args.request) c.in-Some.entry.number)
-          (joined c.flush_in-flushed.new.tx c.flush_in-flushed.new.pacer).items c.self.invariant.0
+          (joined c.flush-flushed.new.self.tx c.flush-flushed.new.self.pacer).items c.self.invariant.0
           h.nearest own c.flushed_at.ensures)) c.self.invariant.2,
       c.self.invariant.3,
     )
@@ -86,68 +86,68 @@ pub returns-clause-taken : goal.returns-clause-taken
 returns-clause-taken c =
     let s = c.self.inside in
     let number = c.session.ensures ∙ number-at s.pool s.sides.items s.servers.items
-    (joined s.tx s.pacer) c.self.invariant.0 (undue c.args.self.now) (flat s.pool s.sides.items
-    s.servers.items s.tx s.pacer c.args.self.now c.self.view_is) c.args.i c.index.result.now
+    (joined s.queue.tx s.queue.pacer) c.self.invariant.0 (undue c.args.self.now) (flat s.pool s.sides.items
+    s.servers.items s.queue.tx s.queue.pacer c.args.self.now c.self.view_is) c.args.i c.index.result.now
     c.requires.known c.index.ensures in
-    let h = rw c.in-Some.is at c.flush_in-flushed.ensures in
+    let h = rw c.in-Some.is at c.flush-flushed.ensures in
     rw (← c.self.view_is) (ap (option_map queued_of) h.taken
-    ∙ taken-seen (Ask c.session.result c.args.request) s.tx s.pacer
+    ∙ taken-seen (Ask c.session.result c.args.request) s.queue.tx s.queue.pacer
     ∙ ap (λ n. option_map without_due (least (is_owned (Ask n c.args.request)) queued_number
-    (queue_of s.tx s.pacer))) number)
+    (queue_of s.queue.tx s.queue.pacer))) number)
 
 pub invariant_of-self : goal.invariant_of-self
 invariant_of-self c =
-    let u = rw c.in_default.is at c.flush_in-flushed.ensures.unchanged in
+    let u = rw c.in_default.is at c.flush-flushed.ensures.unchanged in
     rw (u.0, u.1) c.self.invariant
 
 pub returns-in_default-clause-left : goal.returns-in_default-clause-left
 returns-in_default-clause-left c =
     let s = c.self.inside in
     let number = c.session.ensures ∙ number-at s.pool s.sides.items s.servers.items
-    (joined s.tx s.pacer) c.self.invariant.0 (undue c.args.self.now) (flat s.pool s.sides.items
-    s.servers.items s.tx s.pacer c.args.self.now c.self.view_is) c.args.i c.index.result.now
+    (joined s.queue.tx s.queue.pacer) c.self.invariant.0 (undue c.args.self.now) (flat s.pool s.sides.items
+    s.servers.items s.queue.tx s.queue.pacer c.args.self.now c.self.view_is) c.args.i c.index.result.now
     c.requires.known c.index.ensures in
-    let h = rw c.in_default.is at c.flush_in-flushed.ensures in
-    let still = rw c.in_default.is at c.flush_in-flushed.ensures.unchanged in
-    changes-queue s.pool s.pool s.sides.items s.sides.items s.servers.items s.servers.items s.tx
-    c.flush_in-flushed.new.tx s.pacer c.flush_in-flushed.new.pacer c.args.self.now c.self.view_is
+    let h = rw c.in_default.is at c.flush-flushed.ensures in
+    let still = rw c.in_default.is at c.flush-flushed.ensures.unchanged in
+    changes-queue s.pool s.pool s.sides.items s.sides.items s.servers.items s.servers.items s.queue.tx
+    c.flush-flushed.new.self.tx s.queue.pacer c.flush-flushed.new.self.pacer c.args.self.now c.self.view_is
     (λ xs ys. ys ≡ xs) (ap (λ (v : Shown). v.clients) c.self.view_is) refl refl
     (without_least (is_owned (Ask c.args.i c.args.request))
     queued_number) refl (h.queue ∙ ap (λ n. without_least (is_owned (Ask n c.args.request)) queued_number
-    (queue_of s.tx s.pacer)) number)
+    (queue_of s.queue.tx s.queue.pacer)) number)
     (ap (λ (r : Ring EntryValue). r.size) still.0)
 
 pub returns-clause-left : goal.returns-clause-left
 returns-clause-left c =
     let s = c.self.inside in
     let number = c.session.ensures ∙ number-at s.pool s.sides.items s.servers.items
-    (joined s.tx s.pacer) c.self.invariant.0 (undue c.args.self.now) (flat s.pool s.sides.items
-    s.servers.items s.tx s.pacer c.args.self.now c.self.view_is) c.args.i c.index.result.now
+    (joined s.queue.tx s.queue.pacer) c.self.invariant.0 (undue c.args.self.now) (flat s.pool s.sides.items
+    s.servers.items s.queue.tx s.queue.pacer c.args.self.now c.self.view_is) c.args.i c.index.result.now
     c.requires.known c.index.ensures in
-    let h = rw c.in-Some.is at c.flush_in-flushed.ensures in
+    let h = rw c.in-Some.is at c.flush-flushed.ensures in
     let own = least-own c.session.result c.args.request c.in-Some.entry h.own
     ∙ ap (λ n. Ask n c.args.request) number in
     changes-queue s.pool c.flushed_at.new.pool s.sides.items c.flushed_at.new.sides.items
-    s.servers.items s.servers.items s.tx c.flush_in-flushed.new.tx s.pacer
-    c.flush_in-flushed.new.pacer c.args.self.now c.self.view_is (λ xs ys. ys ≡ xs)
+    s.servers.items s.servers.items s.queue.tx c.flush-flushed.new.self.tx s.queue.pacer
+    c.flush-flushed.new.self.pacer c.args.self.now c.self.view_is (λ xs ys. ys ≡ xs)
     (flushed-clients s.pool c.flushed_at.new.pool s.sides.items
-    c.flushed_at.new.sides.items s.servers.items (joined s.tx s.pacer) c.args.i c.args.request
+    c.flushed_at.new.sides.items s.servers.items (joined s.queue.tx s.queue.pacer) c.args.i c.args.request
     c.in-Some.entry (is_entry (Ask c.session.result c.args.request) c.in-Some.entry.number)
-    (joined c.flush_in-flushed.new.tx c.flush_in-flushed.new.pacer).items c.self.invariant.0
+    (joined c.flush-flushed.new.self.tx c.flush-flushed.new.self.pacer).items c.self.invariant.0
     h.nearest own c.flushed_at.ensures ∙ ap (λ (v : Shown). v.clients) c.self.view_is)
-    (rw c.flushed_at.ensures.step.gone.pool (servers-released s.pool s.servers.items
+    (rw c.flushed_at.ensures.step.leaves.pool (servers-released s.pool s.servers.items
     c.in-Some.entry.place)) (flushed-places s.pool c.flushed_at.new.pool s.sides.items
-    c.flushed_at.new.sides.items s.servers.items (joined s.tx s.pacer) c.args.i c.args.request
+    c.flushed_at.new.sides.items s.servers.items (joined s.queue.tx s.queue.pacer) c.args.i c.args.request
     c.in-Some.entry (is_entry (Ask c.session.result c.args.request) c.in-Some.entry.number)
-    (joined c.flush_in-flushed.new.tx c.flush_in-flushed.new.pacer).items c.self.invariant.0
+    (joined c.flush-flushed.new.self.tx c.flush-flushed.new.self.pacer).items c.self.invariant.0
     h.nearest own c.flushed_at.ensures)
     (without_least (is_owned (Ask c.args.i c.args.request))
     queued_number)
     (flushed-handed s.pool c.flushed_at.new.pool s.sides.items
-    c.flushed_at.new.sides.items s.servers.items (joined s.tx s.pacer) c.args.i c.args.request
+    c.flushed_at.new.sides.items s.servers.items (joined s.queue.tx s.queue.pacer) c.args.i c.args.request
     c.in-Some.entry (is_entry (Ask c.session.result c.args.request) c.in-Some.entry.number)
-    (joined c.flush_in-flushed.new.tx c.flush_in-flushed.new.pacer).items c.self.invariant.0
+    (joined c.flush-flushed.new.self.tx c.flush-flushed.new.self.pacer).items c.self.invariant.0
     h.nearest own c.flushed_at.ensures)
     (h.queue ∙ ap (λ n. without_least (is_owned (Ask n c.args.request)) queued_number
-    (queue_of s.tx s.pacer)) number)
+    (queue_of s.queue.tx s.queue.pacer)) number)
     (ap (λ r. r.size) h.left)

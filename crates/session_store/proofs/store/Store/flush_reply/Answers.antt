@@ -24,42 +24,46 @@ use Rattle.session_store.proofs.store.Store.flush_reply.Goals as goal
 pub returns-in_default-clause-taken : goal.returns-in_default-clause-taken
 returns-in_default-clause-taken c =
     let s = c.self.inside in
-    let h = rw c.in_default.is at c.flush_in-flushed.ensures in
+    let h = rw c.in_default.is at c.flush-flushed.ensures in
     rw (← c.self.view_is) (ap (option_map queued_of) h.taken
-    ∙ taken-seen (Reply c.args.session c.args.request) s.tx s.pacer)
+    ∙ taken-seen (Reply c.args.session c.args.request) s.queue.tx s.queue.pacer)
 
-pub reply_flushed_at-requires-clause-stands : goal.reply_flushed_at-requires-clause-stands
-reply_flushed_at-requires-clause-stands c =
+pub reply_flushed_at-requires-clause-there : goal.reply_flushed_at-requires-clause-there
+reply_flushed_at-requires-clause-there c =
     let s = c.self.inside in
-    let h = rw c.in-Some.is at c.flush_in-flushed.ensures in
+    let h = rw c.in-Some.is at c.flush-flushed.ensures in
     let own = least-reply c.args.session c.args.request c.in-Some.entry h.own in
-    reply-there s.pool s.pool s.sides.items s.servers.items s.servers.items (joined s.tx s.pacer) c.args.session
-    c.args.request c.in-Some.entry (is_entry (Reply c.args.session c.args.request)
-    c.in-Some.entry.number) (joined c.flush_in-flushed.new.tx c.flush_in-flushed.new.pacer).items
-    c.self.invariant.0 h.nearest own
+    record {
+      rises = c.self.invariant.0.rises;
+      keeps = c.self.invariant.0.serves;
+      stands = reply-there s.pool s.pool s.sides.items s.servers.items s.servers.items (joined s.queue.tx s.queue.pacer) c.args.session
+          c.args.request c.in-Some.entry (is_entry (Reply c.args.session c.args.request)
+          c.in-Some.entry.number) (joined c.flush-flushed.new.self.tx c.flush-flushed.new.self.pacer).items
+          c.self.invariant.0 h.nearest own;
+    }
 
 pub reply_flushed_at-requires-clause-held : goal.reply_flushed_at-requires-clause-held
 reply_flushed_at-requires-clause-held c =
     let s = c.self.inside in
-    let h = rw c.in-Some.is at c.flush_in-flushed.ensures in
+    let h = rw c.in-Some.is at c.flush-flushed.ensures in
     let own = least-reply c.args.session c.args.request c.in-Some.entry h.own in
-    reply-held s.pool s.pool s.sides.items s.servers.items s.servers.items (joined s.tx s.pacer) c.args.session
+    reply-held s.pool s.pool s.sides.items s.servers.items s.servers.items (joined s.queue.tx s.queue.pacer) c.args.session
     c.args.request c.in-Some.entry (is_entry (Reply c.args.session c.args.request)
-    c.in-Some.entry.number) (joined c.flush_in-flushed.new.tx c.flush_in-flushed.new.pacer).items
+    c.in-Some.entry.number) (joined c.flush-flushed.new.self.tx c.flush-flushed.new.self.pacer).items
     c.self.invariant.0 h.nearest own
 
 pub invariant_of-self-2 : goal.invariant_of-self-2
 invariant_of-self-2 c =
     let s = c.self.inside in
-    let h = rw c.in-Some.is at c.flush_in-flushed.ensures in
+    let h = rw c.in-Some.is at c.flush-flushed.ensures in
     let own = least-reply c.args.session c.args.request c.in-Some.entry h.own in (
       subst (λ n. Kept c.reply_flushed_at.new.pool s.sides.items
-          c.reply_flushed_at.new.servers.items (ring (joined c.flush_in-flushed.new.tx
-          c.flush_in-flushed.new.pacer).items n)) (sym (ap (λ r. r.size) h.left))
+          c.reply_flushed_at.new.servers.items (ring (joined c.flush-flushed.new.self.tx
+          c.flush-flushed.new.self.pacer).items n)) (sym (ap (λ r. r.size) h.left))
           (reply-kept s.pool c.reply_flushed_at.new.pool s.sides.items s.servers.items
-          c.reply_flushed_at.new.servers.items (joined s.tx s.pacer) c.args.session c.args.request c.in-Some.entry
+          c.reply_flushed_at.new.servers.items (joined s.queue.tx s.queue.pacer) c.args.session c.args.request c.in-Some.entry
           (is_entry (Reply c.args.session c.args.request) c.in-Some.entry.number)
-          (joined c.flush_in-flushed.new.tx c.flush_in-flushed.new.pacer).items
+          (joined c.flush-flushed.new.self.tx c.flush-flushed.new.self.pacer).items
           c.self.invariant.0 h.nearest own c.reply_flushed_at.ensures),
       h.paces,
       servers-kept s.shares s.pool c.reply_flushed_at.new.pool s.sides.items s.servers.items
@@ -75,53 +79,53 @@ invariant_of-self-2 c =
 pub returns-clause-taken : goal.returns-clause-taken
 returns-clause-taken c =
     let s = c.self.inside in
-    let h = rw c.in-Some.is at c.flush_in-flushed.ensures in
+    let h = rw c.in-Some.is at c.flush-flushed.ensures in
     rw (← c.self.view_is) (ap (option_map queued_of) h.taken
-    ∙ taken-seen (Reply c.args.session c.args.request) s.tx s.pacer)
+    ∙ taken-seen (Reply c.args.session c.args.request) s.queue.tx s.queue.pacer)
 
 pub invariant_of-self : goal.invariant_of-self
 invariant_of-self c =
-    let u = rw c.in_default.is at c.flush_in-flushed.ensures.unchanged in
+    let u = rw c.in_default.is at c.flush-flushed.ensures.unchanged in
     rw (u.0, u.1) c.self.invariant
 
 pub returns-in_default-clause-left : goal.returns-in_default-clause-left
 returns-in_default-clause-left c =
     let s = c.self.inside in
-    let still = rw c.in_default.is at c.flush_in-flushed.ensures.unchanged in
-    changes-queue s.pool s.pool s.sides.items s.sides.items s.servers.items s.servers.items s.tx
-    c.flush_in-flushed.new.tx s.pacer c.flush_in-flushed.new.pacer c.args.self.now c.self.view_is
+    let still = rw c.in_default.is at c.flush-flushed.ensures.unchanged in
+    changes-queue s.pool s.pool s.sides.items s.sides.items s.servers.items s.servers.items s.queue.tx
+    c.flush-flushed.new.self.tx s.queue.pacer c.flush-flushed.new.self.pacer c.args.self.now c.self.view_is
     (λ xs ys. ys ≡ xs) (ap (λ (v : Shown). v.clients) c.self.view_is) refl refl (without_least
     (is_owned (Reply c.args.session c.args.request)) queued_number) refl
-    c.flush_in-flushed.ensures.queue (ap (λ (r : Ring EntryValue). r.size) still.0)
+    c.flush-flushed.ensures.queue (ap (λ (r : Ring EntryValue). r.size) still.0)
 
 pub returns-clause-left : goal.returns-clause-left
 returns-clause-left c =
     let s = c.self.inside in
-    let h = rw c.in-Some.is at c.flush_in-flushed.ensures in
+    let h = rw c.in-Some.is at c.flush-flushed.ensures in
     let own = least-reply c.args.session c.args.request c.in-Some.entry h.own in
     changes-queue s.pool c.reply_flushed_at.new.pool s.sides.items s.sides.items
-    s.servers.items c.reply_flushed_at.new.servers.items s.tx c.flush_in-flushed.new.tx s.pacer
-    c.flush_in-flushed.new.pacer c.args.self.now c.self.view_is (λ xs ys. ys ≡ xs)
+    s.servers.items c.reply_flushed_at.new.servers.items s.queue.tx c.flush-flushed.new.self.tx s.queue.pacer
+    c.flush-flushed.new.self.pacer c.args.self.now c.self.view_is (λ xs ys. ys ≡ xs)
     (reply-clients s.pool c.reply_flushed_at.new.pool s.sides.items
-    s.servers.items c.reply_flushed_at.new.servers.items (joined s.tx s.pacer) c.args.session
+    s.servers.items c.reply_flushed_at.new.servers.items (joined s.queue.tx s.queue.pacer) c.args.session
     c.args.request c.in-Some.entry (is_entry (Reply c.args.session c.args.request)
-    c.in-Some.entry.number) (joined c.flush_in-flushed.new.tx c.flush_in-flushed.new.pacer).items
+    c.in-Some.entry.number) (joined c.flush-flushed.new.self.tx c.flush-flushed.new.self.pacer).items
     c.self.invariant.0 h.nearest own c.reply_flushed_at.ensures
     ∙ ap (λ (v : Shown). v.clients) c.self.view_is)
     (reply-servers s.pool c.reply_flushed_at.new.pool s.sides.items
-    s.servers.items c.reply_flushed_at.new.servers.items (joined s.tx s.pacer) c.args.session
+    s.servers.items c.reply_flushed_at.new.servers.items (joined s.queue.tx s.queue.pacer) c.args.session
     c.args.request c.in-Some.entry (is_entry (Reply c.args.session c.args.request)
-    c.in-Some.entry.number) (joined c.flush_in-flushed.new.tx c.flush_in-flushed.new.pacer).items
+    c.in-Some.entry.number) (joined c.flush-flushed.new.self.tx c.flush-flushed.new.self.pacer).items
     c.self.invariant.0 h.nearest own c.reply_flushed_at.ensures)
     (reply-places s.pool c.reply_flushed_at.new.pool s.sides.items
-    s.servers.items c.reply_flushed_at.new.servers.items (joined s.tx s.pacer) c.args.session
+    s.servers.items c.reply_flushed_at.new.servers.items (joined s.queue.tx s.queue.pacer) c.args.session
     c.args.request c.in-Some.entry (is_entry (Reply c.args.session c.args.request)
-    c.in-Some.entry.number) (joined c.flush_in-flushed.new.tx c.flush_in-flushed.new.pacer).items
+    c.in-Some.entry.number) (joined c.flush-flushed.new.self.tx c.flush-flushed.new.self.pacer).items
     c.self.invariant.0 h.nearest own c.reply_flushed_at.ensures) (without_least
     (is_owned (Reply c.args.session c.args.request)) queued_number)
     (reply-handed s.pool c.reply_flushed_at.new.pool s.sides.items
-    s.servers.items c.reply_flushed_at.new.servers.items (joined s.tx s.pacer) c.args.session
+    s.servers.items c.reply_flushed_at.new.servers.items (joined s.queue.tx s.queue.pacer) c.args.session
     c.args.request c.in-Some.entry (is_entry (Reply c.args.session c.args.request)
-    c.in-Some.entry.number) (joined c.flush_in-flushed.new.tx c.flush_in-flushed.new.pacer).items
+    c.in-Some.entry.number) (joined c.flush-flushed.new.self.tx c.flush-flushed.new.self.pacer).items
     c.self.invariant.0 h.nearest own c.reply_flushed_at.ensures) h.queue
     (ap (λ r. r.size) h.left)

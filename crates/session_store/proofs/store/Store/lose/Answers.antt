@@ -18,32 +18,32 @@ use Rattle.session_store.proofs.store.Store.lose.Goals as goal
 pub lose_at-requires-clause-unheld : goal.lose_at-requires-clause-unheld
 lose_at-requires-clause-unheld c =
     let s = c.self.inside in
-    unheld-at s.pool s.sides.items s.servers.items (joined s.tx s.pacer) c.self.invariant.0
+    unheld-at s.pool s.sides.items s.servers.items (joined s.queue.tx s.queue.pacer) c.self.invariant.0
     (undue c.args.self.now) (flat c.self.inside.pool c.self.inside.sides.items
-    c.self.inside.servers.items c.self.inside.tx c.self.inside.pacer c.args.self.now c.self.view_is)
+    c.self.inside.servers.items c.self.inside.queue.tx c.self.inside.queue.pacer c.args.self.now c.self.view_is)
     c.args.i (idle-undue c.args.i c.args.self.now.queued c.requires.idle)
 
 pub invariant_of-self : goal.invariant_of-self
 invariant_of-self c =
     let s = c.self.inside in
     let h = c.lose_at.ensures in
-    let broken = lost-broken s.pool s.sides.items s.servers.items (joined s.tx s.pacer) c.self.invariant.0
+    let broken = lost-broken s.pool s.sides.items s.servers.items (joined s.queue.tx s.queue.pacer) c.self.invariant.0
     (undue c.args.self.now) (flat c.self.inside.pool c.self.inside.sides.items
-    c.self.inside.servers.items c.self.inside.tx c.self.inside.pacer c.args.self.now
+    c.self.inside.servers.items c.self.inside.queue.tx c.self.inside.queue.pacer c.args.self.now
     c.self.view_is) c.args.i c.requires.lost h.side h.at in (
-      lose-kept s.pool c.lose_at.new.pool s.sides.items c.lose_at.new.sides.items s.servers.items (joined s.tx s.pacer)
+      lose-kept s.pool c.lose_at.new.pool s.sides.items c.lose_at.new.sides.items s.servers.items (joined s.queue.tx s.queue.pacer)
           c.self.invariant.0 (undue c.args.self.now)
           (flat c.self.inside.pool c.self.inside.sides.items c.self.inside.servers.items
-          c.self.inside.tx c.self.inside.pacer c.args.self.now c.self.view_is) c.args.i
+          c.self.inside.queue.tx c.self.inside.queue.pacer c.args.self.now c.self.view_is) c.args.i
           (idle-undue c.args.i c.args.self.now.queued c.requires.idle) c.lose_at.result h
           broken,
       c.self.invariant.1,
       clients-kept s.shares s.pool c.lose_at.new.pool s.sides.items c.lose_at.new.sides.items
           s.servers.items (loses-kept c.args.i (option_map (λ (d : Done). d.call) c.lose_at.result)
           _ _ (lose-clients s.pool c.lose_at.new.pool s.sides.items c.lose_at.new.sides.items
-          s.servers.items (joined s.tx s.pacer) c.self.invariant.0 (undue c.args.self.now)
+          s.servers.items (joined s.queue.tx s.queue.pacer) c.self.invariant.0 (undue c.args.self.now)
           (flat c.self.inside.pool c.self.inside.sides.items c.self.inside.servers.items
-          c.self.inside.tx c.self.inside.pacer c.args.self.now c.self.view_is) c.args.i
+          c.self.inside.queue.tx c.self.inside.queue.pacer c.args.self.now c.self.view_is) c.args.i
           (idle-undue c.args.i c.args.self.now.queued c.requires.idle) c.lose_at.result h broken)
           ∙ ap (λ (v : Shown). map live_credits v.clients) (sym c.self.view_is))
           c.self.invariant.2,
@@ -59,22 +59,22 @@ pub returns-clause-loses : goal.returns-clause-loses
 returns-clause-loses c =
     let s = c.self.inside in
     let h = c.lose_at.ensures in
-    let seen = flat s.pool s.sides.items s.servers.items s.tx s.pacer c.args.self.now c.self.view_is in
+    let seen = flat s.pool s.sides.items s.servers.items s.queue.tx s.queue.pacer c.args.self.now c.self.view_is in
     let idle = idle-undue c.args.i c.args.self.now.queued c.requires.idle in
-    let broken = lost-broken s.pool s.sides.items s.servers.items (joined s.tx s.pacer)
+    let broken = lost-broken s.pool s.sides.items s.servers.items (joined s.queue.tx s.queue.pacer)
     c.self.invariant.0 (undue c.args.self.now) seen c.args.i c.requires.lost h.side h.at in
     changes-calls s.pool c.lose_at.new.pool s.sides.items c.lose_at.new.sides.items
-    s.servers.items s.servers.items s.tx s.tx s.pacer s.pacer c.args.self.now c.self.view_is
+    s.servers.items s.servers.items s.queue.tx s.queue.tx s.queue.pacer s.queue.pacer c.args.self.now c.self.view_is
     (LosesAt c.args.i (option_map (λ (d : Done). d.call) c.lose_at.result))
     (lose-clients s.pool c.lose_at.new.pool s.sides.items
-    c.lose_at.new.sides.items s.servers.items (joined s.tx s.pacer) c.self.invariant.0
+    c.lose_at.new.sides.items s.servers.items (joined s.queue.tx s.queue.pacer) c.self.invariant.0
     (undue c.args.self.now) seen c.args.i idle c.lose_at.result h broken)
     (lose-servers s.pool c.lose_at.new.pool s.sides.items
-    c.lose_at.new.sides.items s.servers.items (joined s.tx s.pacer) c.self.invariant.0
+    c.lose_at.new.sides.items s.servers.items (joined s.queue.tx s.queue.pacer) c.self.invariant.0
     (undue c.args.self.now) seen c.args.i idle c.lose_at.result h broken)
     (lose-places s.pool c.lose_at.new.pool s.sides.items
-    c.lose_at.new.sides.items s.servers.items (joined s.tx s.pacer) c.self.invariant.0
+    c.lose_at.new.sides.items s.servers.items (joined s.queue.tx s.queue.pacer) c.self.invariant.0
     (undue c.args.self.now) seen c.args.i idle c.lose_at.result h broken)
     (HandsBackIf c.args.i c.lose_at.result) (lose-handed s.pool c.lose_at.new.pool s.sides.items
-    c.lose_at.new.sides.items s.servers.items (joined s.tx s.pacer) c.self.invariant.0
+    c.lose_at.new.sides.items s.servers.items (joined s.queue.tx s.queue.pacer) c.self.invariant.0
     (undue c.args.self.now) seen c.args.i idle c.lose_at.result h broken) refl refl

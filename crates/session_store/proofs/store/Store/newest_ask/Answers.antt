@@ -15,13 +15,13 @@ pub returns-in-Some : goal.returns-in-Some
 returns-in-Some c =
     let s = c.self.inside in
     let x = c.index.result.now in
-    let at = there-at s.pool s.sides.items s.servers.items (joined s.tx s.pacer) c.self.invariant.0
+    let at = there-at s.pool s.sides.items s.servers.items (joined s.queue.tx s.queue.pacer) c.self.invariant.0
     (undue c.args.self.now) (flat c.self.inside.pool c.self.inside.sides.items
-    c.self.inside.servers.items c.self.inside.tx c.self.inside.pacer c.args.self.now
+    c.self.inside.servers.items c.self.inside.queue.tx c.self.inside.queue.pacer c.args.self.now
     c.self.view_is) c.args.i x c.requires.known c.index.ensures in
-    read-at s.pool s.sides.items s.servers.items (joined s.tx s.pacer) (undue c.args.self.now)
-    (flat c.self.inside.pool c.self.inside.sides.items c.self.inside.servers.items c.self.inside.tx
-    c.self.inside.pacer c.args.self.now c.self.view_is) c.args.i x at
+    read-at s.pool s.sides.items s.servers.items (joined s.queue.tx s.queue.pacer) (undue c.args.self.now)
+    (flat c.self.inside.pool c.self.inside.sides.items c.self.inside.servers.items c.self.inside.queue.tx
+    c.self.inside.queue.pacer c.args.self.now c.self.view_is) c.args.i x at
     (λ y. (calls : List Call) → (what : Asking) → y.calls ≡ asking what calls
     → c.bytes.result.now ≡ what.ask)
     (λ calls what e. c.bytes.ensures.message
@@ -33,13 +33,13 @@ pub returns-in-None : goal.returns-in-None
 returns-in-None c =
     let s = c.self.inside in
     let x = c.index.result.now in
-    let at = there-at s.pool s.sides.items s.servers.items (joined s.tx s.pacer) c.self.invariant.0
+    let at = there-at s.pool s.sides.items s.servers.items (joined s.queue.tx s.queue.pacer) c.self.invariant.0
     (undue c.args.self.now) (flat c.self.inside.pool c.self.inside.sides.items
-    c.self.inside.servers.items c.self.inside.tx c.self.inside.pacer c.args.self.now
+    c.self.inside.servers.items c.self.inside.queue.tx c.self.inside.queue.pacer c.args.self.now
     c.self.view_is) c.args.i x c.requires.known c.index.ensures in
-    read-at s.pool s.sides.items s.servers.items (joined s.tx s.pacer) (undue c.args.self.now)
-    (flat c.self.inside.pool c.self.inside.sides.items c.self.inside.servers.items c.self.inside.tx
-    c.self.inside.pacer c.args.self.now c.self.view_is) c.args.i x at
+    read-at s.pool s.sides.items s.servers.items (joined s.queue.tx s.queue.pacer) (undue c.args.self.now)
+    (flat c.self.inside.pool c.self.inside.sides.items c.self.inside.servers.items c.self.inside.queue.tx
+    c.self.inside.queue.pacer c.args.self.now c.self.view_is) c.args.i x at
     (λ y. (calls : List Call) → (what : Asking) → y.calls ≡ asking what calls
     → [] ≡ what.ask)
     (λ calls what e. newest-none s.pool x.session.active x.session.slots.waiting

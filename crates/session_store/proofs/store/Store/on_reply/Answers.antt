@@ -24,16 +24,16 @@ use Rattle.session_store.proofs.store.Store.on_reply.Goals as goal
 pub heard_at-requires-clause-unheld : goal.heard_at-requires-clause-unheld
 heard_at-requires-clause-unheld c =
     let s = c.self.inside in
-    seen-unheld s.pool s.sides.items s.servers.items (joined s.tx s.pacer) (undue c.args.self.now)
-    (flat c.self.inside.pool c.self.inside.sides.items c.self.inside.servers.items c.self.inside.tx
-    c.self.inside.pacer c.args.self.now c.self.view_is) c.args.i
+    seen-unheld s.pool s.sides.items s.servers.items (joined s.queue.tx s.queue.pacer) (undue c.args.self.now)
+    (flat c.self.inside.pool c.self.inside.sides.items c.self.inside.servers.items c.self.inside.queue.tx
+    c.self.inside.queue.pacer c.args.self.now c.self.view_is) c.args.i
     c.args.head.now c.is_waiting-is_waiting.result c.self.invariant.0
     (windows-undue c.args.self.now.clients c.args.self.now.queued c.requires.windows)
     (c.is_waiting-is_waiting.ensures ∙ sym (queued-undue (Ask c.args.i c.args.head.now.request)
     c.args.head.now.number c.args.self.now.queued) ∙ seen-waits s.pool s.sides.items
-    s.servers.items (joined s.tx s.pacer)
+    s.servers.items (joined s.queue.tx s.queue.pacer)
     (undue c.args.self.now) (flat c.self.inside.pool c.self.inside.sides.items
-    c.self.inside.servers.items c.self.inside.tx c.self.inside.pacer c.args.self.now
+    c.self.inside.servers.items c.self.inside.queue.tx c.self.inside.queue.pacer c.args.self.now
     c.self.view_is) c.args.i c.args.head.now.request c.args.head.now.number)
 
 pub invariant_of-self : goal.invariant_of-self
@@ -42,9 +42,9 @@ invariant_of-self c =
     let h = c.heard_at.ensures in
     let connected = connected-at s.sides.items c.args.i c.index.result.now h.side c.index.ensures
     h.at (sym c.is_connected.ensures ∙ c.if-not-is_connected.false) in
-    let windows = seen-windows s.pool s.sides.items s.servers.items (joined s.tx s.pacer)
+    let windows = seen-windows s.pool s.sides.items s.servers.items (joined s.queue.tx s.queue.pacer)
     (undue c.args.self.now) (flat c.self.inside.pool c.self.inside.sides.items
-    c.self.inside.servers.items c.self.inside.tx c.self.inside.pacer c.args.self.now
+    c.self.inside.servers.items c.self.inside.queue.tx c.self.inside.queue.pacer c.args.self.now
     c.self.view_is) c.args.i (windows-undue c.args.self.now.clients c.args.self.now.queued
     c.requires.windows) in
     let same = c.index-2.ensures ∙ got-same s.sides.items c.args.i h.side c.index-2.result.now h.at in
@@ -54,19 +54,19 @@ invariant_of-self c =
     let waits = c.is_waiting-is_waiting.ensures ∙ sym
     (queued-undue (Ask c.args.i c.args.head.now.request) c.args.head.now.number
     c.args.self.now.queued) ∙ seen-waits s.pool s.sides.items s.servers.items
-    (joined s.tx s.pacer) (undue c.args.self.now)
+    (joined s.queue.tx s.queue.pacer) (undue c.args.self.now)
     (flat c.self.inside.pool c.self.inside.sides.items c.self.inside.servers.items
-    c.self.inside.tx c.self.inside.pacer c.args.self.now c.self.view_is)
+    c.self.inside.queue.tx c.self.inside.queue.pacer c.args.self.now c.self.view_is)
     c.args.i c.args.head.now.request c.args.head.now.number in (
       heard-kept s.pool c.heard_at.new.pool s.sides.items c.heard_at.new.sides.items s.servers.items
-          (joined s.tx s.pacer) c.args.i c.args.now c.args.head.now c.args.body.now c.is_waiting-is_waiting.result
+          (joined s.queue.tx s.queue.pacer) c.args.i c.args.now c.args.head.now c.args.body.now c.is_waiting-is_waiting.result
           c.heard_at.result c.self.invariant.0 h connected c.requires.session windows waits,
       c.self.invariant.1,
       clients-kept s.shares s.pool c.heard_at.new.pool s.sides.items c.heard_at.new.sides.items
           s.servers.items (replies-kept c.args.i c.args.now c.args.peer c.args.head.now
           c.args.body.now _ c.heard_at.result _ _ (heard-clients s.pool
           c.heard_at.new.pool s.sides.items c.heard_at.new.sides.items s.servers.items
-          (joined s.tx s.pacer) c.args.i c.args.now c.args.head.now c.args.body.now
+          (joined s.queue.tx s.queue.pacer) c.args.i c.args.now c.args.head.now c.args.body.now
           c.is_waiting-is_waiting.result c.heard_at.result c.self.invariant.0 h connected
           c.requires.session windows waits c.args.peer peer)) c.self.invariant.2,
       c.self.invariant.3,
@@ -75,10 +75,10 @@ invariant_of-self c =
 pub returns-then-not-is_connected : goal.returns-then-not-is_connected
 returns-then-not-is_connected c =
     let s = c.self.inside in
-    let there = there-at s.pool s.sides.items s.servers.items (joined s.tx s.pacer)
+    let there = there-at s.pool s.sides.items s.servers.items (joined s.queue.tx s.queue.pacer)
     c.self.invariant.0 (undue c.args.self.now)
     (flat c.self.inside.pool c.self.inside.sides.items c.self.inside.servers.items
-    c.self.inside.tx c.self.inside.pacer c.args.self.now c.self.view_is) c.args.i
+    c.self.inside.queue.tx c.self.inside.queue.pacer c.args.self.now c.self.view_is) c.args.i
     c.index.result.now c.requires.known c.index.ensures in
     record {
       clients = rw (← c.self.view_is) (unconnected-clients s.pool s.sides.items c.args.i c.args.now c.args.peer
@@ -93,10 +93,10 @@ returns-then-not-is_connected c =
 pub returns-then-ne : goal.returns-then-ne
 returns-then-ne c =
     let s = c.self.inside in
-    let there = there-at s.pool s.sides.items s.servers.items (joined s.tx s.pacer)
+    let there = there-at s.pool s.sides.items s.servers.items (joined s.queue.tx s.queue.pacer)
     c.self.invariant.0 (undue c.args.self.now)
     (flat c.self.inside.pool c.self.inside.sides.items c.self.inside.servers.items
-    c.self.inside.tx c.self.inside.pacer c.args.self.now c.self.view_is) c.args.i
+    c.self.inside.queue.tx c.self.inside.queue.pacer c.args.self.now c.self.view_is) c.args.i
     c.index.result.now c.requires.known c.index.ensures in
     let differs = peer-differs c.args.peer c.index-2.result.now.peer (sym c.if-ne.true ∙ c.ne.ensures) in
     let same = c.index-2.ensures ∙ got-same s.sides.items c.args.i c.index.result.now c.index-2.result.now there in
@@ -119,9 +119,9 @@ returns c =
     let h = c.heard_at.ensures in
     let connected = connected-at s.sides.items c.args.i c.index.result.now h.side c.index.ensures
     h.at (sym c.is_connected.ensures ∙ c.if-not-is_connected.false) in
-    let windows = seen-windows s.pool s.sides.items s.servers.items (joined s.tx s.pacer)
+    let windows = seen-windows s.pool s.sides.items s.servers.items (joined s.queue.tx s.queue.pacer)
     (undue c.args.self.now) (flat c.self.inside.pool c.self.inside.sides.items
-    c.self.inside.servers.items c.self.inside.tx c.self.inside.pacer c.args.self.now
+    c.self.inside.servers.items c.self.inside.queue.tx c.self.inside.queue.pacer c.args.self.now
     c.self.view_is) c.args.i (windows-undue c.args.self.now.clients c.args.self.now.queued
     c.requires.windows) in
     let same = c.index-2.ensures ∙ got-same s.sides.items c.args.i h.side c.index-2.result.now h.at in
@@ -131,9 +131,9 @@ returns c =
     let waits = c.is_waiting-is_waiting.ensures ∙ sym
     (queued-undue (Ask c.args.i c.args.head.now.request) c.args.head.now.number
     c.args.self.now.queued) ∙ seen-waits s.pool s.sides.items s.servers.items
-    (joined s.tx s.pacer) (undue c.args.self.now)
+    (joined s.queue.tx s.queue.pacer) (undue c.args.self.now)
     (flat c.self.inside.pool c.self.inside.sides.items c.self.inside.servers.items
-    c.self.inside.tx c.self.inside.pacer c.args.self.now c.self.view_is)
+    c.self.inside.queue.tx c.self.inside.queue.pacer c.args.self.now c.self.view_is)
     c.args.i c.args.head.now.request c.args.head.now.number in
     let seen : c.is_waiting-is_waiting.result
     ≡ list_any (is_queued (Ask c.args.head.now.session c.args.head.now.request)
@@ -141,24 +141,24 @@ returns c =
     ∙ ap (λ n. list_any (is_queued (Ask n c.args.head.now.request) c.args.head.now.number)
     c.args.self.now.queued) (sym c.requires.session) in
     let told = rw seen at (heard-clients s.pool c.heard_at.new.pool s.sides.items
-    c.heard_at.new.sides.items s.servers.items (joined s.tx s.pacer) c.args.i c.args.now
+    c.heard_at.new.sides.items s.servers.items (joined s.queue.tx s.queue.pacer) c.args.i c.args.now
     c.args.head.now c.args.body.now c.is_waiting-is_waiting.result c.heard_at.result
     c.self.invariant.0 h connected c.requires.session windows waits c.args.peer peer) in
     changes-calls s.pool c.heard_at.new.pool s.sides.items c.heard_at.new.sides.items
-    s.servers.items s.servers.items s.tx s.tx s.pacer s.pacer c.args.self.now c.self.view_is
+    s.servers.items s.servers.items s.queue.tx s.queue.tx s.queue.pacer s.queue.pacer c.args.self.now c.self.view_is
     (RepliesAt c.args.i c.args.now c.args.peer c.args.head.now c.args.body.now
     (list_any (is_queued (Ask c.args.head.now.session c.args.head.now.request)
     c.args.head.now.number) c.args.self.now.queued) c.heard_at.result)
     (rw (ap (λ v. v.clients) (sym c.self.view_is)) told)
     (heard-servers s.pool c.heard_at.new.pool s.sides.items
-    c.heard_at.new.sides.items s.servers.items (joined s.tx s.pacer) c.args.i c.args.now
+    c.heard_at.new.sides.items s.servers.items (joined s.queue.tx s.queue.pacer) c.args.i c.args.now
     c.args.head.now c.args.body.now c.is_waiting-is_waiting.result c.heard_at.result
     c.self.invariant.0 h connected c.requires.session windows waits)
     (heard-places s.pool c.heard_at.new.pool s.sides.items
-    c.heard_at.new.sides.items s.servers.items (joined s.tx s.pacer) c.args.i c.args.now
+    c.heard_at.new.sides.items s.servers.items (joined s.queue.tx s.queue.pacer) c.args.i c.args.now
     c.args.head.now c.args.body.now c.is_waiting-is_waiting.result c.heard_at.result
     c.self.invariant.0 h connected c.requires.session windows waits)
     (HandsBackIf c.args.i (ended_by c.heard_at.result)) (heard-handed s.pool c.heard_at.new.pool s.sides.items
-    c.heard_at.new.sides.items s.servers.items (joined s.tx s.pacer) c.args.i c.args.now
+    c.heard_at.new.sides.items s.servers.items (joined s.queue.tx s.queue.pacer) c.args.i c.args.now
     c.args.head.now c.args.body.now c.is_waiting-is_waiting.result c.heard_at.result
     c.self.invariant.0 h connected c.requires.session windows waits) refl refl

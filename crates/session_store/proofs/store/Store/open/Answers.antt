@@ -16,14 +16,14 @@ pub invariant_of-self-2 : goal.invariant_of-self-2
 invariant_of-self-2 c =
     let long : vec_len c.self.inside.sides ≡ length c.self.inside.sides.items = omega arith in (
       rw c.in_ok-push.ensures.pushed (kept-paired c.self.inside.pool c.self.inside.sides.items
-          c.self.inside.servers.items (joined c.self.inside.tx c.self.inside.pacer) _ 0 _
+          c.self.inside.servers.items (joined c.self.inside.queue.tx c.self.inside.queue.pacer) _ 0 _
           c.args.credits c.self.invariant.0
           (c.new-session.ensures.session ∙ ap (λ n. new_session n 0 first_life c.args.credits)
           (c.len.ensures ∙ long))),
       c.self.invariant.1,
       rw c.in_ok-push.ensures.pushed (client-added c.self.inside.shares c.self.inside.pool
           c.self.inside.sides.items c.self.inside.servers.items c.self.invariant.2
-          c.self.inside.tx c.self.inside.pacer c.args.self.now c.self.view_is
+          c.self.inside.queue.tx c.self.inside.queue.pacer c.args.self.now c.self.view_is
           c.shares_with-shares.result c.args.credits c.shares_with-shares.ensures c.requires.most
           (made c.args.peer c.new-session.result)
           (opened-share c.self.inside.pool (made c.args.peer c.new-session.result)

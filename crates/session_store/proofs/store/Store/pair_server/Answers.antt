@@ -23,11 +23,11 @@ invariant_of-self-2 c =
     (rw c.unwrap.ensures at c.insert.ensures.items)
     ∙ ap (λ (es : List ℕ). insert es c.place_in-place.result c.code_at-code.result)
     c.reserve-2.ensures.items in (
-      rw pushed (kept-server s.pool s.sides.items s.servers.items (joined s.tx s.pacer) v
+      rw pushed (kept-server s.pool s.sides.items s.servers.items (joined s.queue.tx s.queue.pacer) v
           c.args.number c.args.client _ c.args.peer c.args.credits c.self.invariant.0 below own),
       c.self.invariant.1,
       rw pushed (server-added s.shares s.pool s.sides.items s.servers.items
-          c.self.invariant.2 s.tx s.pacer c.args.self.now c.self.view_is
+          c.self.invariant.2 s.queue.tx s.queue.pacer c.args.self.now c.self.view_is
           c.shares_with-shares.result c.args.credits c.shares_with-shares.ensures c.requires.most v
           (ap (λ (x : Serving). x.credits) own)),
       rw (pushed, placed) (end-added s.ends.items s.servers.items

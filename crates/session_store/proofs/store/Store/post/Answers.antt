@@ -21,7 +21,7 @@ use Rattle.session_store.proofs.store.Store.post.Goals as goal
 pub post_at-posted-requires-clause-keeps : goal.post_at-posted-requires-clause-keeps
 post_at-posted-requires-clause-keeps c =
     may-post c.self.inside.pool c.self.inside.sides.items c.self.inside.servers.items
-    (joined c.self.inside.tx c.self.inside.pacer) c.self.invariant.0
+    (joined c.self.inside.queue.tx c.self.inside.queue.pacer) c.self.invariant.0
 
 pub invariant_of-self : goal.invariant_of-self
 invariant_of-self c =
@@ -30,46 +30,46 @@ invariant_of-self c =
     let connected = connected-at s.sides.items c.args.i c.index.result.now h.side c.index.ensures
     h.at (sym c.is_connected.ensures ∙ c.if-not-is_connected.false) in (
       unposted-kept s.pool c.post_at-posted.new.pool s.sides.items
-          c.post_at-posted.new.sides.items s.servers.items (joined s.tx s.pacer) c.args.i h
+          c.post_at-posted.new.sides.items s.servers.items (joined s.queue.tx s.queue.pacer) c.args.i h
           c.self.invariant.0,
       c.self.invariant.1,
       clients-kept s.shares s.pool c.post_at-posted.new.pool s.sides.items
           c.post_at-posted.new.sides.items s.servers.items (posts-kept c.args.i None _ _
           (unposted-clients s.pool c.post_at-posted.new.pool s.sides.items
-          c.post_at-posted.new.sides.items s.servers.items (joined s.tx s.pacer) c.args.i h
+          c.post_at-posted.new.sides.items s.servers.items (joined s.queue.tx s.queue.pacer) c.args.i h
           connected)) c.self.invariant.2,
       c.self.invariant.3,
     )
 
-pub put_in-requires : goal.put_in-requires
-put_in-requires c =
+pub put-requires : goal.put-requires
+put-requires c =
     let s = c.self.inside in
     let h = rw c.in-Some.is at c.post_at-posted.ensures in
     let connected = connected-at s.sides.items c.args.i c.index.result.now h.side c.index.ensures
     h.at (sym c.is_connected.ensures ∙ c.if-not-is_connected.false) in
     record {
       room = room-there s.pool c.post_at-posted.new.pool s.sides.items
-          c.post_at-posted.new.sides.items s.servers.items (joined s.tx s.pacer) c.args.i
+          c.post_at-posted.new.sides.items s.servers.items (joined s.queue.tx s.queue.pacer) c.args.i
           c.in-Some.entry c.self.invariant.0 h connected (undue c.args.self.now) (flat s.pool
-          s.sides.items s.servers.items s.tx s.pacer c.args.self.now c.self.view_is)
-          (room-undue c.args.i c.args.self.now (queue-room s.pool s.sides.items s.servers.items s.tx
-          s.pacer c.args.self.now c.self.view_is c.args.i h.side h.at connected c.requires.room));
+          s.sides.items s.servers.items s.queue.tx s.queue.pacer c.args.self.now c.self.view_is)
+          (room-undue c.args.i c.args.self.now (queue-room s.pool s.sides.items s.servers.items s.queue.tx
+          s.queue.pacer c.args.self.now c.self.view_is c.args.i h.side h.at connected c.requires.room));
       paced = λ some. (let free = paced-there s.pool c.post_at-posted.new.pool s.sides.items
-          c.post_at-posted.new.sides.items s.servers.items (joined s.tx s.pacer) c.args.i
+          c.post_at-posted.new.sides.items s.servers.items (joined s.queue.tx s.queue.pacer) c.args.i
           c.in-Some.entry c.self.invariant.0 h connected (undue c.args.self.now) (flat s.pool
-          s.sides.items s.servers.items s.tx s.pacer c.args.self.now c.self.view_is)
+          s.sides.items s.servers.items s.queue.tx s.queue.pacer c.args.self.now c.self.view_is)
           (count_by is_paced c.args.self.now.queued) (pace-room s.pool s.sides.items
-          s.servers.items s.tx s.pacer c.args.self.now c.self.view_is c.args.i h.side h.at connected
+          s.servers.items s.queue.tx s.queue.pacer c.args.self.now c.self.view_is c.args.i h.side h.at connected
           (c.requires.paced some)) in
           omega (
             arith,
             free,
             c.self.invariant.1.half,
-            paced-counted s.tx s.pacer,
+            paced-counted s.queue.tx s.queue.pacer,
             ap (λ v. count_by is_paced v.queued) c.self.view_is,
           ));
       call = λ some. posted-call s.pool c.post_at-posted.new.pool s.sides.items
-          c.post_at-posted.new.sides.items s.servers.items (joined s.tx s.pacer) c.args.i
+          c.post_at-posted.new.sides.items s.servers.items (joined s.queue.tx s.queue.pacer) c.args.i
           c.in-Some.entry c.self.invariant.0 h connected;
       paces = c.self.invariant.1;
     }
@@ -81,23 +81,23 @@ invariant_of-self-2 c =
     let connected = connected-at s.sides.items c.args.i c.index.result.now h.side c.index.ensures
     h.at (sym c.is_connected.ensures ∙ c.if-not-is_connected.false) in
     let room = room-there s.pool c.post_at-posted.new.pool s.sides.items
-    c.post_at-posted.new.sides.items s.servers.items (joined s.tx s.pacer) c.args.i
+    c.post_at-posted.new.sides.items s.servers.items (joined s.queue.tx s.queue.pacer) c.args.i
     c.in-Some.entry c.self.invariant.0 h connected (undue c.args.self.now) (flat s.pool
-    s.sides.items s.servers.items s.tx s.pacer c.args.self.now c.self.view_is)
-    (room-undue c.args.i c.args.self.now (queue-room s.pool s.sides.items s.servers.items s.tx
-    s.pacer c.args.self.now c.self.view_is c.args.i h.side h.at connected c.requires.room)) in (
+    s.sides.items s.servers.items s.queue.tx s.queue.pacer c.args.self.now c.self.view_is)
+    (room-undue c.args.i c.args.self.now (queue-room s.pool s.sides.items s.servers.items s.queue.tx
+    s.queue.pacer c.args.self.now c.self.view_is c.args.i h.side h.at connected c.requires.room)) in (
       kept-put c.post_at-posted.new.pool c.post_at-posted.new.sides.items s.servers.items
-          c.in-Some.entry (joined s.tx s.pacer) (joined c.put_in.new.tx c.put_in.new.pacer)
-          c.put_in.ensures.put c.put_in.ensures.size
+          c.in-Some.entry (joined s.queue.tx s.queue.pacer) (joined c.put.new.self.tx c.put.new.self.pacer)
+          c.put.ensures.put c.put.ensures.size
           (kept-posted s.pool c.post_at-posted.new.pool s.sides.items c.post_at-posted.new.sides.items
-          s.servers.items (joined s.tx s.pacer) c.args.i c.in-Some.entry c.self.invariant.0 h connected
+          s.servers.items (joined s.queue.tx s.queue.pacer) c.args.i c.in-Some.entry c.self.invariant.0 h connected
           room),
-      c.put_in.ensures.paces,
+      c.put.ensures.paces,
       clients-kept s.shares s.pool c.post_at-posted.new.pool s.sides.items
           c.post_at-posted.new.sides.items s.servers.items (posts-kept c.args.i
           (Some (packet_of_entry c.in-Some.entry)) _ _ (posted-clients s.pool
           c.post_at-posted.new.pool s.sides.items c.post_at-posted.new.sides.items s.servers.items
-          (joined s.tx s.pacer) c.args.i c.in-Some.entry c.self.invariant.0 h connected room))
+          (joined s.queue.tx s.queue.pacer) c.args.i c.in-Some.entry c.self.invariant.0 h connected room))
           c.self.invariant.2,
       c.self.invariant.3,
     )
@@ -109,16 +109,16 @@ returns-in_default-clause-posts c =
     let connected = connected-at s.sides.items c.args.i c.index.result.now h.side
     c.index.ensures h.at (sym c.is_connected.ensures ∙ c.if-not-is_connected.false) in
     changes-queue s.pool c.post_at-posted.new.pool s.sides.items c.post_at-posted.new.sides.items
-    s.servers.items s.servers.items s.tx s.tx s.pacer s.pacer c.args.self.now c.self.view_is
+    s.servers.items s.servers.items s.queue.tx s.queue.tx s.queue.pacer s.queue.pacer c.args.self.now c.self.view_is
     (PostsAt c.args.i None) (rw (← c.self.view_is) (unposted-clients s.pool c.post_at-posted.new.pool
     s.sides.items c.post_at-posted.new.sides.items s.servers.items
-    (joined s.tx s.pacer) c.args.i h connected))
+    (joined s.queue.tx s.queue.pacer) c.args.i h connected))
     (rw h.step.pool refl) (unposted-sum s.pool c.post_at-posted.new.pool
     s.sides.items c.post_at-posted.new.sides.items s.servers.items
-    (joined s.tx s.pacer) c.args.i h) (put_listed c.args.due None)
+    (joined s.queue.tx s.queue.pacer) c.args.i h) (put_listed c.args.due None)
     (unposted-handed s.pool c.post_at-posted.new.pool
     s.sides.items c.post_at-posted.new.sides.items s.servers.items
-    (joined s.tx s.pacer) c.args.i h) refl refl
+    (joined s.queue.tx s.queue.pacer) c.args.i h) refl refl
 
 pub returns-clause-posts : goal.returns-clause-posts
 returns-clause-posts c =
@@ -127,20 +127,20 @@ returns-clause-posts c =
     let connected = connected-at s.sides.items c.args.i c.index.result.now h.side
     c.index.ensures h.at (sym c.is_connected.ensures ∙ c.if-not-is_connected.false) in
     let room = room-there s.pool c.post_at-posted.new.pool s.sides.items
-    c.post_at-posted.new.sides.items s.servers.items (joined s.tx s.pacer) c.args.i
+    c.post_at-posted.new.sides.items s.servers.items (joined s.queue.tx s.queue.pacer) c.args.i
     c.in-Some.entry c.self.invariant.0 h connected (undue c.args.self.now) (flat s.pool
-    s.sides.items s.servers.items s.tx s.pacer c.args.self.now c.self.view_is)
-    (room-undue c.args.i c.args.self.now (queue-room s.pool s.sides.items s.servers.items s.tx
-    s.pacer c.args.self.now c.self.view_is c.args.i h.side h.at connected c.requires.room)) in
+    s.sides.items s.servers.items s.queue.tx s.queue.pacer c.args.self.now c.self.view_is)
+    (room-undue c.args.i c.args.self.now (queue-room s.pool s.sides.items s.servers.items s.queue.tx
+    s.queue.pacer c.args.self.now c.self.view_is c.args.i h.side h.at connected c.requires.room)) in
     changes-queue s.pool c.post_at-posted.new.pool s.sides.items c.post_at-posted.new.sides.items
-    s.servers.items s.servers.items s.tx c.put_in.new.tx s.pacer c.put_in.new.pacer
+    s.servers.items s.servers.items s.queue.tx c.put.new.self.tx s.queue.pacer c.put.new.self.pacer
     c.args.self.now c.self.view_is (PostsAt c.args.i (Some (packet_of_entry c.in-Some.entry)))
     (rw (← c.self.view_is) (posted-clients s.pool c.post_at-posted.new.pool
     s.sides.items c.post_at-posted.new.sides.items s.servers.items
-    (joined s.tx s.pacer) c.args.i c.in-Some.entry c.self.invariant.0 h connected room))
+    (joined s.queue.tx s.queue.pacer) c.args.i c.in-Some.entry c.self.invariant.0 h connected room))
     (rw h.step.pool (servers-held s.pool s.servers.items c.in-Some.entry.place)) (posted-sum s.pool c.post_at-posted.new.pool
     s.sides.items c.post_at-posted.new.sides.items s.servers.items
-    (joined s.tx s.pacer) c.args.i c.in-Some.entry c.self.invariant.0 h connected room) (put_listed c.args.due (Some c.in-Some.entry))
+    (joined s.queue.tx s.queue.pacer) c.args.i c.in-Some.entry c.self.invariant.0 h connected room) (put_listed c.args.due (Some c.in-Some.entry))
     (posted-handed s.pool c.post_at-posted.new.pool
     s.sides.items c.post_at-posted.new.sides.items s.servers.items
-    (joined s.tx s.pacer) c.args.i c.in-Some.entry c.self.invariant.0 h connected room) c.put_in.ensures.queue c.put_in.ensures.size
+    (joined s.queue.tx s.queue.pacer) c.args.i c.in-Some.entry c.self.invariant.0 h connected room) c.put.ensures.queue c.put.ensures.size

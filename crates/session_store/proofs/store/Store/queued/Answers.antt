@@ -9,7 +9,7 @@ overflow_add-result c =
       arith,
       c.len.ensures.len,
       c.len-2.ensures.len,
-      joined-length s.tx s.pacer,
+      joined-length s.queue.tx s.queue.pacer,
       c.self.invariant.0.within,
       c.self.invariant.0.few,
     )
@@ -21,5 +21,5 @@ returns c =
       arith,
       c.len.ensures.len,
       c.len-2.ensures.len,
-      queue-length s.tx s.pacer,
+      queue-length s.queue.tx s.queue.pacer,
     ))

@@ -12,27 +12,27 @@ use Rattle.session_store.proofs.store.Store.request_sent.Goals as goal
 pub asked-side-requires : goal.asked-side-requires
 asked-side-requires c =
     let s = c.self.inside in
-    let seen = flat s.pool s.sides.items s.servers.items s.tx s.pacer c.args.self.now c.self.view_is in
-    let at = there-at s.pool s.sides.items s.servers.items (joined s.tx s.pacer) c.self.invariant.0
+    let seen = flat s.pool s.sides.items s.servers.items s.queue.tx s.queue.pacer c.args.self.now c.self.view_is in
+    let at = there-at s.pool s.sides.items s.servers.items (joined s.queue.tx s.queue.pacer) c.self.invariant.0
     (undue c.args.self.now) seen c.args.i c.index_mut-side.result.now c.requires.known
     c.index_mut-side.ensures.value in
-    few-sends s.pool s.sides.items s.servers.items (joined s.tx s.pacer) c.self.invariant.0
+    few-sends s.pool s.sides.items s.servers.items (joined s.queue.tx s.queue.pacer) c.self.invariant.0
     (undue c.args.self.now) seen c.args.i c.index_mut-side.result.now at c.requires.few
 
 pub invariant_of-self : goal.invariant_of-self
 invariant_of-self c =
     let s = c.self.inside in
-    let seen = flat s.pool s.sides.items s.servers.items s.tx s.pacer c.args.self.now c.self.view_is in
-    let at = there-at s.pool s.sides.items s.servers.items (joined s.tx s.pacer) c.self.invariant.0
+    let seen = flat s.pool s.sides.items s.servers.items s.queue.tx s.queue.pacer c.args.self.now c.self.view_is in
+    let at = there-at s.pool s.sides.items s.servers.items (joined s.queue.tx s.queue.pacer) c.self.invariant.0
     (undue c.args.self.now) seen c.args.i c.index_mut-side.result.now c.requires.known
     c.index_mut-side.ensures.value in
-    let moved = moved-asked s.pool s.sides.items s.servers.items (joined s.tx s.pacer) c.self.invariant.0
+    let moved = moved-asked s.pool s.sides.items s.servers.items (joined s.queue.tx s.queue.pacer) c.self.invariant.0
     (undue c.args.self.now) seen c.args.i c.index_mut-side.result.now at
     c.args.now c.asked-side.result c.asked-side.ensures c.requires.asking in (
       moved.kept,
       c.self.invariant.1,
       share-asked s.shares s.pool s.sides.items s.servers.items c.self.invariant.2 c.args.i
-          c.index_mut-side.result.now at s.tx s.pacer c.args.self.now c.self.view_is
+          c.index_mut-side.result.now at s.queue.tx s.queue.pacer c.args.self.now c.self.view_is
           (live-asking _ c.requires.asking) c.args.now c.asked-side.result c.asked-side.ensures,
       c.self.invariant.3,
     )
@@ -40,13 +40,13 @@ invariant_of-self c =
 pub returns : goal.returns
 returns c =
     let s = c.self.inside in
-    let seen = flat s.pool s.sides.items s.servers.items s.tx s.pacer c.args.self.now c.self.view_is in
-    let at = there-at s.pool s.sides.items s.servers.items (joined s.tx s.pacer) c.self.invariant.0
+    let seen = flat s.pool s.sides.items s.servers.items s.queue.tx s.queue.pacer c.args.self.now c.self.view_is in
+    let at = there-at s.pool s.sides.items s.servers.items (joined s.queue.tx s.queue.pacer) c.self.invariant.0
     (undue c.args.self.now) seen c.args.i c.index_mut-side.result.now c.requires.known
     c.index_mut-side.ensures.value in
-    let moved = moved-asked s.pool s.sides.items s.servers.items (joined s.tx s.pacer) c.self.invariant.0
+    let moved = moved-asked s.pool s.sides.items s.servers.items (joined s.queue.tx s.queue.pacer) c.self.invariant.0
     (undue c.args.self.now) seen c.args.i c.index_mut-side.result.now at c.args.now c.asked-side.result
     c.asked-side.ensures c.requires.asking in
-    changes-clients s.pool s.pool s.sides.items _ s.servers.items s.servers.items s.tx s.tx s.pacer
-    s.pacer c.args.self.now c.self.view_is (ChangesAt c.args.i (sent_again c.args.now)) moved.clients refl
+    changes-clients s.pool s.pool s.sides.items _ s.servers.items s.servers.items s.queue.tx s.queue.tx s.queue.pacer
+    s.queue.pacer c.args.self.now c.self.view_is (ChangesAt c.args.i (sent_again c.args.now)) moved.clients refl
     moved.places moved.handed refl refl

@@ -16,34 +16,34 @@ use Rattle.session_store.proofs.store.Store.roll.Goals as goal
 pub roll_at-requires-clause-active : goal.roll_at-requires-clause-active
 roll_at-requires-clause-active c =
     roll-active-at c.self.inside.pool c.self.inside.sides.items c.self.inside.servers.items
-    (joined c.self.inside.tx c.self.inside.pacer) c.args.i c.args.call (undue c.args.self.now)
+    (joined c.self.inside.queue.tx c.self.inside.queue.pacer) c.args.i c.args.call (undue c.args.self.now)
     (flat c.self.inside.pool c.self.inside.sides.items c.self.inside.servers.items
-    c.self.inside.tx c.self.inside.pacer c.args.self.now c.self.view_is)
+    c.self.inside.queue.tx c.self.inside.queue.pacer c.args.self.now c.self.view_is)
     (may-undue c.args.i c.args.call c.args.self.now c.requires.may)
 
 pub roll_at-requires-clause-few : goal.roll_at-requires-clause-few
 roll_at-requires-clause-few c =
     roll-few-at c.self.inside.pool c.self.inside.sides.items c.self.inside.servers.items
-    (joined c.self.inside.tx c.self.inside.pacer) c.args.i c.args.call (undue c.args.self.now)
+    (joined c.self.inside.queue.tx c.self.inside.queue.pacer) c.args.i c.args.call (undue c.args.self.now)
     (flat c.self.inside.pool c.self.inside.sides.items c.self.inside.servers.items
-    c.self.inside.tx c.self.inside.pacer c.args.self.now c.self.view_is)
+    c.self.inside.queue.tx c.self.inside.queue.pacer c.args.self.now c.self.view_is)
     (may-undue c.args.i c.args.call c.args.self.now c.requires.may)
 
 pub roll_at-requires-clause-idle : goal.roll_at-requires-clause-idle
 roll_at-requires-clause-idle c =
     roll-idle-at c.self.inside.pool c.self.inside.sides.items c.self.inside.servers.items
-    (joined c.self.inside.tx c.self.inside.pacer) c.args.i c.args.call (undue c.args.self.now)
+    (joined c.self.inside.queue.tx c.self.inside.queue.pacer) c.args.i c.args.call (undue c.args.self.now)
     (flat c.self.inside.pool c.self.inside.sides.items c.self.inside.servers.items
-    c.self.inside.tx c.self.inside.pacer c.args.self.now c.self.view_is)
+    c.self.inside.queue.tx c.self.inside.queue.pacer c.args.self.now c.self.view_is)
     (may-undue c.args.i c.args.call c.args.self.now c.requires.may)
     c.self.invariant.0
 
 pub invariant_of-self : goal.invariant_of-self
 invariant_of-self c = (
   kept-roll c.self.inside.pool c.self.inside.sides.items c.self.inside.servers.items
-      (joined c.self.inside.tx c.self.inside.pacer) c.args.i c.args.call (undue c.args.self.now)
+      (joined c.self.inside.queue.tx c.self.inside.queue.pacer) c.args.i c.args.call (undue c.args.self.now)
       (flat c.self.inside.pool c.self.inside.sides.items c.self.inside.servers.items
-      c.self.inside.tx c.self.inside.pacer c.args.self.now c.self.view_is)
+      c.self.inside.queue.tx c.self.inside.queue.pacer c.args.self.now c.self.view_is)
       (may-undue c.args.i c.args.call c.args.self.now c.requires.may)
       c.roll_at.new.sides.items c.self.invariant.0 c.roll_at.ensures,
   c.self.invariant.1,
@@ -51,9 +51,9 @@ invariant_of-self c = (
       c.self.inside.sides.items c.roll_at.new.sides.items c.self.inside.servers.items
       (rolls-kept c.args.i c.args.call _ _ (rolled-clients c.self.inside.pool
       c.self.inside.sides.items c.self.inside.servers.items
-      (joined c.self.inside.tx c.self.inside.pacer) c.args.i c.args.call (undue c.args.self.now)
+      (joined c.self.inside.queue.tx c.self.inside.queue.pacer) c.args.i c.args.call (undue c.args.self.now)
       (flat c.self.inside.pool c.self.inside.sides.items c.self.inside.servers.items
-      c.self.inside.tx c.self.inside.pacer c.args.self.now c.self.view_is)
+      c.self.inside.queue.tx c.self.inside.queue.pacer c.args.self.now c.self.view_is)
       (may-undue c.args.i c.args.call c.args.self.now c.requires.may)
       c.roll_at.new.sides.items c.self.invariant.0 c.roll_at.ensures)
       ∙ ap (λ (v : Shown). map live_credits v.clients) (sym c.self.view_is))
@@ -64,13 +64,13 @@ invariant_of-self c = (
 pub returns : goal.returns
 returns c =
     let s = c.self.inside in
-    let seen = flat s.pool s.sides.items s.servers.items s.tx s.pacer c.args.self.now c.self.view_is in
+    let seen = flat s.pool s.sides.items s.servers.items s.queue.tx s.queue.pacer c.args.self.now c.self.view_is in
     let may = may-undue c.args.i c.args.call c.args.self.now c.requires.may in
     changes-clients s.pool s.pool s.sides.items c.roll_at.new.sides.items s.servers.items
-    s.servers.items s.tx s.tx s.pacer s.pacer c.args.self.now c.self.view_is
-    (RollsAt c.args.i c.args.call) (rolled-clients s.pool s.sides.items s.servers.items (joined s.tx s.pacer) c.args.i c.args.call
+    s.servers.items s.queue.tx s.queue.tx s.queue.pacer s.queue.pacer c.args.self.now c.self.view_is
+    (RollsAt c.args.i c.args.call) (rolled-clients s.pool s.sides.items s.servers.items (joined s.queue.tx s.queue.pacer) c.args.i c.args.call
     (undue c.args.self.now) seen may c.roll_at.new.sides.items c.self.invariant.0 c.roll_at.ensures)
-    refl (places-roll s.pool s.sides.items s.servers.items (joined s.tx s.pacer) c.args.i c.args.call
+    refl (places-roll s.pool s.sides.items s.servers.items (joined s.queue.tx s.queue.pacer) c.args.i c.args.call
     (undue c.args.self.now) seen may c.roll_at.new.sides.items c.self.invariant.0 c.roll_at.ensures)
-    (handed-roll s.pool s.sides.items s.servers.items (joined s.tx s.pacer) c.args.i c.args.call
+    (handed-roll s.pool s.sides.items s.servers.items (joined s.queue.tx s.queue.pacer) c.args.i c.args.call
     (undue c.args.self.now) seen may c.roll_at.new.sides.items c.self.invariant.0 c.roll_at.ensures) refl refl

@@ -23,46 +23,50 @@ use Rattle.session_store.proofs.store.Store.sent.Goals as goal
 pub invariant_of-self : goal.invariant_of-self
 invariant_of-self c =
     let s = c.self.inside in
-    let front = sym c.pop_in.ensures.front ∙ c.in-Some.is in
+    let front = sym c.pop.ensures.front ∙ c.in-Some.is in
     let own : c.in-Some.entry.owner ≡ Ask c.from.result c.in-Ask.request =
     sym (ap (λ (e : EntryValue). e.owner) c.entry.view_is) ∙ c.in-Ask.is
     ∙ ap (λ n. Ask n c.in-Ask.request) (sym (c.from.ensures ∙ c.session.view_is)) in (
-      rw c.pop_in.ensures.rest (sent-kept s.pool c.sent_at.new.pool s.sides.items
-          c.sent_at.new.sides.items s.servers.items (joined s.tx s.pacer) c.from.result c.in-Ask.request
-          c.in-Some.entry (λ d. false) (drop 1 (joined s.tx s.pacer).items) c.self.invariant.0
-          (front-taken (joined s.tx s.pacer).items c.in-Some.entry front) own c.args.now c.sent_at.ensures),
-      c.pop_in.ensures.paces,
+      rw c.pop.ensures.rest (sent-kept s.pool c.sent_at.new.pool s.sides.items
+          c.sent_at.new.sides.items s.servers.items (joined s.queue.tx s.queue.pacer) c.from.result c.in-Ask.request
+          c.in-Some.entry (λ d. false) (drop 1 (joined s.queue.tx s.queue.pacer).items) c.self.invariant.0
+          (front-taken (joined s.queue.tx s.queue.pacer).items c.in-Some.entry front) own c.args.now c.sent_at.ensures),
+      c.pop.ensures.paces,
       clients-kept s.shares s.pool c.sent_at.new.pool s.sides.items c.sent_at.new.sides.items
           s.servers.items (ap (map live_credits) (sent-clients s.pool c.sent_at.new.pool
-          s.sides.items c.sent_at.new.sides.items s.servers.items (joined s.tx s.pacer)
+          s.sides.items c.sent_at.new.sides.items s.servers.items (joined s.queue.tx s.queue.pacer)
           c.from.result c.in-Ask.request c.in-Some.entry (λ d. false)
-          (drop 1 (joined s.tx s.pacer).items) c.self.invariant.0
-          (front-taken (joined s.tx s.pacer).items c.in-Some.entry front) own c.args.now
+          (drop 1 (joined s.queue.tx s.queue.pacer).items) c.self.invariant.0
+          (front-taken (joined s.queue.tx s.queue.pacer).items c.in-Some.entry front) own c.args.now
           c.sent_at.ensures) ∙ sends-kept c.args.now (Ask c.from.result c.in-Ask.request)
           c.in-Some.entry.number (map (shown_side s.pool) s.sides.items)) c.self.invariant.2,
       c.self.invariant.3,
     )
 
-pub reply_sent_at-requires-clause-stands : goal.reply_sent_at-requires-clause-stands
-reply_sent_at-requires-clause-stands c =
+pub reply_sent_at-requires-clause-there : goal.reply_sent_at-requires-clause-there
+reply_sent_at-requires-clause-there c =
     let s = c.self.inside in
-    let front = sym c.pop_in.ensures.front ∙ c.in-Some.is in
+    let front = sym c.pop.ensures.front ∙ c.in-Some.is in
     let own : c.in-Some.entry.owner ≡ Reply c.in-Reply.session c.in-Reply.request =
     sym (ap (λ (e : EntryValue). e.owner) c.entry.view_is) ∙ c.in-Reply.is in
-    end-reply s.pool s.sides.items s.servers.items (joined s.tx s.pacer) c.self.invariant.0 c.in-Reply.session
-    c.in-Reply.request c.in-Some.entry front own
+    record {
+      rises = c.self.invariant.0.rises;
+      keeps = c.self.invariant.0.serves;
+      stands = end-reply s.pool s.sides.items s.servers.items (joined s.queue.tx s.queue.pacer) c.self.invariant.0 c.in-Reply.session
+          c.in-Reply.request c.in-Some.entry front own;
+    }
 
 pub invariant_of-self-in-Reply : goal.invariant_of-self-in-Reply
 invariant_of-self-in-Reply c =
     let s = c.self.inside in
-    let front = sym c.pop_in.ensures.front ∙ c.in-Some.is in
+    let front = sym c.pop.ensures.front ∙ c.in-Some.is in
     let own : c.in-Some.entry.owner ≡ Reply c.in-Reply.session c.in-Reply.request =
     sym (ap (λ (e : EntryValue). e.owner) c.entry.view_is) ∙ c.in-Reply.is in (
-      rw c.pop_in.ensures.rest (reply-kept s.pool c.reply_sent_at.new.pool s.sides.items s.servers.items
-          c.reply_sent_at.new.servers.items (joined s.tx s.pacer) c.in-Reply.session c.in-Reply.request c.in-Some.entry
-          (λ d. false) (drop 1 (joined s.tx s.pacer).items) c.self.invariant.0
-          (front-taken (joined s.tx s.pacer).items c.in-Some.entry front) own c.reply_sent_at.ensures),
-      c.pop_in.ensures.paces,
+      rw c.pop.ensures.rest (reply-kept s.pool c.reply_sent_at.new.pool s.sides.items s.servers.items
+          c.reply_sent_at.new.servers.items (joined s.queue.tx s.queue.pacer) c.in-Reply.session c.in-Reply.request c.in-Some.entry
+          (λ d. false) (drop 1 (joined s.queue.tx s.queue.pacer).items) c.self.invariant.0
+          (front-taken (joined s.queue.tx s.queue.pacer).items c.in-Some.entry front) own c.reply_sent_at.ensures),
+      c.pop.ensures.paces,
       servers-kept s.shares s.pool c.reply_sent_at.new.pool s.sides.items s.servers.items
           c.reply_sent_at.new.servers.items (gone-kept c.in-Reply.session c.in-Some.entry
           s.servers.items c.reply_sent_at.new.servers.items s.pool c.reply_sent_at.new.pool
@@ -76,71 +80,71 @@ invariant_of-self-in-Reply c =
 pub returns-in-Ask : goal.returns-in-Ask
 returns-in-Ask c =
     let s = c.self.inside in
-    let front = sym c.pop_in.ensures.front ∙ c.in-Some.is in
+    let front = sym c.pop.ensures.front ∙ c.in-Some.is in
     let own : c.in-Some.entry.owner ≡ Ask c.from.result c.in-Ask.request =
     sym (ap (λ (e : EntryValue). e.owner) c.entry.view_is) ∙ c.in-Ask.is
     ∙ ap (λ n. Ask n c.in-Ask.request) (sym (c.from.ensures ∙ c.session.view_is)) in
     changes-queue s.pool c.sent_at.new.pool s.sides.items c.sent_at.new.sides.items
-    s.servers.items s.servers.items s.tx c.pop_in.new.tx s.pacer c.pop_in.new.pacer
+    s.servers.items s.servers.items s.queue.tx c.pop.new.self.tx s.queue.pacer c.pop.new.self.pacer
     c.args.self.now c.self.view_is (SendsFront c.args.now c.args.self.now.queued)
     (sends-undue c.args.now c.args.self.now.queued _ _
-    (sends-seen s.pool s.sides.items s.servers.items (joined s.tx s.pacer) c.self.invariant.0
-    (undue c.args.self.now) (flat s.pool s.sides.items s.servers.items s.tx s.pacer
+    (sends-seen s.pool s.sides.items s.servers.items (joined s.queue.tx s.queue.pacer) c.self.invariant.0
+    (undue c.args.self.now) (flat s.pool s.sides.items s.servers.items s.queue.tx s.queue.pacer
     c.args.self.now c.self.view_is) c.in-Some.entry c.args.now _ front
     (sent-clients s.pool c.sent_at.new.pool s.sides.items
-    c.sent_at.new.sides.items s.servers.items (joined s.tx s.pacer) c.from.result c.in-Ask.request
-    c.in-Some.entry (λ d. false) (drop 1 (joined s.tx s.pacer).items) c.self.invariant.0
-    (front-taken (joined s.tx s.pacer).items c.in-Some.entry front) own c.args.now
+    c.sent_at.new.sides.items s.servers.items (joined s.queue.tx s.queue.pacer) c.from.result c.in-Ask.request
+    c.in-Some.entry (λ d. false) (drop 1 (joined s.queue.tx s.queue.pacer).items) c.self.invariant.0
+    (front-taken (joined s.queue.tx s.queue.pacer).items c.in-Some.entry front) own c.args.now
     c.sent_at.ensures
     ∙ ap (λ o. clients_sent c.args.now o c.in-Some.entry.number
     (map (shown_side s.pool) s.sides.items)) (sym own))))
-    (rw c.sent_at.ensures.step.gone.pool (servers-released s.pool s.servers.items
+    (rw c.sent_at.ensures.step.leaves.pool (servers-released s.pool s.servers.items
     c.in-Some.entry.place)) (sent-places s.pool c.sent_at.new.pool s.sides.items
-    c.sent_at.new.sides.items s.servers.items (joined s.tx s.pacer) c.from.result c.in-Ask.request
-    c.in-Some.entry (λ d. false) (drop 1 (joined s.tx s.pacer).items) c.self.invariant.0
-    (front-taken (joined s.tx s.pacer).items c.in-Some.entry front) own c.args.now
+    c.sent_at.new.sides.items s.servers.items (joined s.queue.tx s.queue.pacer) c.from.result c.in-Ask.request
+    c.in-Some.entry (λ d. false) (drop 1 (joined s.queue.tx s.queue.pacer).items) c.self.invariant.0
+    (front-taken (joined s.queue.tx s.queue.pacer).items c.in-Some.entry front) own c.args.now
     c.sent_at.ensures) (drop 1)
     (sent-handed s.pool c.sent_at.new.pool s.sides.items
-    c.sent_at.new.sides.items s.servers.items (joined s.tx s.pacer) c.from.result c.in-Ask.request
-    c.in-Some.entry (λ d. false) (drop 1 (joined s.tx s.pacer).items) c.self.invariant.0
-    (front-taken (joined s.tx s.pacer).items c.in-Some.entry front) own c.args.now
-    c.sent_at.ensures) c.pop_in.ensures.queue
-    (ap (λ r. r.size) c.pop_in.ensures.rest)
+    c.sent_at.new.sides.items s.servers.items (joined s.queue.tx s.queue.pacer) c.from.result c.in-Ask.request
+    c.in-Some.entry (λ d. false) (drop 1 (joined s.queue.tx s.queue.pacer).items) c.self.invariant.0
+    (front-taken (joined s.queue.tx s.queue.pacer).items c.in-Some.entry front) own c.args.now
+    c.sent_at.ensures) c.pop.ensures.queue
+    (ap (λ r. r.size) c.pop.ensures.rest)
 
 pub returns-in-Reply : goal.returns-in-Reply
 returns-in-Reply c =
     let s = c.self.inside in
-    let front = sym c.pop_in.ensures.front ∙ c.in-Some.is in
+    let front = sym c.pop.ensures.front ∙ c.in-Some.is in
     let own : c.in-Some.entry.owner ≡ Reply c.in-Reply.session c.in-Reply.request =
     sym (ap (λ (e : EntryValue). e.owner) c.entry.view_is) ∙ c.in-Reply.is in
     changes-queue s.pool c.reply_sent_at.new.pool s.sides.items s.sides.items
-    s.servers.items c.reply_sent_at.new.servers.items s.tx c.pop_in.new.tx s.pacer
-    c.pop_in.new.pacer c.args.self.now c.self.view_is
+    s.servers.items c.reply_sent_at.new.servers.items s.queue.tx c.pop.new.self.tx s.queue.pacer
+    c.pop.new.self.pacer c.args.self.now c.self.view_is
     (SendsFront c.args.now c.args.self.now.queued)
     (sends-undue c.args.now c.args.self.now.queued _ _
-    (sends-seen s.pool s.sides.items s.servers.items (joined s.tx s.pacer) c.self.invariant.0
-    (undue c.args.self.now) (flat s.pool s.sides.items s.servers.items s.tx s.pacer
+    (sends-seen s.pool s.sides.items s.servers.items (joined s.queue.tx s.queue.pacer) c.self.invariant.0
+    (undue c.args.self.now) (flat s.pool s.sides.items s.servers.items s.queue.tx s.queue.pacer
     c.args.self.now c.self.view_is) c.in-Some.entry c.args.now _ front
     (reply-clients s.pool c.reply_sent_at.new.pool s.sides.items
-    s.servers.items c.reply_sent_at.new.servers.items (joined s.tx s.pacer) c.in-Reply.session
-    c.in-Reply.request c.in-Some.entry (λ d. false) (drop 1 (joined s.tx s.pacer).items)
-    c.self.invariant.0 (front-taken (joined s.tx s.pacer).items c.in-Some.entry front) own
+    s.servers.items c.reply_sent_at.new.servers.items (joined s.queue.tx s.queue.pacer) c.in-Reply.session
+    c.in-Reply.request c.in-Some.entry (λ d. false) (drop 1 (joined s.queue.tx s.queue.pacer).items)
+    c.self.invariant.0 (front-taken (joined s.queue.tx s.queue.pacer).items c.in-Some.entry front) own
     c.reply_sent_at.ensures
     ∙ ap (λ o. clients_sent c.args.now o c.in-Some.entry.number
     (map (shown_side s.pool) s.sides.items)) (sym own))))
     (reply-servers s.pool c.reply_sent_at.new.pool s.sides.items
-    s.servers.items c.reply_sent_at.new.servers.items (joined s.tx s.pacer) c.in-Reply.session
-    c.in-Reply.request c.in-Some.entry (λ d. false) (drop 1 (joined s.tx s.pacer).items)
-    c.self.invariant.0 (front-taken (joined s.tx s.pacer).items c.in-Some.entry front) own
+    s.servers.items c.reply_sent_at.new.servers.items (joined s.queue.tx s.queue.pacer) c.in-Reply.session
+    c.in-Reply.request c.in-Some.entry (λ d. false) (drop 1 (joined s.queue.tx s.queue.pacer).items)
+    c.self.invariant.0 (front-taken (joined s.queue.tx s.queue.pacer).items c.in-Some.entry front) own
     c.reply_sent_at.ensures)
     (reply-places s.pool c.reply_sent_at.new.pool s.sides.items
-    s.servers.items c.reply_sent_at.new.servers.items (joined s.tx s.pacer) c.in-Reply.session
-    c.in-Reply.request c.in-Some.entry (λ d. false) (drop 1 (joined s.tx s.pacer).items)
-    c.self.invariant.0 (front-taken (joined s.tx s.pacer).items c.in-Some.entry front) own
+    s.servers.items c.reply_sent_at.new.servers.items (joined s.queue.tx s.queue.pacer) c.in-Reply.session
+    c.in-Reply.request c.in-Some.entry (λ d. false) (drop 1 (joined s.queue.tx s.queue.pacer).items)
+    c.self.invariant.0 (front-taken (joined s.queue.tx s.queue.pacer).items c.in-Some.entry front) own
     c.reply_sent_at.ensures) (drop 1)
     (reply-handed s.pool c.reply_sent_at.new.pool s.sides.items
-    s.servers.items c.reply_sent_at.new.servers.items (joined s.tx s.pacer) c.in-Reply.session
-    c.in-Reply.request c.in-Some.entry (λ d. false) (drop 1 (joined s.tx s.pacer).items)
-    c.self.invariant.0 (front-taken (joined s.tx s.pacer).items c.in-Some.entry front) own
-    c.reply_sent_at.ensures) c.pop_in.ensures.queue
-    (ap (λ r. r.size) c.pop_in.ensures.rest)
+    s.servers.items c.reply_sent_at.new.servers.items (joined s.queue.tx s.queue.pacer) c.in-Reply.session
+    c.in-Reply.request c.in-Some.entry (λ d. false) (drop 1 (joined s.queue.tx s.queue.pacer).items)
+    c.self.invariant.0 (front-taken (joined s.queue.tx s.queue.pacer).items c.in-Some.entry front) own
+    c.reply_sent_at.ensures) c.pop.ensures.queue
+    (ap (λ r. r.size) c.pop.ensures.rest)

@@ -9,7 +9,7 @@ overflow_add-result c =
       arith,
       c.requires.most,
       c.from.ensures,
-      shares-few s.shares s.pool s.sides.items s.servers.items s.tx s.pacer c.args.self.now
+      shares-few s.shares s.pool s.sides.items s.servers.items s.queue.tx s.queue.pacer c.args.self.now
           c.self.view_is c.self.invariant.2 c.few.ensures.clients c.few.ensures.servers,
     )
 

@@ -1,10 +1,10 @@
 use Rattle.session_store.proofs.JoinLemmas.{holds-both}
-use Rattle.session_store.proofs.line.holds_in.Goals as goal
+use Rattle.session_store.proofs.queue.Queue.holds.Goals as goal
 
 pub returns-else-holds : goal.returns-else-holds
 returns-else-holds c =
     rw (
-      holds-both c.args.owner.now c.args.number c.args.tx.now.items c.args.pacer.now.items,
+      holds-both c.args.owner.now c.args.number c.args.self.now.tx.items c.args.self.now.pacer.items,
       ← c.holds.ensures,
       c.if-holds.false,
     ) c.holds-else-holds.ensures

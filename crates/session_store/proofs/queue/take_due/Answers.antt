@@ -1,5 +1,5 @@
 use Rattle.pacing_wheel.proofs.DueLemmas.{none-released, released-due, released-first, released-left}
-use Rattle.session_store.proofs.line.take_due.Goals as goal
+use Rattle.session_store.proofs.queue.take_due.Goals as goal
 
 pub returns-clause-first : goal.returns-clause-first
 returns-clause-first c =

@@ -2,7 +2,7 @@ use Rattle.std.proofs.Common.{sym, ap, ◌∙◌, length, arith}
 use Rattle.packet_rings.specs.Rings.{ring}
 use Rattle.session_store.proofs.JoinLemmas.{drop-calls, shorter, step-entries, step-queue, still}
 use Rattle.session_store.proofs.UndueLemmas.{joined-length}
-use Rattle.session_store.proofs.line.make_ready_in.Goals as goal
+use Rattle.session_store.proofs.queue.Queue.make_ready.Goals as goal
 
 pub push-requires : goal.push-requires
 push-requires c =
@@ -12,8 +12,8 @@ push-requires c =
         arith,
         ap (λ r. length r.items) c.packets.invariant.same,
         ap (λ r. r.size) c.packets.invariant.same,
-        joined-length c.packets.tx c.packets.pacer,
-        shorter c.packets.pacer.items c.in-Some.entry h.first,
+        joined-length c.packets.self.tx c.packets.self.pacer,
+        shorter c.packets.self.pacer.items c.in-Some.entry h.first,
         c.requires.room,
       );
     }
@@ -21,11 +21,11 @@ push-requires c =
 pub packets-preserved : goal.packets-preserved
 packets-preserved c =
     let h = c.in-Some.ensures in
-    let xs = c.packets.tx.items in
-    let ps = c.packets.pacer.items in
+    let xs = c.packets.self.tx.items in
+    let ps = c.packets.self.pacer.items in
     let inv = c.packets.invariant in
     rw (c.push.ensures, h.left) (record {
-      same = ap (λ es. ring es c.packets.tx.size) (step-entries xs ps c.in-Some.entry h.first) ∙ inv.same;
+      same = ap (λ es. ring es c.packets.self.tx.size) (step-entries xs ps c.in-Some.entry h.first) ∙ inv.same;
       queue = step-queue c.args.now xs ps c.in-Some.entry h.first h.due ∙ inv.queue;
       paces = record { calls = drop-calls _ ps inv.paces.calls; half = inv.paces.half };
     })
@@ -33,10 +33,10 @@ packets-preserved c =
 pub packets-smaller : goal.packets-smaller
 packets-smaller c =
     let h = c.in-Some.ensures in
-    rw h.left (omega (arith, shorter c.packets.pacer.items c.in-Some.entry h.first))
+    rw h.left (omega (arith, shorter c.packets.self.pacer.items c.in-Some.entry h.first))
 
 pub returns-clause-queue : goal.returns-clause-queue
 returns-clause-queue c =
     rw c.in_default.ensures.unchanged
-    (sym (still c.args.now c.packets.tx.items c.packets.pacer.items c.in_default.ensures.none)
+    (sym (still c.args.now c.packets.self.tx.items c.packets.self.pacer.items c.in_default.ensures.none)
     ∙ c.packets.invariant.queue)

@@ -3,7 +3,7 @@ use Rattle.std.specs.Prelude.{option_map}
 use Rattle.packet_rings.specs.Entries.{option_is}
 use Rattle.pacing_wheel.specs.Wheel.{entry_of, is_due}
 use Rattle.pacing_wheel.proofs.DueLemmas.{one-due}
-use Rattle.session_store.proofs.line.paced_due.Goals as goal
+use Rattle.session_store.proofs.queue.paced_due.Goals as goal
 
 pub returns-clause-first : goal.returns-clause-first
 returns-clause-first c =
