@@ -1,7 +1,7 @@
 //! What an application does with its calls that are over.
 ghost use Rattle.std.specs.Prelude.{[], ◌∷◌, List, ⊤};
 ghost use Rattle.client_core.specs.declared.outcome.Done.{Done};
-ghost use Rattle.endpoint_node.specs.Given.{Gave};
+ghost use Rattle.node_steps.specs.Given.{Gave};
 
 use client_core::Done;
 

@@ -4,9 +4,8 @@
 #![tactic(auto)]
 
 mod continuation;
-mod inbox;
-mod lives;
 mod node;
 
 pub use continuation::Continuation;
-pub use node::{AskError, Asking, Delivery, JobName, Listening, Node, Refused, Sending};
+pub use node::Node;
+pub use node_steps::{AskError, Asking, Delivery, JobName, Listening, Refused, Sending};

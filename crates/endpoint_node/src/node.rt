@@ -1,6 +1,6 @@
 //! What an endpoint has, beside its service and its workers.
 ghost use Rattle.std.specs.Prelude.{◌≡◌, ◌≤◌, [], IfOk};
-ghost use Rattle.endpoint_node.specs.Handed.{holding};
+ghost use Rattle.node_steps.specs.Handed.{holding};
 ghost use Rattle.memory_count.specs.Faults.{HasCause};
 ghost use Rattle.rpc_base.specs.Limits.{Fits as InRange};
 ghost use Rattle.rpc_laws.specs.Groups.{shares};
@@ -16,16 +16,12 @@ mod rates;
 mod sessions;
 mod status;
 
-use crate::inbox::Inbox;
-use crate::lives::KnownLives;
 use calling_sessions::CallingSessions;
-pub use calls::{AskError, Refused};
-pub use delivery::Delivery;
 use memory_count::{Memory, NoMemory};
+use node_steps::{Inbox, JobName, KnownLives};
 use packet_header::Life;
 use packet_rings::RxRing;
-pub use poll::{Asking, Listening, Sending};
-use rpc_base::{Limits, NodeId, RequestNo, SessionNo};
+use rpc_base::{Limits, NodeId};
 use rpc_laws::{Counted, Pace};
 use session_store::Store;
 use std::collections::VecDeque;
@@ -36,14 +32,6 @@ const PLACES_OF_SESSION: u32 = 16;
 
 // A job that is out may need so many for its answer.
 const PLACES_OF_JOB: u32 = 2;
-
-/// Whose a job is that was given and isn't finished. Its bytes are with the workers.
-#[derive(Clone, Copy, Debug, PartialEq, Eq)]
-pub struct JobName {
-    pub session: SessionNo,
-    pub request: RequestNo,
-    pub req_type: u8,
-}
 
 /// The lists of a node, with its sessions on one pool and one transmit ring. Contracts see them as
 /// the definitions over histories have them.
@@ -97,10 +85,10 @@ impl Drop for Node {
 }
 
 impl Model for Node {
-    ghost use Rattle.endpoint_node.specs.Callers.{Covers};
-    ghost use Rattle.endpoint_node.specs.Fits.{Fits};
-    ghost use Rattle.endpoint_node.specs.Handed.{Holding, holding};
-    ghost use Rattle.endpoint_node.specs.Seen.{jobs_in, seen_node};
+    ghost use Rattle.node_steps.specs.Callers.{Covers};
+    ghost use Rattle.node_steps.specs.Fits.{Fits};
+    ghost use Rattle.node_steps.specs.Handed.{Holding, holding};
+    ghost use Rattle.node_steps.specs.Seen.{jobs_in, seen_node};
     ghost use Rattle.std.specs.Prelude.{◌≤◌};
     ghost use Rattle.std.specs.VecDeque.{deque_capacity};
 

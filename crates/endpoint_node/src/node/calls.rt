@@ -1,12 +1,12 @@
 //! Calls are asked.
 ghost use Rattle.client_core.specs.Handing.{handed_waiting};
-ghost use Rattle.endpoint_node.specs.Handed.{timed_of};
+ghost use Rattle.node_steps.specs.Handed.{timed_of};
 ghost use Rattle.session_store.specs.Handing.{HandsInAt};
 ghost use Rattle.std.specs.Prelude.{IfOk, ◌≡◌, ◌≤◌, ◌+◌, ◌*◌, [], Some, IfErr, OnErr, OnOk};
 ghost use Rattle.std.specs.List.{find};
-ghost use Rattle.endpoint_node.specs.Asks.{IfWanting, IsAskedAs, UnlessWanting, refusal_of};
-ghost use Rattle.endpoint_node.specs.Lacks.{lacks_asked};
-ghost use Rattle.endpoint_node.specs.Notes.{Makes};
+ghost use Rattle.node_steps.specs.Asks.{IfWanting, IsAskedAs, UnlessWanting, refusal_of};
+ghost use Rattle.node_steps.specs.Lacks.{lacks_asked};
+ghost use Rattle.node_steps.specs.Notes.{Makes};
 ghost use Rattle.memory_count.specs.Faults.{HasCause, HasRisenBy};
 ghost use Rattle.message_buffer.specs.Buffer.{bytes_of, capacity_of};
 ghost use Rattle.rpc_base.specs.declared.state.SessionState.TheVariants.{Connected};
@@ -14,52 +14,14 @@ ghost use Rattle.rpc_laws.specs.Groups.{Asks, state_of};
 ghost use Rattle.rpc_laws.specs.Sessions.{is_client};
 
 use crate::node::Node;
-use memory_count::{Memory, NoMemory};
+use memory_count::Memory;
 use message_buffer::MsgBuf;
+use node_steps::{AskError, Refused};
 use rpc_base::{
     CallNo, Event, MOST_CALLS, MOST_MESSAGE_BYTES, MOST_SESSIONS, SessionNo, SessionState, Who,
 };
 use rpc_outside::Recorder;
 use session_slots::Waiting;
-use std::error::Error;
-use std::fmt;
-
-/// Why a call is refused: the first of these that holds.
-#[derive(Clone, Copy, Debug, PartialEq, Eq)]
-pub enum AskError {
-    /// Its request has more than 1,048,576 bytes.
-    TooLarge { len: u32 },
-    NotConnected { state: SessionState },
-    NoMemory,
-}
-
-impl fmt::Display for AskError {
-    fn fmt<W: fmt::Write>(&self, f: &mut fmt::Formatter<W>) -> fmt::Result {
-        match self {
-            AskError::TooLarge { .. } => f.write_str("the request is too large"),
-            AskError::NotConnected { .. } => f.write_str("the session isn't connected"),
-            AskError::NoMemory => write!(f, "{}", NoMemory),
-        }
-    }
-}
-
-impl Error for AskError {}
-
-/// A call that was refused, with its buffers.
-#[derive(Debug, Drop)]
-pub struct Refused {
-    pub why: AskError,
-    pub req: MsgBuf,
-    pub resp: MsgBuf,
-}
-
-impl fmt::Display for Refused {
-    fn fmt<W: fmt::Write>(&self, f: &mut fmt::Formatter<W>) -> fmt::Result {
-        write!(f, "{}", self.why)
-    }
-}
-
-impl Error for Refused {}
 
 impl Node {
     /// The state of a client session: Unknown where its number was never used.

@@ -1,30 +1,18 @@
 //! A datagram comes in.
-ghost use Rattle.endpoint_node.specs.Steps.{StepsIn, Steps};
-ghost use Rattle.endpoint_node.specs.Changes.{◌⟶◌};
+ghost use Rattle.node_steps.specs.Steps.{StepsIn, Steps};
+ghost use Rattle.node_steps.specs.Changes.{◌⟶◌};
 ghost use Rattle.std.specs.Prelude.{◌≡◌, ◌≤◌, true, false, length};
-ghost use Rattle.endpoint_node.specs.Deliveries.{delivered_as, place_for};
-ghost use Rattle.endpoint_node.specs.declared.node.delivery.Delivery.TheVariants.{Inbox, Ring};
+ghost use Rattle.node_steps.specs.Deliveries.{delivered_as, place_for};
+ghost use Rattle.node_steps.specs.declared.deliveries.Delivery.TheVariants.{Inbox, Ring};
 ghost use Rattle.rpc_laws.specs.Deliveries.{Delivers, delivery, inbox_room};
 ghost use Rattle.rpc_base.specs.declared.event.Event.TheVariants.{Overflowed};
 ghost use Rattle.rpc_laws.specs.Front.{is_control, is_message};
 
 use crate::node::Node;
-use packet_header::{BadPacket, Packet, decode};
+use node_steps::Delivery;
+use packet_header::{Packet, decode};
 use rpc_base::{Event, MOST_DATAGRAM_BYTES, Peer, Who};
 use rpc_outside::Recorder;
-
-/// What became of a datagram.
-#[derive(Clone, Copy, Debug, PartialEq, Eq)]
-pub enum Delivery {
-    /// It stands in the receive ring.
-    Ring,
-    /// It stands in the inbox, as a control packet.
-    Inbox,
-    /// The ring, or for a control packet the inbox, is full: it is gone.
-    Full,
-    /// It is no packet, and is gone.
-    Bad(BadPacket),
-}
 
 impl Node {
     // There is no room for a datagram: it is counted, and gone.

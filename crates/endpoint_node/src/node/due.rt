@@ -1,9 +1,9 @@
 //! When the timers next have something to do.
 ghost use Rattle.std.specs.Prelude.{◌≡◌, ◌<◌, ◌≤◌, ◌+◌, ◌-◌, [], Some, length, slice_get, IfSome};
-ghost use Rattle.endpoint_node.specs.Due.{CallsRest, DueUnless, IsBetween, IsFirstDue};
-ghost use Rattle.endpoint_node.specs.Due.{RequestRests};
-ghost use Rattle.endpoint_node.specs.Due.{RestsAt, SessionRests};
-ghost use Rattle.endpoint_node.specs.Wants.{HasActive};
+ghost use Rattle.node_steps.specs.Due.{CallsRest, DueUnless, IsBetween, IsFirstDue};
+ghost use Rattle.node_steps.specs.Due.{RequestRests};
+ghost use Rattle.node_steps.specs.Due.{RestsAt, SessionRests};
+ghost use Rattle.node_steps.specs.Wants.{HasActive};
 ghost use Rattle.rpc_laws.specs.GoBackN.{row_of};
 ghost use Rattle.rpc_laws.specs.Pacing.{line};
 ghost use Rattle.rpc_laws.specs.declared.rows.TimerRow.TheVariants.{Waits};

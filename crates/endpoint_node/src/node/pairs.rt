@@ -1,14 +1,14 @@
 //! Sessions that are connected from the start.
-ghost use Rattle.endpoint_node.specs.Wants.{FitsServer, FitsClient};
-ghost use Rattle.endpoint_node.specs.Changes.{◌⟶◌};
-ghost use Rattle.endpoint_node.specs.Opens.{AddsClient, AddsServer, MakesClient, MakesServer};
+ghost use Rattle.node_steps.specs.Wants.{FitsServer, FitsClient};
+ghost use Rattle.node_steps.specs.Changes.{◌⟶◌};
+ghost use Rattle.node_steps.specs.Opens.{AddsClient, AddsServer, MakesClient, MakesServer};
 ghost use Rattle.memory_count.specs.Faults.{HasCause, HasRisenBy};
 ghost use Rattle.node_laws.specs.NodeRun.{IsCredits};
-ghost use Rattle.endpoint_node.specs.Handed.{timed_of};
+ghost use Rattle.node_steps.specs.Handed.{timed_of};
 ghost use Rattle.std.specs.Prelude.{◌≡◌, ◌<◌, ◌≤◌, [], None, Some, length, IfErr, IfSome, IsSome};
 ghost use Rattle.std.specs.Prelude.{OnOk};
-ghost use Rattle.endpoint_node.specs.Pairs.{PairsClient, PairsServer, Refuses};
-ghost use Rattle.endpoint_node.specs.Notes.{Makes};
+ghost use Rattle.node_steps.specs.Pairs.{PairsClient, PairsServer, Refuses};
+ghost use Rattle.node_steps.specs.Notes.{Makes};
 ghost use Rattle.rpc_base.specs.declared.event.Event.TheVariants.{PairedClient, PairedServer};
 ghost use Rattle.rpc_laws.specs.Groups.{refusal_by};
 ghost use Rattle.rpc_laws.specs.Steps.{NotesNext};

@@ -1,6 +1,6 @@
 //! With which peers a session is live.
 ghost use Rattle.std.specs.Prelude.{◌≡◌, ℕ, true, false, None, IfSome, slice_get};
-ghost use Rattle.endpoint_node.specs.Peers.{calls_to, is_with, serves_to};
+ghost use Rattle.node_steps.specs.Peers.{calls_to, is_with, serves_to};
 
 use crate::node::Node;
 use crate::node::rates::lives;

@@ -1,5 +1,5 @@
 //! The steps of a poll, a file for each.
-ghost use Rattle.endpoint_node.specs.Handed.{holding, timed_of};
+ghost use Rattle.node_steps.specs.Handed.{holding, timed_of};
 ghost use Rattle.std.specs.Prelude.{◌≡◌, max};
 ghost use Rattle.rpc_laws.specs.PollOrder.{raised};
 
@@ -14,9 +14,6 @@ mod sends;
 mod timers;
 
 use crate::node::Node;
-pub use control::Listening;
-pub use sends::Sending;
-pub use timers::Asking;
 
 impl Node {
     /// The clock of the node at a poll at the moment `now`, in microseconds. It doesn't fall.

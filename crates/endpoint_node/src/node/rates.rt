@@ -1,10 +1,10 @@
 //! Client sessions get their rates.
-ghost use Rattle.endpoint_node.specs.Wants.{HasPace};
-ghost use Rattle.endpoint_node.specs.Steps.{Steps};
-ghost use Rattle.endpoint_node.specs.Changes.{◌⟶◌};
+ghost use Rattle.node_steps.specs.Wants.{HasPace};
+ghost use Rattle.node_steps.specs.Steps.{Steps};
+ghost use Rattle.node_steps.specs.Changes.{◌⟶◌};
 ghost use Rattle.std.specs.Prelude.{◌≡◌, ◌<◌, false, true, OnErr};
 ghost use Rattle.std.specs.List.{find};
-ghost use Rattle.endpoint_node.specs.Rates.{RatedAs};
+ghost use Rattle.node_steps.specs.Rates.{RatedAs};
 ghost use Rattle.rpc_base.specs.Tables.{at_first};
 ghost use Rattle.rpc_laws.specs.Groups.{SetsRate, state_of};
 ghost use Rattle.rpc_laws.specs.Pacing.{is_pace_of};

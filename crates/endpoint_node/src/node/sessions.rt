@@ -1,14 +1,14 @@
 //! Sessions are opened and closed by the application.
-ghost use Rattle.endpoint_node.specs.Wants.{FitsClient};
-ghost use Rattle.endpoint_node.specs.Opens.{AddsClient, MakesClient};
+ghost use Rattle.node_steps.specs.Wants.{FitsClient};
+ghost use Rattle.node_steps.specs.Opens.{AddsClient, MakesClient};
 ghost use Rattle.memory_count.specs.Faults.{HasCause, HasRisenBy};
 ghost use Rattle.node_laws.specs.NodeRun.{IsCredits};
-ghost use Rattle.endpoint_node.specs.Steps.{Steps};
-ghost use Rattle.endpoint_node.specs.Changes.{◌⟶◌};
+ghost use Rattle.node_steps.specs.Steps.{Steps};
+ghost use Rattle.node_steps.specs.Changes.{◌⟶◌};
 ghost use Rattle.std.specs.Prelude.{◌≡◌, ◌<◌, ◌++◌, [], ◌∷◌, Some, true, length, IfErr, OnErr};
 ghost use Rattle.std.specs.Prelude.{OnOk};
 ghost use Rattle.std.specs.List.{find};
-ghost use Rattle.endpoint_node.specs.Pairs.{StartsRate};
+ghost use Rattle.node_steps.specs.Pairs.{StartsRate};
 ghost use Rattle.rpc_base.specs.declared.event.Event.TheVariants.{Closing, Opened};
 ghost use Rattle.rpc_laws.specs.Groups.{Connects, Disconnects, disconnect_by};
 ghost use Rattle.rpc_laws.specs.Groups.{pending as pending_of, state_of};

@@ -2,7 +2,7 @@
 ghost use Rattle.node_laws.specs.NodeRun.{IsCredits};
 ghost use Rattle.std.specs.Prelude.{◌≡◌, ◌≤◌, ◌↔◌, None, IfErr, IsSome, IsTrue, OnOk, length};
 ghost use Rattle.std.specs.List.{find};
-ghost use Rattle.endpoint_node.specs.Status.{IsDrained, IsQuiet, free_told, pending_told};
+ghost use Rattle.node_steps.specs.Status.{IsDrained, IsQuiet, free_told, pending_told};
 ghost use Rattle.rpc_laws.specs.Groups.{pair_refusal};
 ghost use Rattle.rpc_laws.specs.NodeLists.{limits_of};
 ghost use Rattle.rpc_laws.specs.Sessions.{is_client};

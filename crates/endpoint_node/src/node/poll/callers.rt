@@ -1,6 +1,6 @@
 //! Which client sessions a poll visits.
 ghost use Rattle.std.specs.Prelude.{◌≡◌, ◌<◌, ◌≤◌, length, slice_get, IfSome};
-ghost use Rattle.endpoint_node.specs.Callers.{IsNextCaller, is_visited};
+ghost use Rattle.node_steps.specs.Callers.{IsNextCaller, is_visited};
 
 use crate::node::Node;
 use rpc_base::MOST_SESSIONS;

@@ -1,6 +1,6 @@
 //! The end of a poll.
-ghost use Rattle.endpoint_node.specs.Steps.{Steps};
-ghost use Rattle.endpoint_node.specs.Changes.{◌⟶◌};
+ghost use Rattle.node_steps.specs.Steps.{Steps};
+ghost use Rattle.node_steps.specs.Changes.{◌⟶◌};
 ghost use Rattle.rpc_laws.specs.PollOrder.{Closes};
 
 use crate::node::Node;

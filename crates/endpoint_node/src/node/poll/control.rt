@@ -1,11 +1,11 @@
 //! Step 2 of a poll: the control packets of the inbox are handled, and answered.
-ghost use Rattle.endpoint_node.specs.Steps.{LeavesControl, StepsHeard};
-ghost use Rattle.endpoint_node.specs.Changes.{◌⟶◌};
+ghost use Rattle.node_steps.specs.Steps.{LeavesControl, StepsHeard};
+ghost use Rattle.node_steps.specs.Changes.{◌⟶◌};
 ghost use Rattle.std.specs.Prelude.{◌≡◌, ◌≢◌, ◌≤◌, [], drop, length, IfSome, Some};
-ghost use Rattle.endpoint_node.specs.Handed.{knowing, timed_of};
-ghost use Rattle.endpoint_node.specs.Inbox.{IsFront};
-ghost use Rattle.endpoint_node.specs.Control.{Handles, told_of};
-ghost use Rattle.endpoint_node.specs.Notes.{Makes};
+ghost use Rattle.node_steps.specs.Handed.{knowing, timed_of};
+ghost use Rattle.node_steps.specs.Inboxes.{IsFront};
+ghost use Rattle.node_steps.specs.Control.{Handles, told_of};
+ghost use Rattle.node_steps.specs.Notes.{Makes};
 ghost use Rattle.packet_header.specs.Header.{ControlInRange};
 ghost use Rattle.rpc_laws.specs.ControlSteps.{Hears, HearsAll};
 ghost use Rattle.rpc_laws.specs.Deliveries.{inbox_room};
@@ -17,24 +17,13 @@ mod replies;
 mod requests;
 mod rows;
 
-use crate::inbox::Heard;
 use crate::node::Node;
 use crate::node::poll::link::speak;
 use memory_count::Memory;
+use node_steps::{Heard, Listening};
 use packet_header::{ControlHeader, ControlKind};
 use rpc_base::{Event, Peer, Who};
 use rpc_outside::{Failed, Link, Recorder};
-
-/// What came of the control packets of an inbox.
-#[derive(Clone, Copy, Debug, PartialEq, Eq)]
-pub struct Listening {
-    /// How many were handled.
-    pub heard: u32,
-    /// How many packets were sent in answer.
-    pub sent: u32,
-    /// Whether the link failed.
-    pub failed: bool,
-}
 
 // What is told of one packet whose answer was handed to the link.
 fn told_of(went: Result<bool, Failed>) -> Listening

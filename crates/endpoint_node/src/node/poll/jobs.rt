@@ -1,13 +1,13 @@
 //! Step 1 of a poll: jobs are finished.
-ghost use Rattle.endpoint_node.specs.Steps.{LeavesJobs, StepsJobs};
-ghost use Rattle.endpoint_node.specs.Changes.{◌⟶◌};
-ghost use Rattle.endpoint_node.specs.Handed.{timed_of};
+ghost use Rattle.node_steps.specs.Steps.{LeavesJobs, StepsJobs};
+ghost use Rattle.node_steps.specs.Changes.{◌⟶◌};
+ghost use Rattle.node_steps.specs.Handed.{timed_of};
 ghost use Rattle.std.specs.Prelude.{◌≡◌, ◌<◌, ◌≤◌, ◌⊎◌, true, false, None, length, [], slice_get};
 ghost use Rattle.std.specs.List.{find, position, remove};
 ghost use Rattle.std.specs.VecDeque.{deque_capacity};
-ghost use Rattle.endpoint_node.specs.Jobs.{AnswersTo, AsksOf, NoneBack, is_named};
-ghost use Rattle.endpoint_node.specs.Notes.{MakesWhere};
-ghost use Rattle.endpoint_node.specs.Requests.{FinishesWith};
+ghost use Rattle.node_steps.specs.Jobs.{AnswersTo, AsksOf, NoneBack, is_named};
+ghost use Rattle.node_steps.specs.Notes.{MakesWhere};
+ghost use Rattle.node_steps.specs.Requests.{FinishesWith};
 ghost use Rattle.message_buffer.specs.Buffer.{bytes_of};
 ghost use Rattle.node_laws.specs.Kept.{Kept};
 ghost use Rattle.packet_header.specs.Parts.{IsMessage};
@@ -19,7 +19,8 @@ ghost use Rattle.session_store.specs.Handing.{AreOfCalls};
 ghost use Rattle.session_store.specs.Joined.{put_listed};
 ghost use Rattle.session_store.specs.Sides.{HasRoom};
 
-use crate::node::{JobName, Node};
+use crate::node::Node;
+use node_steps::JobName;
 use packet_rings::Entry;
 use rpc_base::{Event, MOST_MESSAGE_BYTES, Owner, RequestNo, SessionNo, Who};
 use rpc_outside::Recorder;

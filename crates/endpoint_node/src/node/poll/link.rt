@@ -1,6 +1,7 @@
 //! Control packets are handed to the link at once, and are never queued.
 ghost use Rattle.std.specs.Prelude.{◌≡◌, true, false, IfOk, OnErr};
-ghost use Rattle.endpoint_node.specs.ControlRows.{Spoke, was_taken};
+ghost use Rattle.node_steps.specs.Changes.{◌⟶◌};
+ghost use Rattle.node_steps.specs.ControlRows.{Spoke, was_taken};
 ghost use Rattle.packet_header.specs.Header.{ControlInRange};
 ghost use Rattle.memory_count.specs.Faults.{HasCause, HasRisen};
 ghost use Rattle.rpc_outside.specs.Linking.{NoneComes};
@@ -19,8 +20,8 @@ pub fn speak<L: Link, R: Recorder>(
     rec: &mut R,
 ) -> Result<bool, Failed>
     requires in_range { ControlInRange head.now }
-    ensures spoke { Spoke R.log L.sent me peer head.now (was_taken result) rec.old rec.new
-        link.old link.new }
+    ensures spoke { Spoke R.log L.sent me peer head.now (was_taken result) (rec.old ⟶ rec.new)
+        (link.old ⟶ link.new) }
     ensures busy { IfOk result (λ went. went ≡ false →
         HasRisen (L.busies link.old) (L.busies link.new)) }
     ensures went { IfOk result (λ went. went ≡ true → L.busies link.new ≡ L.busies link.old) }

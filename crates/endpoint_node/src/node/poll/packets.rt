@@ -1,13 +1,13 @@
 //! Step 3 of a poll: the packets of the receive ring are handled.
-ghost use Rattle.endpoint_node.specs.Fronts.{HasFront, LeavesHandled, CanServe};
-ghost use Rattle.endpoint_node.specs.Changes.{◌⟶◌};
-ghost use Rattle.endpoint_node.specs.Jobs.{staff_of};
+ghost use Rattle.node_steps.specs.Fronts.{HasFront, LeavesHandled, CanServe};
+ghost use Rattle.node_steps.specs.Changes.{◌⟶◌};
+ghost use Rattle.node_steps.specs.Jobs.{staff_change};
 ghost use Rattle.rpc_laws.specs.Service.{rules_of};
-ghost use Rattle.endpoint_node.specs.Handed.{GivesBackTo, timed_of};
+ghost use Rattle.node_steps.specs.Handed.{GivesBackTo, timed_of};
 ghost use Rattle.std.specs.Prelude.{◌≡◌, ◌≢◌, ◌<◌, ◌≤◌, ◌+◌, ◌==◌, not, [], true, false, drop};
 ghost use Rattle.std.specs.Prelude.{length};
-ghost use Rattle.endpoint_node.specs.Packets.{MakesAllHandled, MakesHandled, WorksFor};
-ghost use Rattle.endpoint_node.specs.Requests.{AllServed};
+ghost use Rattle.node_steps.specs.Packets.{MakesAllHandled, MakesHandled, WorksFor};
+ghost use Rattle.node_steps.specs.Requests.{AllServed, service_change};
 ghost use Rattle.rpc_laws.specs.PollOrder.{Handles, HandlesAll, NoMoreToHandle};
 ghost use Rattle.rpc_laws.specs.Queues.{replies};
 
@@ -43,9 +43,10 @@ impl Node {
         rec: &mut R,
     ) -> Option<Parcel>
         requires { HasFront V.Service service.old self.old }
-        ensures handles { MakesHandled R.log K.given (rules_of V.Service) (V.stands service.old)
-            (V.stands service.new) (Handles V.mode_of) result (timed_of self.old)
-            (timed_of self.new) rec.old rec.new k.old k.new (memory.old ⟶ memory.new) }
+        ensures handles { MakesHandled R.log K.given
+            (service_change V.Service (service.old ⟶ service.new)) (Handles V.mode_of) result
+            (timed_of self.old ⟶ timed_of self.new) (rec.old ⟶ rec.new) (k.old ⟶ k.new)
+            (memory.old ⟶ memory.new) }
         ensures ring { self.new.lists.ring ≡ drop 1 self.old.lists.ring }
         ensures served { AllServed V.mode_of self.new.lists.servers }
         ensures handed { GivesBackTo K.given self.old.handed self.new.handed k.old k.new }
@@ -90,10 +91,11 @@ impl Node {
     )
         requires front { HasFront V.Service service.old self.old }
         requires works { WorksFor W.answer (rules_of V.Service) }
-        ensures handles { MakesAllHandled R.log K.given (staff_of W.Workers) (rules_of V.Service)
-            (V.stands service.old) (V.stands service.new) W.answer (Handles V.mode_of)
-            (timed_of self.old) (timed_of self.new) rec.old rec.new k.old k.new workers.old
-            workers.new (memory.old ⟶ memory.new) }
+        ensures handles { MakesAllHandled R.log K.given
+            (service_change V.Service (service.old ⟶ service.new))
+            (staff_change W.Workers (workers.old ⟶ workers.new)) (Handles V.mode_of)
+            (timed_of self.old ⟶ timed_of self.new) (rec.old ⟶ rec.new) (k.old ⟶ k.new)
+            (memory.old ⟶ memory.new) }
         ensures fewer { length self.new.lists.ring < length self.old.lists.ring }
         ensures rest { LeavesHandled V.Service W.Workers K.given (self.old ⟶ self.new)
             (service.old ⟶ service.new) (workers.old ⟶ workers.new) (k.old ⟶ k.new) }
@@ -120,10 +122,11 @@ impl Node {
     ) -> u32
         requires serving { CanServe V.Service service.old self.old }
         requires works { WorksFor W.answer (rules_of V.Service) }
-        ensures handles { MakesAllHandled R.log K.given (staff_of W.Workers) (rules_of V.Service)
-            (V.stands service.old) (V.stands service.new) W.answer (HandlesAll V.mode_of)
-            (timed_of self.old) (timed_of self.new) rec.old rec.new k.old k.new workers.old
-            workers.new (memory.old ⟶ memory.new) }
+        ensures handles { MakesAllHandled R.log K.given
+            (service_change V.Service (service.old ⟶ service.new))
+            (staff_change W.Workers (workers.old ⟶ workers.new)) (HandlesAll V.mode_of)
+            (timed_of self.old ⟶ timed_of self.new) (rec.old ⟶ rec.new) (k.old ⟶ k.new)
+            (memory.old ⟶ memory.new) }
         ensures rest { LeavesHandled V.Service W.Workers K.given (self.old ⟶ self.new)
             (service.old ⟶ service.new) (workers.old ⟶ workers.new) (k.old ⟶ k.new) }
         ensures count { result + length self.new.lists.ring ≡ length self.old.lists.ring }

@@ -1,14 +1,14 @@
 //! What the client sessions begin and post.
-ghost use Rattle.endpoint_node.specs.Wants.{HasPace};
-ghost use Rattle.endpoint_node.specs.Steps.{Steps};
-ghost use Rattle.endpoint_node.specs.Changes.{◌⟶◌};
-ghost use Rattle.endpoint_node.specs.Handed.{timed_of};
-ghost use Rattle.endpoint_node.specs.Leaves.{LeavesServing};
+ghost use Rattle.node_steps.specs.Wants.{HasPace};
+ghost use Rattle.node_steps.specs.Steps.{Steps};
+ghost use Rattle.node_steps.specs.Changes.{◌⟶◌};
+ghost use Rattle.node_steps.specs.Handed.{timed_of};
+ghost use Rattle.node_steps.specs.Leaves.{LeavesServing};
 ghost use Rattle.std.specs.Prelude.{◌≡◌, ◌<◌, ◌≤◌, option_map, true};
 ghost use Rattle.std.specs.List.{find};
 ghost use Rattle.rpc_base.specs.Tables.{at_first};
-ghost use Rattle.endpoint_node.specs.Measures.{free_at, waiting_at};
-ghost use Rattle.endpoint_node.specs.Notes.{NotesOne};
+ghost use Rattle.node_steps.specs.Measures.{free_at, waiting_at};
+ghost use Rattle.node_steps.specs.Notes.{NotesOne};
 ghost use Rattle.rpc_laws.specs.Pacing.{delayed, due_at, is_paced};
 ghost use Rattle.rpc_laws.specs.PollOrder.{PostsAll, Serves};
 ghost use Rattle.session_store.specs.Effects.{request_in};

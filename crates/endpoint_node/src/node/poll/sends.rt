@@ -1,10 +1,10 @@
 //! Step 6 of a poll: what is ready or due is sent.
-ghost use Rattle.endpoint_node.specs.Steps.{StepsSent};
-ghost use Rattle.endpoint_node.specs.Changes.{◌⟶◌};
-ghost use Rattle.endpoint_node.specs.Handed.{timed_of};
-ghost use Rattle.endpoint_node.specs.Leaves.{LeavesServing};
+ghost use Rattle.node_steps.specs.Steps.{StepsSent};
+ghost use Rattle.node_steps.specs.Changes.{◌⟶◌};
+ghost use Rattle.node_steps.specs.Handed.{timed_of};
+ghost use Rattle.node_steps.specs.Leaves.{LeavesServing};
 ghost use Rattle.std.specs.Prelude.{◌≡◌, ◌<◌, [], true, false, length, None, Some, IfOk, OnErr};
-ghost use Rattle.endpoint_node.specs.Notes.{MakesSent, SendsNone};
+ghost use Rattle.node_steps.specs.Notes.{MakesSent, SendsNone};
 ghost use Rattle.rpc_laws.specs.Pacing.{line};
 ghost use Rattle.rpc_laws.specs.PollOrder.{Sends};
 ghost use Rattle.memory_count.specs.Faults.{HasCause, HasRisen};
@@ -12,17 +12,9 @@ ghost use Rattle.rpc_outside.specs.Linking.{NoneComes};
 ghost use Rattle.rpc_outside.specs.declared.link.Taken.TheVariants.{Busy, Whole};
 
 use crate::node::Node;
+use node_steps::Sending;
 use rpc_base::{Event, HEAD_BYTES, MOST_RING, Who};
 use rpc_outside::{Failed, Link, Recorder, Taken};
-
-/// What was sent.
-#[derive(Clone, Copy, Debug, PartialEq, Eq)]
-pub struct Sending {
-    /// How many packets.
-    pub sent: u32,
-    /// Whether the link was busy, which left packets that may be sent.
-    pub busy: bool,
-}
 
 impl Node {
     // Sends the front of the queue, where it lies. What the link answered is told: where it was

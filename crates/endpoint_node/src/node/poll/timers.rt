@@ -1,12 +1,12 @@
 //! Step 4 of a poll: the timers. Client sessions send their own requests. A call that timed out is
 //! rolled back, and one that timed out once too often breaks its session.
-ghost use Rattle.endpoint_node.specs.Wants.{HasActive};
-ghost use Rattle.endpoint_node.specs.Steps.{StepsTimes, StepsEnds};
-ghost use Rattle.endpoint_node.specs.Changes.{◌⟶◌};
-ghost use Rattle.endpoint_node.specs.Handed.{timed_of};
-ghost use Rattle.endpoint_node.specs.Leaves.{LeavesTimed};
+ghost use Rattle.node_steps.specs.Wants.{HasActive};
+ghost use Rattle.node_steps.specs.Steps.{StepsTimes, StepsEnds};
+ghost use Rattle.node_steps.specs.Changes.{◌⟶◌};
+ghost use Rattle.node_steps.specs.Handed.{timed_of};
+ghost use Rattle.node_steps.specs.Leaves.{LeavesTimed};
 ghost use Rattle.std.specs.Prelude.{◌<◌, ◌≤◌};
-ghost use Rattle.endpoint_node.specs.Timers.{LooksAt, calls_at};
+ghost use Rattle.node_steps.specs.Timers.{LooksAt, calls_at, number_at};
 ghost use Rattle.rpc_laws.specs.ControlSteps.{TimesAll, TimesSession};
 ghost use Rattle.rpc_laws.specs.GoBackN.{Watches, WatchesSession};
 ghost use Rattle.session_store.specs.Ends.{Ascends};
@@ -17,7 +17,7 @@ mod rollbacks;
 use crate::continuation::Continuation;
 use crate::node::Node;
 use client_core::Active;
-pub use retries::Asking;
+use node_steps::Asking;
 use rpc_base::{CallNo, SESSION_NUMBERS};
 use rpc_laws::TimerRow;
 use rpc_outside::{Link, Recorder};
@@ -52,8 +52,8 @@ impl Node {
         k: &mut K,
         rec: &mut R,
     ) -> Option<CallNo>
-        ensures looks { LooksAt R.log K.given timeout i after result (timed_of self.old)
-            (timed_of self.new) rec.old rec.new k.old k.new }
+        ensures looks { LooksAt R.log K.given (number_at after i) (Watches timeout i) result
+            (timed_of self.old ⟶ timed_of self.new) (rec.old ⟶ rec.new) (k.old ⟶ k.new) }
         ensures order { Ascends (calls_at i (timed_of self.old)) }
         ensures rest { LeavesTimed K.given self.old self.new k.old k.new }
     {

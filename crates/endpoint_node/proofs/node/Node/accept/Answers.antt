@@ -4,12 +4,12 @@ use Rattle.std.proofs.lemmas.List.{length-set, length-take}
 use Rattle.rpc_laws.specs.declared.tables.Client.{Client}
 use Rattle.rpc_laws.specs.Sessions.{asks}
 use Rattle.session_store.specs.Effects.{asking_in}
-use Rattle.endpoint_node.specs.Seen.{jobs_in}
-use Rattle.endpoint_node.proofs.CallSteps.{calls-before, connected-at, connected-there, fits-asked}
+use Rattle.node_steps.specs.Seen.{jobs_in}
+use Rattle.node_steps.proofs.CallSteps.{calls-before, connected-at, connected-there, fits-asked}
 use Rattle.message_buffer.specs.Buffer.{bytes_of}
 use Rattle.rpc_base.specs.declared.limits.TheConstants.{MOST_MESSAGE_BYTES}
-use Rattle.endpoint_node.proofs.CallSteps.{newest-is, node-asked}
-use Rattle.endpoint_node.proofs.PostCallers.{covers-entered}
+use Rattle.node_steps.proofs.CallSteps.{newest-is, node-asked}
+use Rattle.node_steps.proofs.PostCallers.{covers-entered}
 use Rattle.client_core.specs.Handing.{handed_waiting}
 use Rattle.session_store.specs.Handing.{HandsInAt}
 use Rattle.endpoint_node.proofs.node.Node.accept.Goals as goal

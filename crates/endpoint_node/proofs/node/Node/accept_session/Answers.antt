@@ -2,9 +2,9 @@ use Rattle.std.proofs.Common.{Some, false, true, refl, arith}
 use Rattle.rpc_base.specs.declared.event.Event.TheVariants.{Accepted}
 use Rattle.rpc_laws.specs.declared.rows.ControlRow.TheVariants.{Accepts, Starves}
 use Rattle.memory_count.proofs.Risen.{none-risen-by, one-risen}
-use Rattle.endpoint_node.specs.Changes.{◌⟶◌}
-use Rattle.endpoint_node.specs.Handed.{timed_of}
-use Rattle.endpoint_node.proofs.ControlRows.{acts-controls, acts-noted}
+use Rattle.node_steps.specs.Changes.{◌⟶◌}
+use Rattle.node_steps.specs.Handed.{timed_of}
+use Rattle.node_steps.proofs.ControlRows.{acts-controls, acts-noted}
 use Rattle.endpoint_node.proofs.node.Node.accept_session.Goals as goal
 
 pub returns-in-Ok : goal.returns-in-Ok

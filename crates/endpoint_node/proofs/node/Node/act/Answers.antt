@@ -6,11 +6,11 @@ use Rattle.rpc_laws.specs.declared.rows.ControlRow.TheVariants.{Accepts, Closes,
 use Rattle.rpc_laws.specs.declared.rows.ControlRow.TheVariants.{Fails}
 use Rattle.session_mgmt.specs.Control.{starved_if}
 use Rattle.memory_count.proofs.Risen.{none-risen}
-use Rattle.endpoint_node.specs.Changes.{◌⟶◌}
-use Rattle.endpoint_node.specs.Handed.{timed_of}
-use Rattle.endpoint_node.proofs.ControlRows.{accepts-fits, acts-controls, acts-none, acts-noted}
-use Rattle.endpoint_node.proofs.ControlRows.{asked-credits, closes-there, connects-there}
-use Rattle.endpoint_node.proofs.ControlRows.{fails-there, named-below, wants-none}
+use Rattle.node_steps.specs.Changes.{◌⟶◌}
+use Rattle.node_steps.specs.Handed.{timed_of}
+use Rattle.node_steps.proofs.ControlRows.{accepts-fits, acts-controls, acts-none, acts-noted}
+use Rattle.node_steps.proofs.ControlRows.{asked-credits, closes-there, connects-there}
+use Rattle.node_steps.proofs.ControlRows.{fails-there, named-below, wants-none}
 use Rattle.endpoint_node.proofs.node.Node.act.Goals as goal
 
 pub returns-in-Ignores : goal.returns-in-Ignores

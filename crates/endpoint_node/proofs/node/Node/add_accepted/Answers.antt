@@ -1,6 +1,6 @@
 use Rattle.std.proofs.Common.{◌+◌, refl}
-use Rattle.endpoint_node.specs.Seen.{jobs_in}
-use Rattle.endpoint_node.proofs.SessionFits.{fits-paired-server, numbers-below}
+use Rattle.node_steps.specs.Seen.{jobs_in}
+use Rattle.node_steps.proofs.SessionFits.{fits-paired-server, numbers-below}
 use Rattle.endpoint_node.proofs.node.Node.add_accepted.Goals as goal
 
 pub pair_server-requires-clause-above : goal.pair_server-requires-clause-above

@@ -1,7 +1,7 @@
 use Rattle.std.proofs.Common.{◌≡◌, ℕ, ◌++◌, [], ◌∷◌, length, ap, ◌∙◌, arith}
-use Rattle.endpoint_node.specs.Seen.{jobs_in}
-use Rattle.endpoint_node.proofs.SessionFits.{fits-paired-client}
-use Rattle.endpoint_node.proofs.PostCallers.{covers-paired}
+use Rattle.node_steps.specs.Seen.{jobs_in}
+use Rattle.node_steps.proofs.SessionFits.{fits-paired-client}
+use Rattle.node_steps.proofs.PostCallers.{covers-paired}
 use Rattle.endpoint_node.proofs.node.Node.add_client.Goals as goal
 
 pub invariant_of-self-2 : goal.invariant_of-self-2

@@ -1,5 +1,5 @@
-use Rattle.endpoint_node.proofs.NoteSteps.{makes-more, makes-none, notes-one}
-use Rattle.endpoint_node.proofs.LeavesSteps.{leaves-none, leaves-then}
+use Rattle.node_steps.proofs.NoteSteps.{makes-more, makes-none, notes-one}
+use Rattle.node_steps.proofs.LeavesSteps.{leaves-none, leaves-then}
 use Rattle.endpoint_node.proofs.node.Node.begin_all.Goals as goal
 
 pub calls-init : goal.calls-init

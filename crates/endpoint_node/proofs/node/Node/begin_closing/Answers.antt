@@ -4,9 +4,9 @@ use Rattle.std.proofs.lemmas.Option.{slice_get_within}
 use Rattle.rpc_base.specs.declared.state.SessionState.TheVariants.{Closing}
 use Rattle.rpc_laws.specs.declared.tables.Client.{Client}
 use Rattle.rpc_laws.specs.Sessions.{comes_to, is_connected}
-use Rattle.endpoint_node.specs.Seen.{jobs_in}
-use Rattle.endpoint_node.proofs.PostCallers.{covers-entered}
-use Rattle.endpoint_node.proofs.SessionSteps.{closes-at, fits-closing, node-closing, same-client}
+use Rattle.node_steps.specs.Seen.{jobs_in}
+use Rattle.node_steps.proofs.PostCallers.{covers-entered}
+use Rattle.node_steps.proofs.SessionSteps.{closes-at, fits-closing, node-closing, same-client}
 use Rattle.endpoint_node.proofs.node.Node.begin_closing.Goals as goal
 
 pub closing-requires : goal.closing-requires

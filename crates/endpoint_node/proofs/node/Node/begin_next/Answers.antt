@@ -1,8 +1,8 @@
-use Rattle.endpoint_node.proofs.NodeFits.{has-places}
-use Rattle.endpoint_node.proofs.PostFits.{fits-begun, node-begun}
-use Rattle.endpoint_node.proofs.PostSteps.{begun-fewer}
-use Rattle.endpoint_node.specs.Seen.{jobs_in}
-use Rattle.endpoint_node.proofs.PostCallers.{covers-begun}
+use Rattle.node_steps.proofs.NodeFits.{has-places}
+use Rattle.node_steps.proofs.PostFits.{fits-begun, node-begun}
+use Rattle.node_steps.proofs.PostSteps.{begun-fewer}
+use Rattle.node_steps.specs.Seen.{jobs_in}
+use Rattle.node_steps.proofs.PostCallers.{covers-begun}
 use Rattle.endpoint_node.proofs.node.Node.begin_next.Goals as goal
 
 pub begin-requires-clause-room : goal.begin-requires-clause-room

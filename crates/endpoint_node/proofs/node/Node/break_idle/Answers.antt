@@ -1,6 +1,6 @@
-use Rattle.endpoint_node.proofs.TimerBreaks.{fits-lost, node-lost}
-use Rattle.endpoint_node.specs.Seen.{jobs_in}
-use Rattle.endpoint_node.proofs.PostCallers.{covers-lost}
+use Rattle.node_steps.proofs.TimerBreaks.{fits-lost, node-lost}
+use Rattle.node_steps.specs.Seen.{jobs_in}
+use Rattle.node_steps.proofs.PostCallers.{covers-lost}
 use Rattle.std.proofs.Common.{refl}
 use Rattle.endpoint_node.proofs.node.Node.break_idle.Goals as goal
 

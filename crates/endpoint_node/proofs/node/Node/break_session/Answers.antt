@@ -1,5 +1,5 @@
-use Rattle.endpoint_node.proofs.TimerBreaks.{broken-whole}
-use Rattle.endpoint_node.proofs.LeavesSteps.{serving-timed, timed-then}
+use Rattle.node_steps.proofs.TimerBreaks.{broken-whole}
+use Rattle.node_steps.proofs.LeavesSteps.{serving-timed, timed-then}
 use Rattle.std.proofs.Common.{refl}
 use Rattle.endpoint_node.proofs.node.Node.break_session.Goals as goal
 

@@ -1,4 +1,4 @@
-use Rattle.endpoint_node.proofs.PacketCrew.{some-there}
+use Rattle.node_steps.proofs.PacketCrew.{some-there}
 use Rattle.endpoint_node.proofs.node.Node.can_handle.Goals as goal
 
 pub returns-then-not-is_empty-clause-some : goal.returns-then-not-is_empty-clause-some

@@ -1,6 +1,6 @@
 use Rattle.std.proofs.Common.{refl}
-use Rattle.endpoint_node.proofs.SendSteps.{fits-closed, node-closed}
-use Rattle.endpoint_node.specs.Seen.{jobs_in}
+use Rattle.node_steps.proofs.SendSteps.{fits-closed, node-closed}
+use Rattle.node_steps.specs.Seen.{jobs_in}
 use Rattle.endpoint_node.proofs.node.Node.close.Goals as goal
 
 pub invariant_of-self : goal.invariant_of-self

@@ -1,11 +1,11 @@
 use Rattle.std.proofs.Common.{refl}
 use Rattle.rpc_laws.specs.Sessions.{comes_to}
 use Rattle.rpc_base.specs.declared.state.SessionState.TheVariants.{Closed}
-use Rattle.endpoint_node.specs.Seen.{jobs_in}
+use Rattle.node_steps.specs.Seen.{jobs_in}
 use Rattle.session_store.specs.Sides.{has_calls}
-use Rattle.endpoint_node.specs.Callers.{has_request}
-use Rattle.endpoint_node.proofs.PostCallers.{covers-stay, visited-calls}
-use Rattle.endpoint_node.proofs.TimerRetries.{fits-unheard, node-unheard}
+use Rattle.node_steps.specs.Callers.{has_request}
+use Rattle.node_steps.proofs.PostCallers.{covers-stay, visited-calls}
+use Rattle.node_steps.proofs.TimerRetries.{fits-unheard, node-unheard}
 use Rattle.endpoint_node.proofs.node.Node.close_unheard.Goals as goal
 
 pub invariant_of-self : goal.invariant_of-self

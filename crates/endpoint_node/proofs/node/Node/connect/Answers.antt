@@ -3,9 +3,9 @@ use Rattle.std.proofs.Common.{◌≡◌, length, sym, ap, subst, ◌∙◌, rule
 use Rattle.node_laws.specs.Valid.{NumberedFrom, client_no}
 use Rattle.session_mgmt.specs.Refusals.{refused}
 use Rattle.memory_count.proofs.Risen.{none-risen-by}
-use Rattle.endpoint_node.specs.Handed.{timed_of}
-use Rattle.endpoint_node.proofs.SessionPairs.{refused-lacks}
-use Rattle.endpoint_node.proofs.SessionSteps.{connect-made, connect-refused, opened-live}
+use Rattle.node_steps.specs.Handed.{timed_of}
+use Rattle.node_steps.proofs.SessionPairs.{refused-lacks}
+use Rattle.node_steps.proofs.SessionSteps.{connect-made, connect-refused, opened-live}
 use Rattle.endpoint_node.proofs.node.Node.connect.Goals as goal
 
 pub start_rate-requires : goal.start_rate-requires

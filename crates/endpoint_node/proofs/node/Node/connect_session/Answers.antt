@@ -1,10 +1,10 @@
 use Rattle.std.proofs.Common.{◌∙◌, refl, arith}
 use Rattle.rpc_laws.specs.Sessions.{connects}
-use Rattle.endpoint_node.specs.Seen.{jobs_in}
+use Rattle.node_steps.specs.Seen.{jobs_in}
 use Rattle.session_store.specs.Sides.{has_calls}
-use Rattle.endpoint_node.specs.Callers.{has_request}
-use Rattle.endpoint_node.proofs.PostCallers.{covers-stay, visited-calls}
-use Rattle.endpoint_node.proofs.ControlReplies.{fits-connected, node-connected}
+use Rattle.node_steps.specs.Callers.{has_request}
+use Rattle.node_steps.proofs.PostCallers.{covers-stay, visited-calls}
+use Rattle.node_steps.proofs.ControlReplies.{fits-connected, node-connected}
 use Rattle.endpoint_node.proofs.node.Node.connect_session.Goals as goal
 
 pub invariant_of-self : goal.invariant_of-self

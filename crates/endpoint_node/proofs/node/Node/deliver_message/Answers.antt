@@ -1,7 +1,7 @@
 use Rattle.std.proofs.Common.{rules}
 use Rattle.packet_rings.specs.Values.{datagram}
 use Rattle.node_laws.specs.Kept.{IsPacket}
-use Rattle.endpoint_node.proofs.ControlInbox.{all-arrived}
+use Rattle.node_steps.proofs.ControlInbox.{all-arrived}
 use Rattle.endpoint_node.proofs.node.Node.deliver_message.Goals as goal
 
 pub invariant_of-self : goal.invariant_of-self

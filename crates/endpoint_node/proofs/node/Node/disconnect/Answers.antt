@@ -1,10 +1,10 @@
 use Rattle.std.proofs.Common.{refl, sym, ◌∙◌, rules}
 use Rattle.rpc_base.specs.declared.event.Event.TheVariants.{Closing, NcloseBusy, NcloseState}
-use Rattle.endpoint_node.specs.Handed.{timed_of}
+use Rattle.node_steps.specs.Handed.{timed_of}
 use Rattle.endpoint_node.specs.contracts.node.Node.{the_view}
-use Rattle.endpoint_node.proofs.SessionSteps.{closed-busy, closed-idle, closed-state}
-use Rattle.endpoint_node.proofs.SessionSteps.{disconnects-as}
-use Rattle.endpoint_node.proofs.SessionSteps.{notes-still}
+use Rattle.node_steps.proofs.SessionSteps.{closed-busy, closed-idle, closed-state}
+use Rattle.node_steps.proofs.SessionSteps.{disconnects-as}
+use Rattle.node_steps.proofs.SessionSteps.{notes-still}
 use Rattle.endpoint_node.proofs.node.Node.disconnect.Goals as goal
 
 pub returns-then-not-is_connected-clause-step : goal.returns-then-not-is_connected-clause-step

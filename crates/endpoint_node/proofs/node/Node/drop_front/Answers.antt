@@ -1,4 +1,4 @@
-use Rattle.endpoint_node.proofs.PacketReplies.{ring-left}
+use Rattle.node_steps.proofs.PacketReplies.{ring-left}
 use Rattle.endpoint_node.proofs.node.Node.drop_front.Goals as goal
 
 pub returns-clause-ring : goal.returns-clause-ring

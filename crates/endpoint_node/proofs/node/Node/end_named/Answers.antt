@@ -1,5 +1,5 @@
-use Rattle.endpoint_node.specs.Handed.{timed_of}
-use Rattle.endpoint_node.proofs.ControlRows.{acts-ended}
+use Rattle.node_steps.specs.Handed.{timed_of}
+use Rattle.node_steps.proofs.ControlRows.{acts-ended}
 use Rattle.endpoint_node.proofs.node.Node.end_named.Goals as goal
 
 pub returns : goal.returns

@@ -1,7 +1,7 @@
 use Rattle.std.proofs.Common.{◌≡◌, None, refl, ◌∙◌}
 use Rattle.rpc_laws.specs.ControlTable.{outdated}
-use Rattle.endpoint_node.proofs.ControlRows.{none-outdated, outdated-ended}
-use Rattle.endpoint_node.proofs.NoteSteps.{makes-more, makes-none, makes-until}
+use Rattle.node_steps.proofs.ControlRows.{none-outdated, outdated-ended}
+use Rattle.node_steps.proofs.NoteSteps.{makes-more, makes-none, makes-until}
 use Rattle.endpoint_node.proofs.node.Node.end_outdated.Goals as goal
 
 pub sessions-init : goal.sessions-init

@@ -1,9 +1,9 @@
 use Rattle.std.proofs.Common.{length}
 use Rattle.rpc_laws.specs.ControlSteps.{EndsOutdated}
 use Rattle.rpc_laws.specs.Steps.{Chain}
-use Rattle.endpoint_node.specs.Handed.{timed_of}
-use Rattle.endpoint_node.specs.Leaves.{LeavesPackets}
-use Rattle.endpoint_node.specs.Notes.{Makes}
+use Rattle.node_steps.specs.Handed.{timed_of}
+use Rattle.node_steps.specs.Leaves.{LeavesPackets}
+use Rattle.node_steps.specs.Notes.{Makes}
 use Rattle.endpoint_node.proofs.node.Node.end_outdated.Given as goal
 
 abbrev pub invariant-sessions : goal.invariant-sessions

@@ -1,7 +1,7 @@
 use Rattle.std.proofs.Common.{List, length, ap, ◌∙◌, arith}
 use Rattle.rpc_laws.specs.declared.tables.Server.{Server}
-use Rattle.endpoint_node.proofs.ControlRemoval.{ended-whole}
-use Rattle.endpoint_node.proofs.PacketServers.{slice_get-some}
+use Rattle.node_steps.proofs.ControlRemoval.{ended-whole}
+use Rattle.node_steps.proofs.PacketServers.{slice_get-some}
 use Rattle.endpoint_node.proofs.node.Node.end_session.Goals as goal
 
 pub returns-clause-fewer : goal.returns-clause-fewer

@@ -1,11 +1,11 @@
-use Rattle.endpoint_node.specs.Handed.{Holding}
+use Rattle.node_steps.specs.Handed.{Holding}
 use Rattle.std.proofs.Common.{Some, None, refl, sym, ap, ◌∙◌, arith}
 use Rattle.rpc_laws.specs.declared.tables.Jobs.{Jobs}
-use Rattle.endpoint_node.proofs.JobsSteps.{fits-answered, fits-unposted, job-found, jobs-left}
-use Rattle.endpoint_node.proofs.JobsSteps.{node-answered, node-unposted, pool-room, ring-room}
-use Rattle.endpoint_node.proofs.JobsSteps.{same-left, still-background, still-served}
-use Rattle.endpoint_node.specs.Jobs.{is_named}
-use Rattle.endpoint_node.specs.Seen.{jobs_in, unasked}
+use Rattle.node_steps.proofs.JobsSteps.{fits-answered, fits-unposted, job-found, jobs-left}
+use Rattle.node_steps.proofs.JobsSteps.{node-answered, node-unposted, pool-room, ring-room}
+use Rattle.node_steps.proofs.JobsSteps.{same-left, still-background, still-served}
+use Rattle.node_steps.specs.Jobs.{is_named}
+use Rattle.node_steps.specs.Seen.{jobs_in, unasked}
 use Rattle.endpoint_node.proofs.node.Node.finish.Goals as goal
 
 pub invariant_of-self : goal.invariant_of-self

@@ -1,6 +1,6 @@
 use Rattle.std.proofs.Common.{ap, length, arith, refl}
-use Rattle.endpoint_node.proofs.JobsCrew.{finished-long, finished-none, finished-turn, one-less}
-use Rattle.endpoint_node.specs.Handed.{timed_of}
+use Rattle.node_steps.proofs.JobsCrew.{finished-long, finished-none, finished-turn, one-less}
+use Rattle.node_steps.specs.Handed.{timed_of}
 use Rattle.endpoint_node.proofs.node.Node.finish_next.Goals as goal
 
 pub returns-in_default-clause-step : goal.returns-in_default-clause-step

@@ -1,6 +1,6 @@
 use Rattle.std.proofs.Common.{Some, ap, subst}
-use Rattle.endpoint_node.specs.Due.{IsFirstDue}
-use Rattle.endpoint_node.proofs.DueLemmas.{rests-before}
+use Rattle.node_steps.specs.Due.{IsFirstDue}
+use Rattle.node_steps.proofs.DueLemmas.{rests-before}
 use Rattle.endpoint_node.proofs.node.Node.first_due.Goals as goal
 
 pub returns-then-not-is_due : goal.returns-then-not-is_due

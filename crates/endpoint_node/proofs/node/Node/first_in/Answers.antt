@@ -1,5 +1,5 @@
 use Rattle.std.proofs.Common.{arith}
-use Rattle.endpoint_node.proofs.DueLemmas.{rests-before}
+use Rattle.node_steps.proofs.DueLemmas.{rests-before}
 use Rattle.endpoint_node.proofs.node.Node.first_in.Goals as goal
 
 pub returns : goal.returns

@@ -1,5 +1,5 @@
 use Rattle.std.proofs.Common.{◌≤◌, ◌-◌}
-use Rattle.endpoint_node.specs.Due.{IsBetween}
+use Rattle.node_steps.specs.Due.{IsBetween}
 use Rattle.endpoint_node.proofs.node.Node.first_in.Given as goal
 
 abbrev pub invariant-halves : goal.invariant-halves

@@ -1,9 +1,9 @@
 use Rattle.std.proofs.Common.{ap, ◌∙◌}
 use Rattle.rpc_base.specs.declared.owner.Owner.TheVariants.{Ask}
-use Rattle.endpoint_node.proofs.QueueFlushes.{flushed-all, flushed-more}
-use Rattle.endpoint_node.proofs.NoteSteps.{as-same}
-use Rattle.endpoint_node.specs.Handed.{timed_of}
-use Rattle.endpoint_node.proofs.LeavesSteps.{leaves-then}
+use Rattle.node_steps.proofs.QueueFlushes.{flushed-all, flushed-more}
+use Rattle.node_steps.proofs.NoteSteps.{as-same}
+use Rattle.node_steps.specs.Handed.{timed_of}
+use Rattle.node_steps.proofs.LeavesSteps.{leaves-then}
 use Rattle.endpoint_node.proofs.node.Node.flush_call.Goals as goal
 
 pub packets-preserved : goal.packets-preserved

@@ -1,9 +1,9 @@
 use Rattle.std.proofs.Common.{◌≡◌, length}
 use Rattle.rpc_base.specs.declared.owner.Owner.TheVariants.{Ask}
-use Rattle.endpoint_node.specs.Notes.{Makes}
-use Rattle.endpoint_node.specs.Timers.{FlushesSome}
-use Rattle.endpoint_node.specs.Handed.{timed_of}
-use Rattle.endpoint_node.specs.Leaves.{LeavesServing}
+use Rattle.node_steps.specs.Notes.{Makes}
+use Rattle.node_steps.specs.Timers.{FlushesSome}
+use Rattle.node_steps.specs.Handed.{timed_of}
+use Rattle.node_steps.specs.Leaves.{LeavesServing}
 use Rattle.endpoint_node.proofs.node.Node.flush_call.Given as goal
 
 abbrev pub invariant-packets : goal.invariant-packets

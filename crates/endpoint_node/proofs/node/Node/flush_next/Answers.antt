@@ -1,10 +1,10 @@
 use Rattle.std.proofs.lemmas.Bool.{false≢true}
 use Rattle.std.proofs.Common.{ap, sym, ◌∙◌, refl}
-use Rattle.endpoint_node.proofs.QueueFlushes.{fits-flushed, least-none-by, node-flushed, none-owned}
-use Rattle.endpoint_node.proofs.QueueFlushes.{none-taken, taken-least}
+use Rattle.node_steps.proofs.QueueFlushes.{fits-flushed, least-none-by, node-flushed, none-owned}
+use Rattle.node_steps.proofs.QueueFlushes.{none-taken, taken-least}
 use Rattle.rpc_base.specs.declared.owner.Owner.TheVariants.{Ask}
 use Rattle.session_store.proofs.StandLemmas.{owner-is}
-use Rattle.endpoint_node.specs.Seen.{jobs_in}
+use Rattle.node_steps.specs.Seen.{jobs_in}
 use Rattle.endpoint_node.proofs.node.Node.flush_next.Goals as goal
 
 pub invariant_of-self : goal.invariant_of-self

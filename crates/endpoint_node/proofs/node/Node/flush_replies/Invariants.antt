@@ -1,8 +1,8 @@
 use Rattle.std.proofs.Common.{length}
-use Rattle.endpoint_node.specs.Ends.{LeavesSessions}
-use Rattle.endpoint_node.specs.Handed.{timed_of}
-use Rattle.endpoint_node.specs.Notes.{Makes}
-use Rattle.endpoint_node.specs.Timers.{FlushesSome}
+use Rattle.node_steps.specs.Ends.{LeavesSessions}
+use Rattle.node_steps.specs.Handed.{timed_of}
+use Rattle.node_steps.specs.Notes.{Makes}
+use Rattle.node_steps.specs.Timers.{FlushesSome}
 use Rattle.endpoint_node.proofs.node.Node.flush_replies.Given as goal
 
 abbrev pub invariant-packets : goal.invariant-packets

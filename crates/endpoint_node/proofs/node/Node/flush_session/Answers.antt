@@ -1,11 +1,11 @@
 use Rattle.std.proofs.Common.{refl, ◌∙◌, ap, subst}
 use Rattle.node_laws.specs.Valid.{Valid}
 use Rattle.node_laws.specs.Windows.{Windows}
-use Rattle.endpoint_node.proofs.TimerBreaks.{flushed-idle}
-use Rattle.endpoint_node.proofs.TimerFlushes.{gather-more, gather-over, gather-start}
-use Rattle.endpoint_node.proofs.TimerNext.{next-calls, next-fewer, next-none, slots-few}
-use Rattle.endpoint_node.proofs.TimerNext.{ascends-calls}
-use Rattle.endpoint_node.proofs.LeavesSteps.{leaves-none, leaves-then}
+use Rattle.node_steps.proofs.TimerBreaks.{flushed-idle}
+use Rattle.node_steps.proofs.TimerFlushes.{gather-more, gather-over, gather-start}
+use Rattle.node_steps.proofs.TimerNext.{next-calls, next-fewer, next-none, slots-few}
+use Rattle.node_steps.proofs.TimerNext.{ascends-calls}
+use Rattle.node_steps.proofs.LeavesSteps.{leaves-none, leaves-then}
 use Rattle.endpoint_node.proofs.node.Node.flush_session.Goals as goal
 
 pub calls-init : goal.calls-init

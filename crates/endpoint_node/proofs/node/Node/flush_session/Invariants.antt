@@ -1,11 +1,11 @@
 use Rattle.std.proofs.Common.{◌≡◌, length}
 use Rattle.std.specs.Prelude.{filter}
 use Rattle.session_store.specs.Ends.{is_above}
-use Rattle.endpoint_node.specs.Notes.{Makes}
-use Rattle.endpoint_node.specs.Timers.{calls_at}
-use Rattle.endpoint_node.proofs.TimerFlushes.{FlushesFrom}
-use Rattle.endpoint_node.specs.Handed.{timed_of}
-use Rattle.endpoint_node.specs.Leaves.{LeavesServing}
+use Rattle.node_steps.specs.Notes.{Makes}
+use Rattle.node_steps.specs.Timers.{calls_at}
+use Rattle.node_steps.proofs.TimerFlushes.{FlushesFrom}
+use Rattle.node_steps.specs.Handed.{timed_of}
+use Rattle.node_steps.specs.Leaves.{LeavesServing}
 use Rattle.endpoint_node.proofs.node.Node.flush_session.Given as goal
 
 abbrev pub invariant-calls : goal.invariant-calls

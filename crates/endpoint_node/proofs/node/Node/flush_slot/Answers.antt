@@ -1,7 +1,7 @@
 use Rattle.std.proofs.Common.{refl}
-use Rattle.endpoint_node.specs.Handed.{timed_of}
+use Rattle.node_steps.specs.Handed.{timed_of}
 use Rattle.endpoint_node.specs.contracts.node.Node.{the_view}
-use Rattle.endpoint_node.proofs.ControlRemoval.{slot-flushed, slot-idle}
+use Rattle.node_steps.proofs.ControlRemoval.{slot-flushed, slot-idle}
 use Rattle.endpoint_node.proofs.node.Node.flush_slot.Goals as goal
 
 pub returns-in_default : goal.returns-in_default

@@ -1,6 +1,6 @@
 use Rattle.std.proofs.Common.{◌≡◌, arith}
-use Rattle.endpoint_node.proofs.ControlRemoval.{all-flushed, drained-whole, flushes-more}
-use Rattle.endpoint_node.proofs.ControlRemoval.{sessions-then}
+use Rattle.node_steps.proofs.ControlRemoval.{all-flushed, drained-whole, flushes-more}
+use Rattle.node_steps.proofs.ControlRemoval.{sessions-then}
 use Rattle.endpoint_node.proofs.node.Node.flush_slots.Goals as goal
 
 pub slots-preserved : goal.slots-preserved

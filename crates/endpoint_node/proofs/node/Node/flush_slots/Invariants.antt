@@ -1,8 +1,8 @@
 use Rattle.std.proofs.Common.{◌≤◌, ◌-◌}
-use Rattle.endpoint_node.specs.Ends.{LeavesSessions}
-use Rattle.endpoint_node.specs.Handed.{timed_of}
-use Rattle.endpoint_node.specs.Notes.{Makes}
-use Rattle.endpoint_node.proofs.ControlRemoval.{FlushesFirst}
+use Rattle.node_steps.specs.Ends.{LeavesSessions}
+use Rattle.node_steps.specs.Handed.{timed_of}
+use Rattle.node_steps.specs.Notes.{Makes}
+use Rattle.node_steps.proofs.ControlRemoval.{FlushesFirst}
 use Rattle.endpoint_node.proofs.node.Node.flush_slots.Given as goal
 
 abbrev pub invariant-slots : goal.invariant-slots

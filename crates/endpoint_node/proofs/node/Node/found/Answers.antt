@@ -2,8 +2,8 @@ use Rattle.std.proofs.Common.{◌≡◌, ap, ◌∙◌}
 use Rattle.std.specs.Prelude.{is_some}
 use Rattle.rpc_laws.specs.ControlTable.{named_end}
 use Rattle.rpc_laws.specs.Lives.{known_life}
-use Rattle.endpoint_node.specs.Handed.{Holding}
-use Rattle.endpoint_node.proofs.ControlEnds.{found-as, named-found}
+use Rattle.node_steps.specs.Handed.{Holding}
+use Rattle.node_steps.proofs.ControlEnds.{found-as, named-found}
 use Rattle.endpoint_node.proofs.node.Node.found.Goals as goal
 
 pub returns : goal.returns

@@ -1,8 +1,8 @@
 use Rattle.std.proofs.Common.{◌≡◌, true, sym, ap, ◌∙◌, arith, inl, inr, refl}
 use Rattle.std.proofs.lemmas.Option.{slice_get_past}
-use Rattle.endpoint_node.specs.Status.{free_told, has_credits}
-use Rattle.endpoint_node.proofs.CallSteps.{client-by}
-use Rattle.endpoint_node.proofs.StatusSteps.{free-there, no-credits, none-free}
+use Rattle.node_steps.specs.Status.{free_told, has_credits}
+use Rattle.node_steps.proofs.CallSteps.{client-by}
+use Rattle.node_steps.proofs.StatusSteps.{free-there, no-credits, none-free}
 use Rattle.endpoint_node.proofs.node.Node.free_credits.Goals as goal
 
 pub returns-then-i-clients : goal.returns-then-i-clients

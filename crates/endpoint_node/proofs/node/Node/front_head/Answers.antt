@@ -1,12 +1,12 @@
 use Rattle.std.proofs.Common.{◌≡◌, ◌+◌, None, length, refl, sym, subst, ap, ◌∙◌, arith}
 use Rattle.rpc_base.specs.declared.limits.TheConstants.{HEAD_BYTES}
-use Rattle.endpoint_node.proofs.PacketSteps.{packet-there}
+use Rattle.node_steps.proofs.PacketSteps.{packet-there}
 use Rattle.std.specs.Option.{option_copied}
 use Rattle.packet_header.specs.Header.{MessageLength}
 use Rattle.packet_header.specs.Reading.{message_of}
 use Rattle.rpc_laws.specs.Front.{front_body}
 use Rattle.std.proofs.lemmas.List.{length-drop}
-use Rattle.endpoint_node.proofs.PacketReplies.{body-there, front-reads, head-there, none-front}
+use Rattle.node_steps.proofs.PacketReplies.{body-there, front-reads, head-there, none-front}
 use Rattle.endpoint_node.proofs.node.Node.front_head.Goals as goal
 
 pub returns-in_default-clause-value : goal.returns-in_default-clause-value

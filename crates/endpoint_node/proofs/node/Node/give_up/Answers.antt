@@ -1,11 +1,11 @@
-use Rattle.endpoint_node.proofs.LeavesSteps.{leaves-none}
+use Rattle.node_steps.proofs.LeavesSteps.{leaves-none}
 use Rattle.std.proofs.Common.{sym, ◌∙◌}
 use Rattle.rpc_base.specs.declared.event.Event.TheVariants.{ClosedUnheard, FailedNoAnswer}
-use Rattle.endpoint_node.specs.Handed.{timed_of}
+use Rattle.node_steps.specs.Handed.{timed_of}
 use Rattle.endpoint_node.specs.contracts.node.Node.{the_view}
-use Rattle.endpoint_node.proofs.CallStates.{told-apart, told-closing, told-connecting, told-open}
-use Rattle.endpoint_node.proofs.TimerRetries.{gives-up-by, gives-up-none, given-closing}
-use Rattle.endpoint_node.proofs.TimerRetries.{given-connecting, known-at}
+use Rattle.node_steps.proofs.CallStates.{told-apart, told-closing, told-connecting, told-open}
+use Rattle.node_steps.proofs.TimerRetries.{gives-up-by, gives-up-none, given-closing}
+use Rattle.node_steps.proofs.TimerRetries.{given-connecting, known-at}
 use Rattle.endpoint_node.proofs.node.Node.give_up.Goals as goal
 
 pub returns-in_default : goal.returns-in_default

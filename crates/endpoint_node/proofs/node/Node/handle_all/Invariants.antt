@@ -1,31 +1,26 @@
-use Rattle.std.proofs.Common.{◌≡◌, ◌≤◌, length}
-use Rattle.endpoint_node.specs.Jobs.{staff_of}
-use Rattle.rpc_laws.specs.Service.{rules_of}
-use Rattle.rpc_outside.specs.Served.{StandsForSome}
+use Rattle.std.proofs.Common.{◌≤◌, length}
 use Rattle.rpc_laws.specs.PollOrder.{Handles}
 use Rattle.rpc_laws.specs.Steps.{Chain}
-use Rattle.endpoint_node.specs.Changes.{◌⟶◌}
-use Rattle.endpoint_node.specs.Packets.{MakesAllHandled}
-use Rattle.endpoint_node.specs.Requests.{AllServed}
-use Rattle.endpoint_node.specs.Handed.{timed_of}
-use Rattle.endpoint_node.specs.Handed.{GivesBackTo}
+use Rattle.node_steps.specs.Changes.{◌⟶◌}
+use Rattle.node_steps.specs.Fronts.{LeavesHandled}
+use Rattle.node_steps.specs.Handed.{timed_of}
+use Rattle.node_steps.specs.Jobs.{staff_change}
+use Rattle.node_steps.specs.Packets.{MakesAllHandled}
+use Rattle.node_steps.specs.Requests.{service_change}
 use Rattle.endpoint_node.proofs.node.Node.handle_all.Given as goal
 
 abbrev pub invariant-packets : goal.invariant-packets
-invariant-packets g l =
-    MakesAllHandled g.R.Recorder.log g.K.Continuation.given
-    (staff_of g.W.Workers) (rules_of g.V.Service) (g.V.Service.stands l.initial.service)
-    (g.V.Service.stands l.service) g.W.Workers.answer (Chain (Handles g.V.Service.mode_of))
-    (timed_of l.initial.self) (timed_of l.self) l.initial.rec l.rec l.initial.k l.k l.initial.workers l.workers
-    (l.initial.memory ⟶ l.memory)
-    × AllServed g.V.Service.mode_of l.self.lists.servers
-    × StandsForSome (g.V.Service.stands l.service)
-    × (l.self.lists.me ≡ l.initial.self.lists.me)
-    × (g.W.Workers.worked l.workers ≡ g.W.Workers.worked l.initial.workers)
-    × (g.W.Workers.looks l.workers ≡ g.W.Workers.looks l.initial.workers)
-    × (g.W.Workers.team l.workers ≡ g.W.Workers.team l.initial.workers)
-    × (length l.self.lists.ring ≤ length l.initial.self.lists.ring)
-    × GivesBackTo g.K.Continuation.given l.initial.self.handed l.self.handed l.initial.k l.k
+invariant-packets g l = record {
+  handles : MakesAllHandled g.R.Recorder.log g.K.Continuation.given
+      (service_change g.V.Service (l.initial.service ⟶ l.service))
+      (staff_change g.W.Workers (l.initial.workers ⟶ l.workers))
+      (Chain (Handles g.V.Service.mode_of)) (timed_of l.initial.self ⟶ timed_of l.self)
+      (l.initial.rec ⟶ l.rec) (l.initial.k ⟶ l.k) (l.initial.memory ⟶ l.memory);
+  rest : LeavesHandled g.V.Service g.W.Workers g.K.Continuation.given
+      (l.initial.self ⟶ l.self) (l.initial.service ⟶ l.service)
+      (l.initial.workers ⟶ l.workers) (l.initial.k ⟶ l.k);
+  fewer : length l.self.lists.ring ≤ length l.initial.self.lists.ring;
+}
 
 abbrev pub decreases-packets : goal.decreases-packets
 decreases-packets g l = length l.self.lists.ring

@@ -1,18 +1,18 @@
-use Rattle.std.proofs.Common.{◌+◌, ℕ, List, length, refl, sym, ap, subst, ◌∙◌, arith, rules}
+use Rattle.std.proofs.Common.{◌+◌, ℕ, List, length, refl, sym, ap, subst, ◌∙◌, arith}
 use Rattle.rpc_base.specs.declared.limits.TheConstants.{HEAD_BYTES}
 use Rattle.std.specs.Option.{option_copied}
 use Rattle.packet_header.specs.Header.{MessageLength}
 use Rattle.packet_header.specs.Reading.{body_of}
-use Rattle.endpoint_node.proofs.NodeFits.{has-places}
-use Rattle.endpoint_node.proofs.PacketReplies.{body-there, ring-left, some-front}
-use Rattle.endpoint_node.proofs.PacketJobs.{asking-one, has-job-room, named}
-use Rattle.endpoint_node.proofs.PacketRequests.{fits-again, fits-drop, fits-give, fits-ran}
-use Rattle.endpoint_node.proofs.PacketRequests.{fits-took-it, node-again, node-drop, node-give}
-use Rattle.endpoint_node.proofs.PacketRequests.{node-ran, node-took-it, unfull-of}
-use Rattle.endpoint_node.proofs.PacketServers.{as-asked, has-reply-room, number-there, served-then}
-use Rattle.endpoint_node.proofs.PacketServers.{served-there}
-use Rattle.endpoint_node.specs.Changes.{◌⟶◌}
-use Rattle.endpoint_node.specs.Seen.{jobs_in}
+use Rattle.node_steps.proofs.NodeFits.{has-places}
+use Rattle.node_steps.proofs.PacketReplies.{body-there, ring-left, some-front}
+use Rattle.node_steps.proofs.PacketJobs.{asking-one, has-job-room, named}
+use Rattle.node_steps.proofs.PacketRequests.{fits-again, fits-drop, fits-give, fits-ran}
+use Rattle.node_steps.proofs.PacketRequests.{fits-took-it, node-again, node-drop, node-give}
+use Rattle.node_steps.proofs.PacketRequests.{node-ran, node-took-it, unfull-of}
+use Rattle.node_steps.proofs.PacketServers.{as-asked, has-reply-room, number-there, served-then}
+use Rattle.node_steps.proofs.PacketServers.{served-there}
+use Rattle.node_steps.specs.Changes.{◌⟶◌}
+use Rattle.node_steps.specs.Seen.{jobs_in}
 use Rattle.endpoint_node.proofs.node.Node.handle_at.Goals as goal
 
 pub unreachable-requires : goal.unreachable-requires
@@ -65,7 +65,7 @@ invariant_of-self g c =
     let peer = rw (← c.self.view_is) at c.requires.peer in
     let few = rw (← c.self.view_is) at c.requires.asks.room in
     let asked = c.body-asked.ensures ∙ ap body_of c.bytes.ensures.bytes in
-    let p = as-asked _ _ _ _ _ _ _ _ _ _ _ _ _ _ _ _ asked c.in-Took.ensures.handles in (
+    let p = as-asked _ _ _ _ _ _ _ _ _ _ _ asked c.in-Took.ensures.handles in (
       fits-took-it c.self.inside.me c.self.inside.limits (record {
         life = c.self.inside.life;
         known = c.self.inside.known;
@@ -75,14 +75,13 @@ invariant_of-self g c =
         counts = c.self.inside.counts;
       }) c.self.inside.paces.items (jobs_in c.self.inside.limits.jobs c.self.inside.given
           c.self.inside.jobs.items) c.self.inside.clock c.self.inside.rx c.self.inside.store
-          c.self.invariant.0 c.args.head.now c.in-Some.front.now front c.requires.asks.asking here g.V.Service.mode_of
-          c.args.i c.on_packet-step.new.self c.on_packet-step.ensures.clients
-          c.on_packet-step.ensures.size c.on_packet-step.ensures.places c.drop_front.new.self
-          c.drop_front.ensures c.jobs_full-full.result full served place peer few g.R.Recorder.log c.args.rec.now c.on_packet-step.new.rec g.V.Service.answer
-          (g.V.Service.stands c.args.service.now) (g.V.Service.stands c.on_packet-step.new.service)
+          c.self.invariant.0 c.args.head.now c.in-Some.front.now front c.requires.asks.asking here g.V.Service
+          c.args.i c.on_packet-step.new.self c.on_packet-step.ensures.handles.clients
+          c.on_packet-step.ensures.handles.size c.on_packet-step.ensures.handles.places c.drop_front.new.self
+          c.drop_front.ensures c.jobs_full-full.result full served place peer few g.R.Recorder.log c.args.rec.now c.on_packet-step.new.rec c.args.service.now c.on_packet-step.new.service
           c.in-Took.reply p p.reply,
       c.self.invariant.1,
-      rw c.on_packet-step.ensures.clients c.self.invariant.2,
+      rw c.on_packet-step.ensures.handles.clients c.self.invariant.2,
     )
 
 pub returns-in-Took : goal.returns-in-Took
@@ -95,7 +94,7 @@ returns-in-Took g c = record {
       let peer = rw (← c.self.view_is) at c.requires.peer in
       let few = rw (← c.self.view_is) at c.requires.asks.room in
       let asked = c.body-asked.ensures ∙ ap body_of c.bytes.ensures.bytes in
-      let p = as-asked _ _ _ _ _ _ _ _ _ _ _ _ _ _ _ _ asked c.in-Took.ensures.handles in
+      let p = as-asked _ _ _ _ _ _ _ _ _ _ _ asked c.in-Took.ensures.handles in
       rw (← c.self.view_is) (node-took-it c.self.inside.me c.self.inside.limits (record {
         life = c.self.inside.life;
         known = c.self.inside.known;
@@ -105,21 +104,20 @@ returns-in-Took g c = record {
         counts = c.self.inside.counts;
       }) c.self.inside.paces.items (jobs_in c.self.inside.limits.jobs c.self.inside.given
       c.self.inside.jobs.items) c.self.inside.clock c.self.inside.rx c.self.inside.store
-      c.self.invariant.0 c.args.head.now c.in-Some.front.now front c.requires.asks.asking here g.V.Service.mode_of
-      c.args.i c.on_packet-step.new.self c.on_packet-step.ensures.clients
-      c.on_packet-step.ensures.size c.on_packet-step.ensures.places c.drop_front.new.self
-      c.drop_front.ensures c.jobs_full-full.result full served place peer few g.R.Recorder.log c.args.rec.now c.on_packet-step.new.rec g.V.Service.answer
-      (g.V.Service.stands c.args.service.now) (g.V.Service.stands c.on_packet-step.new.service)
+      c.self.invariant.0 c.args.head.now c.in-Some.front.now front c.requires.asks.asking here g.V.Service
+      c.args.i c.on_packet-step.new.self c.on_packet-step.ensures.handles.clients
+      c.on_packet-step.ensures.handles.size c.on_packet-step.ensures.handles.places c.drop_front.new.self
+      c.drop_front.ensures c.jobs_full-full.result full served place peer few g.R.Recorder.log c.args.rec.now c.on_packet-step.new.rec c.args.service.now c.on_packet-step.new.service
       c.in-Took.reply p p.reply (λ was st. subst (λ z. g.V.Service.stands z was) (sym
-      c.in-Took.ensures.service) st) (c.args.memory.now ⟶ c.on_packet-step.new.memory)
+      c.in-Took.ensures.handles.service) st) (c.args.memory.now ⟶ c.on_packet-step.new.memory)
       c.in-Took.ensures.cause);
   served = let served = rw (← c.self.view_is) at c.requires.asks.serving.served in
       let p = c.on_packet-step.ensures.handles in
       served-then g.V.Service.mode_of _ _ c.args.i p.server p.later served p.place p.changed
-      c.on_packet-step.ensures.all_served;
+      c.on_packet-step.ensures.handles.all_served;
   ring = rw (← c.self.view_is) (ring-left c.self.inside.rx c.drop_front.new.self c.drop_front.ensures);
-  clients = search rules;
-  handed = search rules;
+  clients = rw (← c.self.view_is) c.on_packet-step.ensures.handles.clients;
+  handed = rw (← c.self.view_is) c.on_packet-step.ensures.handles.handed;
 }
 
 pub invariant_of-self-in-Again : goal.invariant_of-self-in-Again
@@ -132,7 +130,7 @@ invariant_of-self-in-Again g c =
     let peer = rw (← c.self.view_is) at c.requires.peer in
     let few = rw (← c.self.view_is) at c.requires.asks.room in
     let asked = c.body-asked.ensures ∙ ap body_of c.bytes.ensures.bytes in
-    let p = as-asked _ _ _ _ _ _ _ _ _ _ _ _ _ _ _ _ asked c.in-Again.ensures.handles in (
+    let p = as-asked _ _ _ _ _ _ _ _ _ _ _ asked c.in-Again.ensures.handles in (
       fits-again c.self.inside.me c.self.inside.limits (record {
         life = c.self.inside.life;
         known = c.self.inside.known;
@@ -142,14 +140,13 @@ invariant_of-self-in-Again g c =
         counts = c.self.inside.counts;
       }) c.self.inside.paces.items (jobs_in c.self.inside.limits.jobs c.self.inside.given
           c.self.inside.jobs.items) c.self.inside.clock c.self.inside.rx c.self.inside.store
-          c.self.invariant.0 c.args.head.now c.in-Some.front.now front c.requires.asks.asking here g.V.Service.mode_of
-          c.args.i c.on_packet-step.new.self c.on_packet-step.ensures.clients
-          c.on_packet-step.ensures.size c.on_packet-step.ensures.places c.drop_front.new.self
-          c.drop_front.ensures c.jobs_full-full.result full served place peer few g.R.Recorder.log c.args.rec.now c.on_packet-step.new.rec g.V.Service.answer
-          (g.V.Service.stands c.args.service.now) (g.V.Service.stands c.on_packet-step.new.service)
+          c.self.invariant.0 c.args.head.now c.in-Some.front.now front c.requires.asks.asking here g.V.Service
+          c.args.i c.on_packet-step.new.self c.on_packet-step.ensures.handles.clients
+          c.on_packet-step.ensures.handles.size c.on_packet-step.ensures.handles.places c.drop_front.new.self
+          c.drop_front.ensures c.jobs_full-full.result full served place peer few g.R.Recorder.log c.args.rec.now c.on_packet-step.new.rec c.args.service.now c.on_packet-step.new.service
           c.in-Again.reply p p.reply.0 p.reply.1,
       c.self.invariant.1,
-      rw c.on_packet-step.ensures.clients c.self.invariant.2,
+      rw c.on_packet-step.ensures.handles.clients c.self.invariant.2,
     )
 
 pub returns-in-Again : goal.returns-in-Again
@@ -162,7 +159,7 @@ returns-in-Again g c = record {
       let peer = rw (← c.self.view_is) at c.requires.peer in
       let few = rw (← c.self.view_is) at c.requires.asks.room in
       let asked = c.body-asked.ensures ∙ ap body_of c.bytes.ensures.bytes in
-      let p = as-asked _ _ _ _ _ _ _ _ _ _ _ _ _ _ _ _ asked c.in-Again.ensures.handles in
+      let p = as-asked _ _ _ _ _ _ _ _ _ _ _ asked c.in-Again.ensures.handles in
       rw (← c.self.view_is) (node-again c.self.inside.me c.self.inside.limits (record {
         life = c.self.inside.life;
         known = c.self.inside.known;
@@ -172,21 +169,20 @@ returns-in-Again g c = record {
         counts = c.self.inside.counts;
       }) c.self.inside.paces.items (jobs_in c.self.inside.limits.jobs c.self.inside.given
       c.self.inside.jobs.items) c.self.inside.clock c.self.inside.rx c.self.inside.store
-      c.self.invariant.0 c.args.head.now c.in-Some.front.now front c.requires.asks.asking here g.V.Service.mode_of
-      c.args.i c.on_packet-step.new.self c.on_packet-step.ensures.clients
-      c.on_packet-step.ensures.size c.on_packet-step.ensures.places c.drop_front.new.self
-      c.drop_front.ensures c.jobs_full-full.result full served place peer few g.R.Recorder.log c.args.rec.now c.on_packet-step.new.rec g.V.Service.answer
-      (g.V.Service.stands c.args.service.now) (g.V.Service.stands c.on_packet-step.new.service)
+      c.self.invariant.0 c.args.head.now c.in-Some.front.now front c.requires.asks.asking here g.V.Service
+      c.args.i c.on_packet-step.new.self c.on_packet-step.ensures.handles.clients
+      c.on_packet-step.ensures.handles.size c.on_packet-step.ensures.handles.places c.drop_front.new.self
+      c.drop_front.ensures c.jobs_full-full.result full served place peer few g.R.Recorder.log c.args.rec.now c.on_packet-step.new.rec c.args.service.now c.on_packet-step.new.service
       c.in-Again.reply p p.reply.0 p.reply.1 (λ was st. subst (λ z. g.V.Service.stands z was) (sym
-      c.in-Again.ensures.service) st) (c.args.memory.now ⟶ c.on_packet-step.new.memory)
+      c.in-Again.ensures.handles.service) st) (c.args.memory.now ⟶ c.on_packet-step.new.memory)
       c.in-Again.ensures.cause);
   served = let served = rw (← c.self.view_is) at c.requires.asks.serving.served in
       let p = c.on_packet-step.ensures.handles in
       served-then g.V.Service.mode_of _ _ c.args.i p.server p.later served p.place p.changed
-      c.on_packet-step.ensures.all_served;
+      c.on_packet-step.ensures.handles.all_served;
   ring = rw (← c.self.view_is) (ring-left c.self.inside.rx c.drop_front.new.self c.drop_front.ensures);
-  clients = search rules;
-  handed = search rules;
+  clients = rw (← c.self.view_is) c.on_packet-step.ensures.handles.clients;
+  handed = rw (← c.self.view_is) c.on_packet-step.ensures.handles.handed;
 }
 
 pub invariant_of-self-in-Ran : goal.invariant_of-self-in-Ran
@@ -199,7 +195,7 @@ invariant_of-self-in-Ran g c =
     let peer = rw (← c.self.view_is) at c.requires.peer in
     let few = rw (← c.self.view_is) at c.requires.asks.room in
     let asked = c.body-asked.ensures ∙ ap body_of c.bytes.ensures.bytes in
-    let p = as-asked _ _ _ _ _ _ _ _ _ _ _ _ _ _ _ _ asked c.in-Ran.ensures.handles in (
+    let p = as-asked _ _ _ _ _ _ _ _ _ _ _ asked c.in-Ran.ensures.handles in (
       fits-ran c.self.inside.me c.self.inside.limits (record {
         life = c.self.inside.life;
         known = c.self.inside.known;
@@ -209,15 +205,14 @@ invariant_of-self-in-Ran g c =
         counts = c.self.inside.counts;
       }) c.self.inside.paces.items (jobs_in c.self.inside.limits.jobs c.self.inside.given
           c.self.inside.jobs.items) c.self.inside.clock c.self.inside.rx c.self.inside.store
-          c.self.invariant.0 c.args.head.now c.in-Some.front.now front c.requires.asks.asking here g.V.Service.mode_of
-          c.args.i c.on_packet-step.new.self c.on_packet-step.ensures.clients
-          c.on_packet-step.ensures.size c.on_packet-step.ensures.places c.drop_front.new.self
-          c.drop_front.ensures c.jobs_full-full.result full served place peer few g.R.Recorder.log c.args.rec.now c.on_packet-step.new.rec g.V.Service.answer
-          (g.V.Service.stands c.args.service.now) (g.V.Service.stands c.on_packet-step.new.service)
+          c.self.invariant.0 c.args.head.now c.in-Some.front.now front c.requires.asks.asking here g.V.Service
+          c.args.i c.on_packet-step.new.self c.on_packet-step.ensures.handles.clients
+          c.on_packet-step.ensures.handles.size c.on_packet-step.ensures.handles.places c.drop_front.new.self
+          c.drop_front.ensures c.jobs_full-full.result full served place peer few g.R.Recorder.log c.args.rec.now c.on_packet-step.new.rec c.args.service.now c.on_packet-step.new.service
           c.in-Ran.reply p p.reply.0 p.reply.1 c.saturating_add-self-inside.result
           c.saturating_add-self-inside.ensures,
       c.self.invariant.1,
-      rw c.on_packet-step.ensures.clients c.self.invariant.2,
+      rw c.on_packet-step.ensures.handles.clients c.self.invariant.2,
     )
 
 pub returns-in-Ran : goal.returns-in-Ran
@@ -230,7 +225,7 @@ returns-in-Ran g c = record {
       let peer = rw (← c.self.view_is) at c.requires.peer in
       let few = rw (← c.self.view_is) at c.requires.asks.room in
       let asked = c.body-asked.ensures ∙ ap body_of c.bytes.ensures.bytes in
-      let p = as-asked _ _ _ _ _ _ _ _ _ _ _ _ _ _ _ _ asked c.in-Ran.ensures.handles in
+      let p = as-asked _ _ _ _ _ _ _ _ _ _ _ asked c.in-Ran.ensures.handles in
       rw (← c.self.view_is) (node-ran c.self.inside.me c.self.inside.limits (record {
         life = c.self.inside.life;
         known = c.self.inside.known;
@@ -240,21 +235,20 @@ returns-in-Ran g c = record {
         counts = c.self.inside.counts;
       }) c.self.inside.paces.items (jobs_in c.self.inside.limits.jobs c.self.inside.given
       c.self.inside.jobs.items) c.self.inside.clock c.self.inside.rx c.self.inside.store
-      c.self.invariant.0 c.args.head.now c.in-Some.front.now front c.requires.asks.asking here g.V.Service.mode_of
-      c.args.i c.on_packet-step.new.self c.on_packet-step.ensures.clients
-      c.on_packet-step.ensures.size c.on_packet-step.ensures.places c.drop_front.new.self
-      c.drop_front.ensures c.jobs_full-full.result full served place peer few g.R.Recorder.log c.args.rec.now c.on_packet-step.new.rec g.V.Service.answer
-      (g.V.Service.stands c.args.service.now) (g.V.Service.stands c.on_packet-step.new.service)
+      c.self.invariant.0 c.args.head.now c.in-Some.front.now front c.requires.asks.asking here g.V.Service
+      c.args.i c.on_packet-step.new.self c.on_packet-step.ensures.handles.clients
+      c.on_packet-step.ensures.handles.size c.on_packet-step.ensures.handles.places c.drop_front.new.self
+      c.drop_front.ensures c.jobs_full-full.result full served place peer few g.R.Recorder.log c.args.rec.now c.on_packet-step.new.rec c.args.service.now c.on_packet-step.new.service
       c.in-Ran.reply p p.reply.0 p.reply.1 c.saturating_add-self-inside.result
       c.saturating_add-self-inside.ensures (c.args.memory.now ⟶ c.on_packet-step.new.memory)
       c.in-Ran.ensures.cause);
   served = let served = rw (← c.self.view_is) at c.requires.asks.serving.served in
       let p = c.on_packet-step.ensures.handles in
       served-then g.V.Service.mode_of _ _ c.args.i p.server p.later served p.place p.changed
-      c.on_packet-step.ensures.all_served;
+      c.on_packet-step.ensures.handles.all_served;
   ring = rw (← c.self.view_is) (ring-left c.self.inside.rx c.drop_front.new.self c.drop_front.ensures);
-  clients = search rules;
-  handed = search rules;
+  clients = rw (← c.self.view_is) c.on_packet-step.ensures.handles.clients;
+  handed = rw (← c.self.view_is) c.on_packet-step.ensures.handles.handed;
 }
 
 pub invariant_of-self-in-Dropped : goal.invariant_of-self-in-Dropped
@@ -267,7 +261,7 @@ invariant_of-self-in-Dropped g c =
     let peer = rw (← c.self.view_is) at c.requires.peer in
     let few = rw (← c.self.view_is) at c.requires.asks.room in
     let asked = c.body-asked.ensures ∙ ap body_of c.bytes.ensures.bytes in
-    let p = as-asked _ _ _ _ _ _ _ _ _ _ _ _ _ _ _ _ asked c.in-Dropped.ensures.handles in (
+    let p = as-asked _ _ _ _ _ _ _ _ _ _ _ asked c.in-Dropped.ensures.handles in (
       fits-drop c.self.inside.me c.self.inside.limits (record {
         life = c.self.inside.life;
         known = c.self.inside.known;
@@ -277,15 +271,14 @@ invariant_of-self-in-Dropped g c =
         counts = c.self.inside.counts;
       }) c.self.inside.paces.items (jobs_in c.self.inside.limits.jobs c.self.inside.given
           c.self.inside.jobs.items) c.self.inside.clock c.self.inside.rx c.self.inside.store
-          c.self.invariant.0 c.args.head.now c.in-Some.front.now front c.requires.asks.asking here g.V.Service.mode_of
-          c.args.i c.on_packet-step.new.self c.on_packet-step.ensures.clients
-          c.on_packet-step.ensures.size c.on_packet-step.ensures.places c.drop_front.new.self
-          c.drop_front.ensures c.jobs_full-full.result full served place peer few g.R.Recorder.log c.args.rec.now c.on_packet-step.new.rec g.V.Service.answer
-          (g.V.Service.stands c.args.service.now) (g.V.Service.stands c.on_packet-step.new.service)
+          c.self.invariant.0 c.args.head.now c.in-Some.front.now front c.requires.asks.asking here g.V.Service
+          c.args.i c.on_packet-step.new.self c.on_packet-step.ensures.handles.clients
+          c.on_packet-step.ensures.handles.size c.on_packet-step.ensures.handles.places c.drop_front.new.self
+          c.drop_front.ensures c.jobs_full-full.result full served place peer few g.R.Recorder.log c.args.rec.now c.on_packet-step.new.rec c.args.service.now c.on_packet-step.new.service
           c.in-Dropped.field-0 p c.saturating_add-self-inside-in-Dropped.result
           c.saturating_add-self-inside-in-Dropped.ensures,
       c.self.invariant.1,
-      rw c.on_packet-step.ensures.clients c.self.invariant.2,
+      rw c.on_packet-step.ensures.handles.clients c.self.invariant.2,
     )
 
 pub returns-in-Dropped : goal.returns-in-Dropped
@@ -298,7 +291,7 @@ returns-in-Dropped g c = record {
       let peer = rw (← c.self.view_is) at c.requires.peer in
       let few = rw (← c.self.view_is) at c.requires.asks.room in
       let asked = c.body-asked.ensures ∙ ap body_of c.bytes.ensures.bytes in
-      let p = as-asked _ _ _ _ _ _ _ _ _ _ _ _ _ _ _ _ asked c.in-Dropped.ensures.handles in
+      let p = as-asked _ _ _ _ _ _ _ _ _ _ _ asked c.in-Dropped.ensures.handles in
       rw (← c.self.view_is) (node-drop c.self.inside.me c.self.inside.limits (record {
         life = c.self.inside.life;
         known = c.self.inside.known;
@@ -308,22 +301,21 @@ returns-in-Dropped g c = record {
         counts = c.self.inside.counts;
       }) c.self.inside.paces.items (jobs_in c.self.inside.limits.jobs c.self.inside.given
       c.self.inside.jobs.items) c.self.inside.clock c.self.inside.rx c.self.inside.store
-      c.self.invariant.0 c.args.head.now c.in-Some.front.now front c.requires.asks.asking here g.V.Service.mode_of
-      c.args.i c.on_packet-step.new.self c.on_packet-step.ensures.clients
-      c.on_packet-step.ensures.size c.on_packet-step.ensures.places c.drop_front.new.self
-      c.drop_front.ensures c.jobs_full-full.result full served place peer few g.R.Recorder.log c.args.rec.now c.on_packet-step.new.rec g.V.Service.answer
-      (g.V.Service.stands c.args.service.now) (g.V.Service.stands c.on_packet-step.new.service)
+      c.self.invariant.0 c.args.head.now c.in-Some.front.now front c.requires.asks.asking here g.V.Service
+      c.args.i c.on_packet-step.new.self c.on_packet-step.ensures.handles.clients
+      c.on_packet-step.ensures.handles.size c.on_packet-step.ensures.handles.places c.drop_front.new.self
+      c.drop_front.ensures c.jobs_full-full.result full served place peer few g.R.Recorder.log c.args.rec.now c.on_packet-step.new.rec c.args.service.now c.on_packet-step.new.service
       c.in-Dropped.field-0 p c.saturating_add-self-inside-in-Dropped.result
       c.saturating_add-self-inside-in-Dropped.ensures (λ was st. subst (λ z. g.V.Service.stands z
-      was) (sym c.in-Dropped.ensures.service) st) (c.args.memory.now ⟶ c.on_packet-step.new.memory)
+      was) (sym c.in-Dropped.ensures.handles.service) st) (c.args.memory.now ⟶ c.on_packet-step.new.memory)
       c.in-Dropped.ensures.cause);
   served = let served = rw (← c.self.view_is) at c.requires.asks.serving.served in
       let p = c.on_packet-step.ensures.handles in
       served-then g.V.Service.mode_of _ _ c.args.i p.server p.later served p.place p.changed
-      c.on_packet-step.ensures.all_served;
+      c.on_packet-step.ensures.handles.all_served;
   ring = rw (← c.self.view_is) (ring-left c.self.inside.rx c.drop_front.new.self c.drop_front.ensures);
-  clients = search rules;
-  handed = search rules;
+  clients = rw (← c.self.view_is) c.on_packet-step.ensures.handles.clients;
+  handed = rw (← c.self.view_is) c.on_packet-step.ensures.handles.handed;
 }
 
 pub invariant_of-self-in-Give : goal.invariant_of-self-in-Give
@@ -336,7 +328,7 @@ invariant_of-self-in-Give g c =
     let peer = rw (← c.self.view_is) at c.requires.peer in
     let few = rw (← c.self.view_is) at c.requires.asks.room in
     let asked = c.body-asked.ensures ∙ ap body_of c.bytes.ensures.bytes in
-    let p = as-asked _ _ _ _ _ _ _ _ _ _ _ _ _ _ _ _ asked c.in-Give.ensures.handles in (
+    let p = as-asked _ _ _ _ _ _ _ _ _ _ _ asked c.in-Give.ensures.handles in (
       fits-give c.self.inside.me c.self.inside.limits (record {
         life = c.self.inside.life;
         known = c.self.inside.known;
@@ -346,11 +338,10 @@ invariant_of-self-in-Give g c =
         counts = c.self.inside.counts;
       }) c.self.inside.paces.items (jobs_in c.self.inside.limits.jobs c.self.inside.given
           c.self.inside.jobs.items) c.self.inside.clock c.self.inside.rx c.self.inside.store
-          c.self.invariant.0 c.args.head.now c.in-Some.front.now front c.requires.asks.asking here g.V.Service.mode_of
-          c.args.i c.on_packet-step.new.self c.on_packet-step.ensures.clients
-          c.on_packet-step.ensures.size c.on_packet-step.ensures.places c.drop_front.new.self
-          c.drop_front.ensures c.jobs_full-full.result full served place peer few g.R.Recorder.log c.args.rec.now c.on_packet-step.new.rec g.V.Service.answer
-          (g.V.Service.stands c.args.service.now) (g.V.Service.stands c.on_packet-step.new.service)
+          c.self.invariant.0 c.args.head.now c.in-Some.front.now front c.requires.asks.asking here g.V.Service
+          c.args.i c.on_packet-step.new.self c.on_packet-step.ensures.handles.clients
+          c.on_packet-step.ensures.handles.size c.on_packet-step.ensures.handles.places c.drop_front.new.self
+          c.drop_front.ensures c.jobs_full-full.result full served place peer few g.R.Recorder.log c.args.rec.now c.on_packet-step.new.rec c.args.service.now c.on_packet-step.new.service
           c.in-Give.parcel p c.saturating_add-self-inside-in-Give.result
           c.saturating_add-self-inside-in-Give.ensures (jobs_in c.self.inside.limits.jobs
           (c.self.inside.given + 1) c.push_back_reserved.new.self.items) refl (named
@@ -360,7 +351,7 @@ invariant_of-self-in-Give g c =
           refl refl refl asks _ c.push_back_reserved.ensures.items own),
       rw
           c.push_back_reserved.ensures.capacity c.self.invariant.1,
-      rw c.on_packet-step.ensures.clients c.self.invariant.2,
+      rw c.on_packet-step.ensures.handles.clients c.self.invariant.2,
     )
 
 pub returns-in-Give : goal.returns-in-Give
@@ -373,7 +364,7 @@ returns-in-Give g c = record {
       let peer = rw (← c.self.view_is) at c.requires.peer in
       let few = rw (← c.self.view_is) at c.requires.asks.room in
       let asked = c.body-asked.ensures ∙ ap body_of c.bytes.ensures.bytes in
-      let p = as-asked _ _ _ _ _ _ _ _ _ _ _ _ _ _ _ _ asked c.in-Give.ensures.handles in
+      let p = as-asked _ _ _ _ _ _ _ _ _ _ _ asked c.in-Give.ensures.handles in
       rw (← c.self.view_is) (node-give c.self.inside.me c.self.inside.limits (record {
         life = c.self.inside.life;
         known = c.self.inside.known;
@@ -383,11 +374,10 @@ returns-in-Give g c = record {
         counts = c.self.inside.counts;
       }) c.self.inside.paces.items (jobs_in c.self.inside.limits.jobs c.self.inside.given
       c.self.inside.jobs.items) c.self.inside.clock c.self.inside.rx c.self.inside.store
-      c.self.invariant.0 c.args.head.now c.in-Some.front.now front c.requires.asks.asking here g.V.Service.mode_of
-      c.args.i c.on_packet-step.new.self c.on_packet-step.ensures.clients
-      c.on_packet-step.ensures.size c.on_packet-step.ensures.places c.drop_front.new.self
-      c.drop_front.ensures c.jobs_full-full.result full served place peer few g.R.Recorder.log c.args.rec.now c.on_packet-step.new.rec g.V.Service.answer
-      (g.V.Service.stands c.args.service.now) (g.V.Service.stands c.on_packet-step.new.service)
+      c.self.invariant.0 c.args.head.now c.in-Some.front.now front c.requires.asks.asking here g.V.Service
+      c.args.i c.on_packet-step.new.self c.on_packet-step.ensures.handles.clients
+      c.on_packet-step.ensures.handles.size c.on_packet-step.ensures.handles.places c.drop_front.new.self
+      c.drop_front.ensures c.jobs_full-full.result full served place peer few g.R.Recorder.log c.args.rec.now c.on_packet-step.new.rec c.args.service.now c.on_packet-step.new.service
       c.in-Give.parcel p c.saturating_add-self-inside-in-Give.result
       c.saturating_add-self-inside-in-Give.ensures (jobs_in c.self.inside.limits.jobs
       (c.self.inside.given + 1) c.push_back_reserved.new.self.items) refl (named
@@ -395,15 +385,15 @@ returns-in-Give g c = record {
       refl refl refl _ c.push_back_reserved.ensures.items) (λ asks own. asking-one
       c.self.inside.limits.jobs c.self.inside.given c.self.inside.jobs.items _ c.in-Give.parcel
       refl refl refl asks _ c.push_back_reserved.ensures.items own) refl (λ was st. subst (λ z.
-      g.V.Service.stands z was) (sym c.in-Give.ensures.service) st)
+      g.V.Service.stands z was) (sym c.in-Give.ensures.handles.service) st)
       (c.args.memory.now ⟶ c.on_packet-step.new.memory) c.in-Give.ensures.cause);
   served = let served = rw (← c.self.view_is) at c.requires.asks.serving.served in
       let p = c.on_packet-step.ensures.handles in
       served-then g.V.Service.mode_of _ _ c.args.i p.server p.later served p.place p.changed
-      c.on_packet-step.ensures.all_served;
+      c.on_packet-step.ensures.handles.all_served;
   ring = rw (← c.self.view_is) (ring-left c.self.inside.rx c.drop_front.new.self c.drop_front.ensures);
-  clients = search rules;
-  handed = search rules;
+  clients = rw (← c.self.view_is) c.on_packet-step.ensures.handles.clients;
+  handed = rw (← c.self.view_is) c.on_packet-step.ensures.handles.handed;
 }
 
 pub overflow_add-self : goal.overflow_add-self
@@ -416,7 +406,7 @@ overflow_add-self g c =
     let peer = rw (← c.self.view_is) at c.requires.peer in
     let few = rw (← c.self.view_is) at c.requires.asks.room in
     let asked = c.body-asked.ensures ∙ ap body_of c.bytes.ensures.bytes in
-    let p = as-asked _ _ _ _ _ _ _ _ _ _ _ _ _ _ _ _ asked c.in-Give.ensures.handles in
+    let p = as-asked _ _ _ _ _ _ _ _ _ _ _ asked c.in-Give.ensures.handles in
     let none = unfull-of c.self.inside.me c.self.inside.limits (record {
       life = c.self.inside.life;
       known = c.self.inside.known;
@@ -426,11 +416,10 @@ overflow_add-self g c =
       counts = c.self.inside.counts;
     }) c.self.inside.paces.items (jobs_in c.self.inside.limits.jobs c.self.inside.given
     c.self.inside.jobs.items) c.self.inside.clock c.self.inside.rx c.self.inside.store
-    c.self.invariant.0 c.args.head.now c.in-Some.front.now front c.requires.asks.asking here g.V.Service.mode_of
-    c.args.i c.on_packet-step.new.self c.on_packet-step.ensures.clients
-    c.on_packet-step.ensures.size c.on_packet-step.ensures.places c.drop_front.new.self
-    c.drop_front.ensures c.jobs_full-full.result full served place peer few g.R.Recorder.log c.args.rec.now c.on_packet-step.new.rec g.V.Service.answer
-    (g.V.Service.stands c.args.service.now) (g.V.Service.stands c.on_packet-step.new.service)
+    c.self.invariant.0 c.args.head.now c.in-Some.front.now front c.requires.asks.asking here g.V.Service
+    c.args.i c.on_packet-step.new.self c.on_packet-step.ensures.handles.clients
+    c.on_packet-step.ensures.handles.size c.on_packet-step.ensures.handles.places c.drop_front.new.self
+    c.drop_front.ensures c.jobs_full-full.result full served place peer few g.R.Recorder.log c.args.rec.now c.on_packet-step.new.rec c.args.service.now c.on_packet-step.new.service
     c.in-Give.parcel p in
     let room = has-job-room c.self.inside.limits.jobs c.self.inside.given _
     c.self.inside.jobs.items c.jobs_full-full.result full none c.self.invariant.1 in
@@ -446,7 +435,7 @@ push_back_reserved-requires g c =
     let peer = rw (← c.self.view_is) at c.requires.peer in
     let few = rw (← c.self.view_is) at c.requires.asks.room in
     let asked = c.body-asked.ensures ∙ ap body_of c.bytes.ensures.bytes in
-    let p = as-asked _ _ _ _ _ _ _ _ _ _ _ _ _ _ _ _ asked c.in-Give.ensures.handles in
+    let p = as-asked _ _ _ _ _ _ _ _ _ _ _ asked c.in-Give.ensures.handles in
     let none = unfull-of c.self.inside.me c.self.inside.limits (record {
       life = c.self.inside.life;
       known = c.self.inside.known;
@@ -456,11 +445,10 @@ push_back_reserved-requires g c =
       counts = c.self.inside.counts;
     }) c.self.inside.paces.items (jobs_in c.self.inside.limits.jobs c.self.inside.given
     c.self.inside.jobs.items) c.self.inside.clock c.self.inside.rx c.self.inside.store
-    c.self.invariant.0 c.args.head.now c.in-Some.front.now front c.requires.asks.asking here g.V.Service.mode_of
-    c.args.i c.on_packet-step.new.self c.on_packet-step.ensures.clients
-    c.on_packet-step.ensures.size c.on_packet-step.ensures.places c.drop_front.new.self
-    c.drop_front.ensures c.jobs_full-full.result full served place peer few g.R.Recorder.log c.args.rec.now c.on_packet-step.new.rec g.V.Service.answer
-    (g.V.Service.stands c.args.service.now) (g.V.Service.stands c.on_packet-step.new.service)
+    c.self.invariant.0 c.args.head.now c.in-Some.front.now front c.requires.asks.asking here g.V.Service
+    c.args.i c.on_packet-step.new.self c.on_packet-step.ensures.handles.clients
+    c.on_packet-step.ensures.handles.size c.on_packet-step.ensures.handles.places c.drop_front.new.self
+    c.drop_front.ensures c.jobs_full-full.result full served place peer few g.R.Recorder.log c.args.rec.now c.on_packet-step.new.rec c.args.service.now c.on_packet-step.new.service
     c.in-Give.parcel p in
     let room = has-job-room c.self.inside.limits.jobs c.self.inside.given _
     c.self.inside.jobs.items c.jobs_full-full.result full none c.self.invariant.1 in

@@ -1,8 +1,8 @@
 use Rattle.std.proofs.Common.{◌∙◌, ap}
-use Rattle.endpoint_node.specs.Handed.{timed_of, Holding}
+use Rattle.node_steps.specs.Handed.{timed_of, Holding}
 use Rattle.endpoint_node.specs.contracts.node.Node.{the_view}
-use Rattle.endpoint_node.proofs.ControlSteps.{made-me, made-ring}
-use Rattle.endpoint_node.proofs.ControlSteps.{made-served, makes-handled}
+use Rattle.node_steps.proofs.ControlSteps.{made-me, made-ring}
+use Rattle.node_steps.proofs.ControlSteps.{made-served, makes-handled}
 use Rattle.endpoint_node.proofs.node.Node.handle_control.Goals as goal
 
 handles : goal.returns-clause-handles

@@ -1,10 +1,10 @@
 use Rattle.std.proofs.Common.{refl, sym, ◌∙◌}
 use Rattle.std.proofs.lemmas.Bool.{not-false, not-true}
 use Rattle.rpc_laws.specs.Service.{rules_of}
-use Rattle.endpoint_node.proofs.PacketSteps.{asks-kind, node-replies, node-requests, node-stale}
-use Rattle.endpoint_node.proofs.HandedGiven.{gave-no, gave-one}
-use Rattle.endpoint_node.proofs.PacketSteps.{replies-kind}
-use Rattle.endpoint_node.proofs.HandedBack.{gives-one, gives-same}
+use Rattle.node_steps.proofs.PacketSteps.{asks-kind, node-replies, node-requests, node-stale}
+use Rattle.node_steps.proofs.HandedGiven.{gave-no, gave-one}
+use Rattle.node_steps.proofs.PacketSteps.{replies-kind}
+use Rattle.node_steps.proofs.HandedBack.{gives-one, gives-same}
 use Rattle.endpoint_node.proofs.node.Node.handle_front.Goals as goal
 
 pub unreachable-requires : goal.unreachable-requires

@@ -1,8 +1,8 @@
 use Rattle.std.proofs.Common.{refl}
-use Rattle.endpoint_node.specs.Jobs.{staff_of}
+use Rattle.node_steps.specs.Jobs.{staff_of}
 use Rattle.rpc_laws.specs.Service.{rules_of}
-use Rattle.endpoint_node.proofs.PacketCrew.{handled-none, handled-some, has-room, me-handled}
-use Rattle.endpoint_node.proofs.PacketCrew.{ring-fewer, still-founded}
+use Rattle.node_steps.proofs.PacketCrew.{handled-none, handled-some, has-room, me-handled}
+use Rattle.node_steps.proofs.PacketCrew.{ring-fewer, still-founded}
 use Rattle.endpoint_node.proofs.node.Node.handle_next.Goals as goal
 
 pub returns-in_default-clause-handles : goal.returns-in_default-clause-handles

@@ -1,10 +1,10 @@
 use Rattle.std.proofs.Common.{sym, ap, ◌∙◌, rules}
 use Rattle.std.specs.Option.{option_copied}
-use Rattle.endpoint_node.proofs.PacketReplies.{some-front}
-use Rattle.endpoint_node.proofs.PacketRequests.{node-stranger, node-unknown}
-use Rattle.endpoint_node.proofs.PacketServers.{alike, differ, number-there, peer-there}
-use Rattle.endpoint_node.specs.Seen.{jobs_in}
-use Rattle.endpoint_node.specs.Handed.{timed_of}
+use Rattle.node_steps.proofs.PacketReplies.{some-front}
+use Rattle.node_steps.proofs.PacketRequests.{node-stranger, node-unknown}
+use Rattle.node_steps.proofs.PacketServers.{alike, differ, number-there, peer-there}
+use Rattle.node_steps.specs.Seen.{jobs_in}
+use Rattle.node_steps.specs.Handed.{timed_of}
 use Rattle.endpoint_node.proofs.node.Node.handle_request.Goals as goal
 
 pub unreachable-requires : goal.unreachable-requires
@@ -28,7 +28,7 @@ returns-in_default-place_of_server g c = record {
         counts = c.self.inside.counts;
       }) c.self.inside.paces.items (jobs_in c.self.inside.limits.jobs c.self.inside.given
       c.self.inside.jobs.items) c.self.inside.clock c.self.inside.rx c.self.inside.store
-      c.self.invariant.0 c.args.head.now c.in-Some.front.now front c.requires.asking here g.V.Service.mode_of
+      c.self.invariant.0 c.args.head.now c.in-Some.front.now front c.requires.asking here g.V.Service
       g.R.Recorder.log c.args.rec.now c.drop_front.new.rec g.V.Service.answer
       (g.V.Service.stands c.args.service.now) (g.V.Service.stands c.args.service.now)
       (timed_of c.drop_front.new.self) c.args.memory.now
@@ -58,7 +58,7 @@ returns-then-ne g c = record {
         counts = c.self.inside.counts;
       }) c.self.inside.paces.items (jobs_in c.self.inside.limits.jobs c.self.inside.given
       c.self.inside.jobs.items) c.self.inside.clock c.self.inside.rx c.self.inside.store
-      c.self.invariant.0 c.args.head.now c.in-Some.front.now front c.requires.asking here g.V.Service.mode_of
+      c.self.invariant.0 c.args.head.now c.in-Some.front.now front c.requires.asking here g.V.Service
       g.R.Recorder.log c.args.rec.now c.drop_front-then-ne.new.rec
       g.V.Service.answer (g.V.Service.stands c.args.service.now) (g.V.Service.stands
       c.args.service.now) (timed_of c.drop_front-then-ne.new.self) c.args.memory.now

@@ -1,9 +1,9 @@
 use Rattle.std.proofs.Common.{◌≡◌, ◌∙◌, List, [], length, refl, ap, arith, length-drop}
 use Rattle.rpc_laws.specs.declared.tables.Arrival.{Arrival}
 use Rattle.rpc_laws.specs.ControlSteps.{Hears}
-use Rattle.endpoint_node.specs.Handed.{Holding}
-use Rattle.endpoint_node.proofs.ControlSteps.{listens-more, listens-none, listens-until, none-waits}
-use Rattle.endpoint_node.proofs.NoteSteps.{none-comes}
+use Rattle.node_steps.specs.Handed.{Holding}
+use Rattle.node_steps.proofs.ControlSteps.{listens-more, listens-none, listens-until, none-waits}
+use Rattle.node_steps.proofs.NoteSteps.{none-comes}
 use Rattle.endpoint_node.proofs.node.Node.hear_all.Goals as goal
 
 pub packets-init : goal.packets-init

@@ -4,16 +4,17 @@ use Rattle.rpc_laws.specs.Deliveries.{inbox_room}
 use Rattle.rpc_laws.specs.Steps.{Chain}
 use Rattle.rpc_outside.specs.Linking.{NoneComes}
 use Rattle.rpc_outside.specs.declared.service.Mode.{Mode}
-use Rattle.endpoint_node.specs.Changes.{◌⟶◌}
-use Rattle.endpoint_node.specs.Handed.{timed_of}
-use Rattle.endpoint_node.specs.Control.{Listens}
-use Rattle.endpoint_node.specs.Requests.{AllServed}
+use Rattle.node_steps.specs.Changes.{◌⟶◌}
+use Rattle.node_steps.specs.Handed.{timed_of}
+use Rattle.node_steps.specs.Control.{Listens}
+use Rattle.node_steps.specs.Requests.{AllServed}
 use Rattle.endpoint_node.proofs.node.Node.hear_all.Given as goal
 
 abbrev pub invariant-packets : goal.invariant-packets
 invariant-packets g l = record {
-  listens : Listens g.R.Recorder.log g.L.Link (Chain Hears) l.told (timed_of l.initial.self) (timed_of l.self) l.initial.rec
-      l.rec l.initial.link l.link (l.initial.memory ⟶ l.memory);
+  listens : Listens g.R.Recorder.log g.L.Link (Chain Hears) l.told
+      (timed_of l.initial.self ⟶ timed_of l.self) (l.initial.rec ⟶ l.rec) (l.initial.link ⟶ l.link)
+      (l.initial.memory ⟶ l.memory);
   heard : l.told.heard + length l.self.lists.inbox ≡ l.count;
   few : l.count ≤ inbox_room;
   sent : l.told.sent ≤ l.told.heard;

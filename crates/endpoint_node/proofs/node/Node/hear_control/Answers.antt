@@ -1,9 +1,9 @@
 use Rattle.std.proofs.Common.{ap, subst, ◌∙◌, rules}
 use Rattle.std.specs.List.{AllByRecursion}
-use Rattle.endpoint_node.specs.Fits.{IsSendable}
-use Rattle.endpoint_node.specs.Handed.{Holding}
-use Rattle.endpoint_node.specs.Inbox.{IsFront}
-use Rattle.endpoint_node.proofs.ControlSteps.{listens-said, listens-silent}
+use Rattle.node_steps.specs.Fits.{IsSendable}
+use Rattle.node_steps.specs.Handed.{Holding}
+use Rattle.node_steps.specs.Inboxes.{IsFront}
+use Rattle.node_steps.proofs.ControlSteps.{listens-said, listens-silent}
 use Rattle.endpoint_node.proofs.node.Node.hear_control.Goals as goal
 
 pub returns-in-None-clause-step : goal.returns-in-None-clause-step

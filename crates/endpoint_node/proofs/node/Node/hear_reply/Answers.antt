@@ -2,12 +2,12 @@ use Rattle.std.proofs.Common.{refl, sym, ap, ◌∙◌, arith}
 use Rattle.std.specs.Option.{option_copied}
 use Rattle.packet_header.specs.Reading.{body_of}
 use Rattle.packet_header.specs.declared.packet.MessageHeader.{MessageHeader}
-use Rattle.endpoint_node.proofs.PacketReplies.{as-told, fits-dropped, fits-ended, fits-took}
-use Rattle.endpoint_node.proofs.PacketReplies.{node-dropped, node-ended, node-took, node-unheard}
-use Rattle.endpoint_node.proofs.PacketReplies.{ring-left, some-front}
-use Rattle.endpoint_node.specs.Seen.{jobs_in}
-use Rattle.endpoint_node.proofs.PostCallers.{covers-replied}
-use Rattle.endpoint_node.specs.Handed.{timed_of}
+use Rattle.node_steps.proofs.PacketReplies.{as-told, fits-dropped, fits-ended, fits-took}
+use Rattle.node_steps.proofs.PacketReplies.{node-dropped, node-ended, node-took, node-unheard}
+use Rattle.node_steps.proofs.PacketReplies.{ring-left, some-front}
+use Rattle.node_steps.specs.Seen.{jobs_in}
+use Rattle.node_steps.proofs.PostCallers.{covers-replied}
+use Rattle.node_steps.specs.Handed.{timed_of}
 use Rattle.session_store.specs.Handing.{HandsBackAt}
 use Rattle.std.proofs.Common.{subst}
 use Rattle.endpoint_node.proofs.node.Node.hear_reply.Goals as goal

@@ -1,7 +1,7 @@
 use Rattle.std.specs.Prelude.{slice_get}
 use Rattle.rpc_laws.specs.GoBackN.{row_of}
 use Rattle.rpc_laws.specs.declared.rows.TimerRow.TheVariants.{Breaks, RollsBack}
-use Rattle.endpoint_node.proofs.DueLemmas.{breaks-not, rolls-not, row-late}
+use Rattle.node_steps.proofs.DueLemmas.{breaks-not, rolls-not, row-late}
 use Rattle.endpoint_node.proofs.node.Node.is_active_due.Goals as goal
 
 pub returns-in-Waits : goal.returns-in-Waits

@@ -3,11 +3,11 @@ use Rattle.std.specs.Prelude.{slice_get}
 use Rattle.std.specs.List.{AllByRecursion}
 use Rattle.rpc_laws.specs.GoBackN.{row_of}
 use Rattle.session_store.specs.Changes.{calls_in}
-use Rattle.endpoint_node.specs.Due.{CallRests}
-use Rattle.endpoint_node.proofs.DueLemmas.{idle-rests, in-calls, known-all, known-none, known-told}
-use Rattle.endpoint_node.proofs.DueLemmas.{next-late, next-rests}
-use Rattle.endpoint_node.proofs.TimerNext.{active-of, ascends-calls, next-calls, next-fewer}
-use Rattle.endpoint_node.proofs.TimerNext.{next-none}
+use Rattle.node_steps.specs.Due.{CallRests}
+use Rattle.node_steps.proofs.DueLemmas.{idle-rests, in-calls, known-all, known-none, known-told}
+use Rattle.node_steps.proofs.DueLemmas.{next-late, next-rests}
+use Rattle.node_steps.proofs.TimerNext.{active-of, ascends-calls, next-calls, next-fewer}
+use Rattle.node_steps.proofs.TimerNext.{next-none}
 use Rattle.endpoint_node.proofs.node.Node.is_call_due.Goals as goal
 
 pub calls-init : goal.calls-init

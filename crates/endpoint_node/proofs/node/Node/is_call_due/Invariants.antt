@@ -3,8 +3,8 @@ use Rattle.std.proofs.Common.{length}
 use Rattle.std.specs.Prelude.{filter, slice_get}
 use Rattle.session_store.specs.Changes.{calls_in}
 use Rattle.session_store.specs.Ends.{is_above}
-use Rattle.endpoint_node.specs.Due.{CallRests}
-use Rattle.endpoint_node.proofs.DueLemmas.{KnownUpTo}
+use Rattle.node_steps.specs.Due.{CallRests}
+use Rattle.node_steps.proofs.DueLemmas.{KnownUpTo}
 use Rattle.endpoint_node.proofs.node.Node.is_call_due.Given as goal
 
 abbrev pub invariant-calls : goal.invariant-calls

@@ -1,6 +1,6 @@
 use Rattle.std.proofs.Common.{sym, ◌∙◌}
 use Rattle.std.proofs.lemmas.Bool.{false≢true}
-use Rattle.endpoint_node.proofs.StatusSteps.{no-arrivals}
+use Rattle.node_steps.proofs.StatusSteps.{no-arrivals}
 use Rattle.endpoint_node.proofs.node.Node.is_drained.Goals as goal
 
 pub returns-else-is_empty : goal.returns-else-is_empty

@@ -1,8 +1,8 @@
 use Rattle.std.proofs.Common.{◌≡◌, length, ap, arith, subst, ◌∙◌}
 use Rattle.std.specs.Prelude.{slice_get}
-use Rattle.endpoint_node.specs.Due.{SessionRests}
-use Rattle.endpoint_node.proofs.DueLemmas.{RestUpTo, rest-all, rest-more, rest-next, some-late}
-use Rattle.endpoint_node.proofs.DueLemmas.{unvisited}
+use Rattle.node_steps.specs.Due.{SessionRests}
+use Rattle.node_steps.proofs.DueLemmas.{RestUpTo, rest-all, rest-more, rest-next, some-late}
+use Rattle.node_steps.proofs.DueLemmas.{unvisited}
 use Rattle.endpoint_node.proofs.node.Node.is_due.Goals as goal
 
 pub returns-then-is_packet_due : goal.returns-then-is_packet_due

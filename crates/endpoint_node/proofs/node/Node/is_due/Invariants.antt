@@ -1,7 +1,7 @@
 -- the sessions before a place rest
 use Rattle.std.proofs.Common.{◌≤◌, ◌-◌}
-use Rattle.endpoint_node.specs.Due.{SessionRests}
-use Rattle.endpoint_node.proofs.DueLemmas.{RestUpTo}
+use Rattle.node_steps.specs.Due.{SessionRests}
+use Rattle.node_steps.proofs.DueLemmas.{RestUpTo}
 use Rattle.endpoint_node.proofs.node.Node.is_due.Given as goal
 
 abbrev pub invariant-sessions : goal.invariant-sessions

@@ -1,4 +1,4 @@
-use Rattle.endpoint_node.proofs.DueLemmas.{front-due}
+use Rattle.node_steps.proofs.DueLemmas.{front-due}
 use Rattle.endpoint_node.proofs.node.Node.is_packet_due.Goals as goal
 
 pub returns-in-Some : goal.returns-in-Some

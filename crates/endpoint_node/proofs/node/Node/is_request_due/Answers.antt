@@ -1,7 +1,7 @@
 use Rattle.std.specs.Prelude.{slice_get}
 use Rattle.rpc_laws.specs.declared.rows.RetryRow.TheVariants.{Asks, GivesUp}
-use Rattle.endpoint_node.proofs.DueLemmas.{asks-not, gives-up-not, request-due, request-none}
-use Rattle.endpoint_node.proofs.DueLemmas.{request-rests}
+use Rattle.node_steps.proofs.DueLemmas.{asks-not, gives-up-not, request-due, request-none}
+use Rattle.node_steps.proofs.DueLemmas.{request-rests}
 use Rattle.endpoint_node.proofs.node.Node.is_request_due.Goals as goal
 
 pub returns-in_default : goal.returns-in_default

@@ -1,5 +1,5 @@
 use Rattle.std.specs.Prelude.{slice_get}
-use Rattle.endpoint_node.proofs.DueLemmas.{session-asks, session-by}
+use Rattle.node_steps.proofs.DueLemmas.{session-asks, session-by}
 use Rattle.endpoint_node.proofs.node.Node.is_session_due.Goals as goal
 
 pub returns-then-is_request_due : goal.returns-then-is_request_due

@@ -1,5 +1,5 @@
 use Rattle.std.proofs.Common.{arith}
-use Rattle.endpoint_node.proofs.CallSteps.{few-asked}
+use Rattle.node_steps.proofs.CallSteps.{few-asked}
 use Rattle.endpoint_node.proofs.node.Node.next_call.Goals as goal
 
 pub returns-clause-few : goal.returns-clause-few

@@ -1,5 +1,5 @@
 use Rattle.std.proofs.Common.{arith}
-use Rattle.endpoint_node.proofs.PostCallers.{none-called}
+use Rattle.node_steps.proofs.PostCallers.{none-called}
 use Rattle.endpoint_node.proofs.node.Node.next_caller.Goals as goal
 
 pub returns-in_default : goal.returns-in_default

@@ -1,6 +1,6 @@
 use Rattle.std.proofs.Common.{ap, subst}
-use Rattle.endpoint_node.specs.Handed.{Holding}
-use Rattle.endpoint_node.proofs.ControlSteps.{CanAnswer, answer-range, can-answer}
+use Rattle.node_steps.specs.Handed.{Holding}
+use Rattle.node_steps.proofs.ControlSteps.{CanAnswer, answer-range, can-answer}
 use Rattle.endpoint_node.proofs.node.Node.on_control.Goals as goal
 
 pub act-done-requires : goal.act-done-requires

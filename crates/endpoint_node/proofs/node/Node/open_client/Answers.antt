@@ -1,9 +1,9 @@
 use Rattle.std.proofs.Common.{◌≡◌, ℕ, ◌++◌, [], ◌∷◌, length, ap, subst, ◌∙◌}
 use Rattle.std.specs.List.{Contains}
-use Rattle.endpoint_node.specs.Seen.{jobs_in}
+use Rattle.node_steps.specs.Seen.{jobs_in}
 use Rattle.rpc_laws.specs.Sessions.{opened_end}
-use Rattle.endpoint_node.proofs.SessionSteps.{fits-opened}
-use Rattle.endpoint_node.proofs.PostCallers.{covers-opened}
+use Rattle.node_steps.proofs.SessionSteps.{fits-opened}
+use Rattle.node_steps.proofs.PostCallers.{covers-opened}
 use Rattle.endpoint_node.proofs.node.Node.open_client.Goals as goal
 
 pub invariant_of-self-2 : goal.invariant_of-self-2

@@ -1,7 +1,7 @@
 use Rattle.std.proofs.Common.{refl, sym}
 use Rattle.rpc_base.proofs.TablesLemmas.{find-missing}
 use Rattle.rpc_laws.specs.ControlTable.{is_end_of}
-use Rattle.endpoint_node.proofs.ControlEnds.{end-found}
+use Rattle.node_steps.proofs.ControlEnds.{end-found}
 use Rattle.endpoint_node.proofs.node.Node.other_end.Goals as goal
 
 pub returns-in_default : goal.returns-in_default

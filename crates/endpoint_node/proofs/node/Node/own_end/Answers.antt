@@ -1,5 +1,5 @@
 use Rattle.std.proofs.Common.{◌≡◌, ◌≤◌, ◌<◌, length, sym, ◌∙◌}
-use Rattle.endpoint_node.proofs.ControlEnds.{own-found, own-missing}
+use Rattle.node_steps.proofs.ControlEnds.{own-found, own-missing}
 use Rattle.endpoint_node.proofs.node.Node.own_end.Goals as goal
 
 pub returns-then-clients-i : goal.returns-then-clients-i

@@ -1,6 +1,6 @@
 use Rattle.std.proofs.Common.{◌∙◌}
 use Rattle.session_store.specs.Changes.{IsClientEnd}
-use Rattle.endpoint_node.proofs.TimerRetries.{known-at, of-known, own-told}
+use Rattle.node_steps.proofs.TimerRetries.{known-at, of-known, own-told}
 use Rattle.endpoint_node.proofs.node.Node.own_request.Goals as goal
 
 pub returns : goal.returns

@@ -2,8 +2,8 @@ use Rattle.std.proofs.lemmas.Bool.{false≢true}
 use Rattle.std.proofs.Common.{◌≡◌, length, sym, ap, ◌∙◌, rules, refl, arith}
 use Rattle.session_mgmt.specs.Refusals.{refused}
 use Rattle.memory_count.proofs.Risen.{none-risen-by}
-use Rattle.endpoint_node.specs.Handed.{timed_of}
-use Rattle.endpoint_node.proofs.SessionPairs.{client-made, client-refused, refused-lacks}
+use Rattle.node_steps.specs.Handed.{timed_of}
+use Rattle.node_steps.proofs.SessionPairs.{client-made, client-refused, refused-lacks}
 use Rattle.endpoint_node.proofs.node.Node.pair_client.Goals as goal
 
 pub returns-in-Err-clause-makes : goal.returns-in-Err-clause-makes

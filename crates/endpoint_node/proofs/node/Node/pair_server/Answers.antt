@@ -3,8 +3,8 @@ use Rattle.std.proofs.lemmas.Grind.{common_steps}
 use Rattle.std.proofs.Common.{◌≡◌, sym, ap, rules, refl, arith}
 use Rattle.session_mgmt.specs.Refusals.{refused}
 use Rattle.memory_count.proofs.Risen.{none-risen-by}
-use Rattle.endpoint_node.specs.Handed.{timed_of}
-use Rattle.endpoint_node.proofs.SessionPairs.{refused-lacks, server-made, server-refused}
+use Rattle.node_steps.specs.Handed.{timed_of}
+use Rattle.node_steps.proofs.SessionPairs.{refused-lacks, server-made, server-refused}
 use Rattle.endpoint_node.proofs.node.Node.pair_server.Goals as goal
 
 pub returns-in-Err-clause-makes : goal.returns-in-Err-clause-makes

@@ -1,8 +1,8 @@
 use Rattle.std.proofs.Common.{sym, ap, ◌∙◌, arith}
 use Rattle.std.proofs.lemmas.Option.{slice_get_past}
-use Rattle.endpoint_node.specs.Status.{pending_told}
-use Rattle.endpoint_node.proofs.CallSteps.{client-by}
-use Rattle.endpoint_node.proofs.StatusSteps.{pending-there}
+use Rattle.node_steps.specs.Status.{pending_told}
+use Rattle.node_steps.proofs.CallSteps.{client-by}
+use Rattle.node_steps.proofs.StatusSteps.{pending-there}
 use Rattle.endpoint_node.proofs.node.Node.pending.Goals as goal
 
 pub returns-then-i-clients : goal.returns-then-i-clients

@@ -3,8 +3,8 @@ use Rattle.std.specs.Prelude.{count_by}
 use Rattle.rpc_base.proofs.TablesLemmas.{find-missing}
 use Rattle.rpc_laws.specs.Requests.{is_server}
 use Rattle.session_store.specs.declared.server.ServerEnd.{ServerEnd}
-use Rattle.endpoint_node.proofs.ControlEnds.{ends-here, named-missing, other-client, other-life}
-use Rattle.endpoint_node.proofs.ControlEnds.{other-peer}
+use Rattle.node_steps.proofs.ControlEnds.{ends-here, named-missing, other-client, other-life}
+use Rattle.node_steps.proofs.ControlEnds.{other-peer}
 use Rattle.endpoint_node.proofs.node.Node.place_of.Goals as goal
 
 pub returns-in_err-i-clause-missing : goal.returns-in_err-i-clause-missing

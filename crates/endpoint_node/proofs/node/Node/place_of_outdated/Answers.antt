@@ -4,8 +4,8 @@ use Rattle.packet_header.specs.declared.packet.ControlHeader.{ControlHeader}
 use Rattle.packet_header.specs.declared.packet.ControlKind.TheVariants.{ConnectRequest}
 use Rattle.rpc_laws.specs.ControlTable.{is_older}
 use Rattle.rpc_laws.specs.Lives.{known_life}
-use Rattle.endpoint_node.specs.Handed.{Holding}
-use Rattle.endpoint_node.proofs.ControlEnds.{outdated-found, outdated-missing}
+use Rattle.node_steps.specs.Handed.{Holding}
+use Rattle.node_steps.proofs.ControlEnds.{outdated-found, outdated-missing}
 use Rattle.endpoint_node.proofs.node.Node.place_of_outdated.Goals as goal
 
 kind : (c : goal.After-place_of_older) → c.args.head.now.kind ≡ ConnectRequest

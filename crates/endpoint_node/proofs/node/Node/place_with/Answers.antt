@@ -1,6 +1,6 @@
 use Rattle.std.proofs.Common.{ap, arith, length, sym}
-use Rattle.endpoint_node.specs.Peers.{is_with}
-use Rattle.endpoint_node.proofs.PeerPlaces.{none-first, none-more, none-with}
+use Rattle.node_steps.specs.Peers.{is_with}
+use Rattle.node_steps.proofs.PeerPlaces.{none-first, none-more, none-with}
 use Rattle.endpoint_node.proofs.node.Node.place_with.Goals as goal
 
 pub places-init : goal.places-init

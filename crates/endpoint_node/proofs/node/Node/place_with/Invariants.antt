@@ -1,5 +1,5 @@
 use Rattle.std.proofs.Common.{◌≡◌, ℕ, false, ◌<◌}
-use Rattle.endpoint_node.specs.Peers.{is_with}
+use Rattle.node_steps.specs.Peers.{is_with}
 use Rattle.endpoint_node.proofs.node.Node.place_with.Given as goal
 
 abbrev pub invariant-places : goal.invariant-places

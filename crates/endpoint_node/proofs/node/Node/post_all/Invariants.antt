@@ -1,9 +1,9 @@
-use Rattle.endpoint_node.specs.Measures.{free_at}
-use Rattle.endpoint_node.specs.Notes.{Makes}
+use Rattle.node_steps.specs.Measures.{free_at}
+use Rattle.node_steps.specs.Notes.{Makes}
 use Rattle.rpc_laws.specs.Posting.{next_posted}
 use Rattle.rpc_laws.specs.Steps.{Chain, NotesNext}
-use Rattle.endpoint_node.specs.Handed.{timed_of}
-use Rattle.endpoint_node.specs.Leaves.{LeavesServing}
+use Rattle.node_steps.specs.Handed.{timed_of}
+use Rattle.node_steps.specs.Leaves.{LeavesServing}
 use Rattle.endpoint_node.proofs.node.Node.post_all.Given as goal
 
 abbrev pub invariant-packets : goal.invariant-packets

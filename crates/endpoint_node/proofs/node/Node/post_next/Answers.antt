@@ -4,12 +4,12 @@ use Rattle.rpc_base.specs.Tables.{at_first}
 use Rattle.rpc_laws.specs.Pacing.{delayed, is_paced}
 use Rattle.rpc_laws.specs.Sessions.{posts}
 use Rattle.session_store.specs.Effects.{request_in}
-use Rattle.endpoint_node.proofs.NodeFits.{has-paced-room, has-room}
-use Rattle.endpoint_node.proofs.PostFits.{fits-posted, node-posted}
-use Rattle.endpoint_node.proofs.PostPaces.{size-told}
-use Rattle.endpoint_node.proofs.PostSteps.{posted-fewer}
-use Rattle.endpoint_node.specs.Seen.{jobs_in}
-use Rattle.endpoint_node.proofs.PostCallers.{covers-posted}
+use Rattle.node_steps.proofs.NodeFits.{has-paced-room, has-room}
+use Rattle.node_steps.proofs.PostFits.{fits-posted, node-posted}
+use Rattle.node_steps.proofs.PostPaces.{size-told}
+use Rattle.node_steps.proofs.PostSteps.{posted-fewer}
+use Rattle.node_steps.specs.Seen.{jobs_in}
+use Rattle.node_steps.proofs.PostCallers.{covers-posted}
 use Rattle.endpoint_node.proofs.node.Node.post_next.Goals as goal
 
 pub due_of-due-requires : goal.due_of-due-requires

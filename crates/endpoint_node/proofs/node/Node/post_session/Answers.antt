@@ -1,5 +1,5 @@
 use Rattle.std.proofs.Common.{rules}
-use Rattle.endpoint_node.proofs.NoteSteps.{makes-then}
+use Rattle.node_steps.proofs.NoteSteps.{makes-then}
 use Rattle.endpoint_node.proofs.node.Node.post_session.Goals as goal
 
 pub returns : goal.returns

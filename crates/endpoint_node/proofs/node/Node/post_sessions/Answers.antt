@@ -1,8 +1,8 @@
 use Rattle.std.proofs.Common.{◌≡◌, length, ap, ◌∙◌, arith, rules}
 use Rattle.rpc_laws.specs.PollOrder.{Serves}
-use Rattle.endpoint_node.proofs.PostCallers.{all-served, serves-up}
-use Rattle.endpoint_node.proofs.NoteSteps.{makes-visit}
-use Rattle.endpoint_node.proofs.LeavesSteps.{leaves-then}
+use Rattle.node_steps.proofs.PostCallers.{all-served, serves-up}
+use Rattle.node_steps.proofs.NoteSteps.{makes-visit}
+use Rattle.node_steps.proofs.LeavesSteps.{leaves-then}
 use Rattle.endpoint_node.proofs.node.Node.post_sessions.Goals as goal
 
 pub sessions-preserved : goal.sessions-preserved

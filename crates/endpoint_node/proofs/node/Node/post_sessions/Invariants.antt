@@ -1,9 +1,9 @@
 use Rattle.std.proofs.Common.{◌≤◌, ◌-◌}
-use Rattle.endpoint_node.specs.Notes.{Makes}
+use Rattle.node_steps.specs.Notes.{Makes}
 use Rattle.rpc_laws.specs.PollOrder.{Serves}
 use Rattle.rpc_laws.specs.Steps.{Visits}
-use Rattle.endpoint_node.specs.Handed.{timed_of}
-use Rattle.endpoint_node.specs.Leaves.{LeavesServing}
+use Rattle.node_steps.specs.Handed.{timed_of}
+use Rattle.node_steps.specs.Leaves.{LeavesServing}
 use Rattle.endpoint_node.proofs.node.Node.post_sessions.Given as goal
 
 abbrev pub invariant-sessions : goal.invariant-sessions

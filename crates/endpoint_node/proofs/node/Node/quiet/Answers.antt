@@ -1,6 +1,6 @@
 use Rattle.std.proofs.Common.{◌≡◌, List, length, sym, ap, ◌∙◌, eq-eqb}
 use Rattle.std.proofs.lemmas.Bool.{false≢true}
-use Rattle.endpoint_node.proofs.StatusSteps.{no-arrivals}
+use Rattle.node_steps.proofs.StatusSteps.{no-arrivals}
 use Rattle.endpoint_node.proofs.node.Node.quiet.Goals as goal
 use Rattle.endpoint_node.proofs.node.Node.quiet.Goals.{then-is_empty, else-is_empty}
 use Rattle.endpoint_node.proofs.node.Node.quiet.Goals.{then-is_empty-2, else-is_empty-2}

@@ -1,6 +1,6 @@
 use Rattle.std.proofs.Common.{refl}
-use Rattle.endpoint_node.specs.Seen.{jobs_in}
-use Rattle.endpoint_node.proofs.ControlRemoval.{fewer-ended, fits-ended, node-ended, server-there}
+use Rattle.node_steps.specs.Seen.{jobs_in}
+use Rattle.node_steps.proofs.ControlRemoval.{fewer-ended, fits-ended, node-ended, server-there}
 use Rattle.endpoint_node.proofs.node.Node.remove_session.Goals as goal
 
 pub invariant_of-self : goal.invariant_of-self

@@ -1,11 +1,11 @@
-use Rattle.endpoint_node.proofs.LeavesSteps.{leaves-none}
+use Rattle.node_steps.proofs.LeavesSteps.{leaves-none}
 use Rattle.std.proofs.Common.{◌≡◌, Some, None, sym, refl, arith}
 use Rattle.rpc_laws.specs.declared.rows.RetryRow.TheVariants.{Asks, GivesUp, Rests}
 use Rattle.rpc_laws.specs.declared.tables.Client.{Client}
 use Rattle.rpc_laws.specs.ControlSteps.{own_request, retry_row}
-use Rattle.endpoint_node.specs.Handed.{timed_of}
-use Rattle.endpoint_node.proofs.TimerRetries.{known-at, of-known, retries-asks, retries-none}
-use Rattle.endpoint_node.proofs.TimerRetries.{retries-over, retries-rest}
+use Rattle.node_steps.specs.Handed.{timed_of}
+use Rattle.node_steps.proofs.TimerRetries.{known-at, of-known, retries-asks, retries-none}
+use Rattle.node_steps.proofs.TimerRetries.{retries-over, retries-rest}
 use Rattle.endpoint_node.proofs.node.Node.retry.Goals as goal
 
 pub returns-in_default : goal.returns-in_default

@@ -1,5 +1,5 @@
-use Rattle.endpoint_node.proofs.LeavesSteps.{leaves-then}
-use Rattle.endpoint_node.proofs.TimerRollbacks.{rolled-whole}
+use Rattle.node_steps.proofs.LeavesSteps.{leaves-then}
+use Rattle.node_steps.proofs.TimerRollbacks.{rolled-whole}
 use Rattle.endpoint_node.proofs.node.Node.roll.Goals as goal
 
 pub returns : goal.returns

@@ -1,7 +1,7 @@
 use Rattle.std.proofs.Common.{refl}
-use Rattle.endpoint_node.proofs.TimerRollbacks.{fits-rolled, may-roll, node-rolled}
-use Rattle.endpoint_node.specs.Seen.{jobs_in}
-use Rattle.endpoint_node.proofs.PostCallers.{covers-rolled}
+use Rattle.node_steps.proofs.TimerRollbacks.{fits-rolled, may-roll, node-rolled}
+use Rattle.node_steps.specs.Seen.{jobs_in}
+use Rattle.node_steps.proofs.PostCallers.{covers-rolled}
 use Rattle.endpoint_node.proofs.node.Node.roll_idle.Goals as goal
 
 pub roll-requires-clause-may : goal.roll-requires-clause-may

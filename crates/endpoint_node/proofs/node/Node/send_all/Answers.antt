@@ -1,6 +1,6 @@
 -- handing on changes nothing that a link tells
 use Rattle.std.proofs.Common.{◌∙◌}
-use Rattle.endpoint_node.proofs.NoteSteps.{none-comes}
+use Rattle.node_steps.proofs.NoteSteps.{none-comes}
 use Rattle.endpoint_node.proofs.node.Node.send_all.Goals as goal
 
 pub returns : goal.returns

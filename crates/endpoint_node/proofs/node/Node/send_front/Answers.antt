@@ -1,7 +1,7 @@
 use Rattle.std.proofs.Common.{ap}
-use Rattle.endpoint_node.proofs.SendSteps.{fits-sent, front-fewer, front-there, node-sent}
-use Rattle.endpoint_node.specs.Seen.{jobs_in}
-use Rattle.endpoint_node.proofs.PostCallers.{covers-sent}
+use Rattle.node_steps.proofs.SendSteps.{fits-sent, front-fewer, front-there, node-sent}
+use Rattle.node_steps.specs.Seen.{jobs_in}
+use Rattle.node_steps.proofs.PostCallers.{covers-sent}
 use Rattle.endpoint_node.proofs.node.Node.send_front.Goals as goal
 
 pub packet-body-requires : goal.packet-body-requires

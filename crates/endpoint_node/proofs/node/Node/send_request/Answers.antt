@@ -1,15 +1,15 @@
-use Rattle.endpoint_node.proofs.LeavesSteps.{leaves-none}
+use Rattle.node_steps.proofs.LeavesSteps.{leaves-none}
 use Rattle.std.proofs.Common.{◌≡◌, ◌<◌, Some, false, true, refl, arith}
 use Rattle.rpc_laws.specs.declared.tables.Client.{Client}
 use Rattle.rpc_laws.specs.ControlSteps.{own_request}
 use Rattle.session_store.specs.Changes.{IsClientEnd, sent_again}
-use Rattle.endpoint_node.specs.Handed.{timed_of}
-use Rattle.endpoint_node.specs.Seen.{jobs_in}
+use Rattle.node_steps.specs.Handed.{timed_of}
+use Rattle.node_steps.specs.Seen.{jobs_in}
 use Rattle.endpoint_node.specs.contracts.node.Node.{the_view}
-use Rattle.endpoint_node.proofs.PostCallers.{covers-stay}
-use Rattle.endpoint_node.proofs.TimerRetries.{fits-asked, known-at, of-known, own-untold, ranged}
-use Rattle.endpoint_node.proofs.TimerRetries.{spoken-sent, spoken-unsent}
-use Rattle.endpoint_node.proofs.SendCounts.{held-when-busy, held-when-failed, link-sent}
+use Rattle.node_steps.proofs.PostCallers.{covers-stay}
+use Rattle.node_steps.proofs.TimerRetries.{fits-asked, known-at, of-known, own-untold, ranged}
+use Rattle.node_steps.proofs.TimerRetries.{spoken-sent, spoken-unsent}
+use Rattle.node_steps.proofs.SendCounts.{held-when-busy, held-when-failed, link-sent}
 use Rattle.endpoint_node.proofs.node.Node.send_request.Goals as goal
 
 pub speak-requires : goal.speak-requires

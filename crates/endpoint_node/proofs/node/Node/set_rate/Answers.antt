@@ -1,7 +1,7 @@
 use Rattle.std.proofs.Common.{sym, ap, ◌∙◌, arith, rules, refl}
 use Rattle.rpc_laws.specs.Sessions.{is_live}
-use Rattle.endpoint_node.proofs.SessionRates.{fits-rated, live-there, node-rated, node-refused}
-use Rattle.endpoint_node.specs.Seen.{jobs_in}
+use Rattle.node_steps.proofs.SessionRates.{fits-rated, live-there, node-rated, node-refused}
+use Rattle.node_steps.specs.Seen.{jobs_in}
 use Rattle.endpoint_node.proofs.node.Node.set_rate.Goals as goal
 
 pub returns-then-not-lives-clause-step : goal.returns-then-not-lives-clause-step

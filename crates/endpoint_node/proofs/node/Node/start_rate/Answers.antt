@@ -1,5 +1,5 @@
-use Rattle.endpoint_node.proofs.LeavesSteps.{leaves-none}
-use Rattle.endpoint_node.proofs.SessionSteps.{starts-none, starts-rated}
+use Rattle.node_steps.proofs.LeavesSteps.{leaves-none}
+use Rattle.node_steps.proofs.SessionSteps.{starts-none, starts-rated}
 use Rattle.endpoint_node.proofs.node.Node.start_rate.Goals as goal
 
 pub returns-then-rate-eq0 : goal.returns-then-rate-eq0

@@ -1,9 +1,9 @@
 use Rattle.std.proofs.Common.{refl}
 use Rattle.rpc_base.specs.declared.event.Event.TheVariants.{Starved}
 use Rattle.rpc_laws.specs.declared.rows.ControlRow.TheVariants.{Starves}
-use Rattle.endpoint_node.specs.Handed.{timed_of}
+use Rattle.node_steps.specs.Handed.{timed_of}
 use Rattle.endpoint_node.specs.contracts.node.Node.{the_view}
-use Rattle.endpoint_node.proofs.ControlRows.{acts-told}
+use Rattle.node_steps.proofs.ControlRows.{acts-told}
 use Rattle.endpoint_node.proofs.node.Node.starve.Goals as goal
 
 pub returns : goal.returns

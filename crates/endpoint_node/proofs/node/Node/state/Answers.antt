@@ -1,7 +1,7 @@
 use Rattle.std.proofs.Common.{sym, ap, ◌∙◌, arith}
 use Rattle.std.proofs.lemmas.Option.{slice_get_past}
 use Rattle.rpc_laws.specs.Groups.{state_of}
-use Rattle.endpoint_node.proofs.CallSteps.{client-by}
+use Rattle.node_steps.proofs.CallSteps.{client-by}
 use Rattle.endpoint_node.proofs.node.Node.state.Goals as goal
 
 pub returns-then-i-clients : goal.returns-then-i-clients

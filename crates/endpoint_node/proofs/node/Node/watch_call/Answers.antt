@@ -1,8 +1,8 @@
 use Rattle.std.proofs.Common.{ap, subst}
 use Rattle.node_laws.specs.Valid.{NumberedFrom, client_no}
-use Rattle.endpoint_node.proofs.TimerSteps.{watch-breaks, watch-rolls, watch-waits}
-use Rattle.endpoint_node.specs.Handed.{timed_of}
-use Rattle.endpoint_node.proofs.LeavesSteps.{serving-timed, timed-none}
+use Rattle.node_steps.proofs.TimerSteps.{watch-breaks, watch-rolls, watch-waits}
+use Rattle.node_steps.specs.Handed.{timed_of}
+use Rattle.node_steps.proofs.LeavesSteps.{serving-timed, timed-none}
 use Rattle.std.proofs.Common.{refl}
 use Rattle.endpoint_node.proofs.node.Node.watch_call.Goals as goal
 

@@ -1,11 +1,11 @@
 use Rattle.std.proofs.Common.{ap}
-use Rattle.endpoint_node.proofs.TimerNext.{ascends-calls}
-use Rattle.endpoint_node.proofs.TimerCalls.{fewer-still, known-more, known-start, walk-more}
-use Rattle.endpoint_node.proofs.TimerCalls.{walk-over}
-use Rattle.endpoint_node.proofs.TimerCalls.{walk-start}
-use Rattle.endpoint_node.proofs.TimerSteps.{ends-same}
-use Rattle.endpoint_node.specs.Handed.{timed_of}
-use Rattle.endpoint_node.proofs.LeavesSteps.{timed-none, timed-then}
+use Rattle.node_steps.proofs.TimerNext.{ascends-calls}
+use Rattle.node_steps.proofs.TimerCalls.{fewer-still, known-more, known-start, walk-more}
+use Rattle.node_steps.proofs.TimerCalls.{walk-over}
+use Rattle.node_steps.proofs.TimerCalls.{walk-start}
+use Rattle.node_steps.proofs.TimerSteps.{ends-same}
+use Rattle.node_steps.specs.Handed.{timed_of}
+use Rattle.node_steps.proofs.LeavesSteps.{timed-none, timed-then}
 use Rattle.endpoint_node.proofs.node.Node.watch_calls.Goals as goal
 
 pub calls-init : goal.calls-init

@@ -1,9 +1,9 @@
 use Rattle.std.proofs.Common.{length}
-use Rattle.endpoint_node.specs.Notes.{MakesEnds}
-use Rattle.endpoint_node.specs.Timers.{calls_at}
-use Rattle.endpoint_node.proofs.TimerCalls.{Known, Walked, still}
-use Rattle.endpoint_node.specs.Handed.{timed_of}
-use Rattle.endpoint_node.specs.Leaves.{LeavesTimed}
+use Rattle.node_steps.specs.Notes.{MakesEnds}
+use Rattle.node_steps.specs.Timers.{calls_at}
+use Rattle.node_steps.proofs.TimerCalls.{Known, Walked, still}
+use Rattle.node_steps.specs.Handed.{timed_of}
+use Rattle.node_steps.specs.Leaves.{LeavesTimed}
 use Rattle.endpoint_node.proofs.node.Node.watch_calls.Given as goal
 
 abbrev pub invariant-calls : goal.invariant-calls

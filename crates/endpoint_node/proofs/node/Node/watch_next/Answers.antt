@@ -1,9 +1,9 @@
 use Rattle.std.proofs.Common.{ap, refl, arith, length, List, ◌<◌}
 use Rattle.std.specs.Prelude.{slice_get}
 use Rattle.rpc_laws.specs.declared.tables.Client.{Client}
-use Rattle.endpoint_node.proofs.TimerNext.{active-of, ascends-calls, next-calls, next-none}
-use Rattle.endpoint_node.proofs.TimerNext.{number-none, number-some}
-use Rattle.endpoint_node.proofs.LeavesSteps.{timed-none}
+use Rattle.node_steps.proofs.TimerNext.{active-of, ascends-calls, next-calls, next-none}
+use Rattle.node_steps.proofs.TimerNext.{number-none, number-some}
+use Rattle.node_steps.proofs.LeavesSteps.{timed-none}
 use Rattle.endpoint_node.proofs.node.Node.watch_next.Goals as goal
 
 pub returns-in_default-clause-looks : goal.returns-in_default-clause-looks

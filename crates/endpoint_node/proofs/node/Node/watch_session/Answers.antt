@@ -1,9 +1,9 @@
 use Rattle.std.proofs.Common.{ap, arith, length, refl, rules, ◌≤◌}
 use Rattle.rpc_laws.specs.ControlSteps.{TimesSession}
-use Rattle.endpoint_node.specs.Leaves.{LeavesServing}
-use Rattle.endpoint_node.proofs.LeavesSteps.{serving-timed, timed-none, timed-then}
-use Rattle.endpoint_node.proofs.TimerSessions.{session-times, times-none}
-use Rattle.endpoint_node.proofs.TimerSteps.{session-none}
+use Rattle.node_steps.specs.Leaves.{LeavesServing}
+use Rattle.node_steps.proofs.LeavesSteps.{serving-timed, timed-none, timed-then}
+use Rattle.node_steps.proofs.TimerSessions.{session-times, times-none}
+use Rattle.node_steps.proofs.TimerSteps.{session-none}
 use Rattle.endpoint_node.proofs.node.Node.watch_session.Goals as goal
 
 pub returns-then-i-clients-clause-step : goal.returns-then-i-clients-clause-step

@@ -1,5 +1,5 @@
 use Rattle.session_store.proofs.ListLemmas.{get-there}
-use Rattle.endpoint_node.proofs.SessionRates.{set-at}
+use Rattle.node_steps.proofs.SessionRates.{set-at}
 use Rattle.endpoint_node.proofs.node.rates.set_rate_at.Goals as goal
 
 pub returns : goal.returns

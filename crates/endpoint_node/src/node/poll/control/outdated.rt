@@ -1,6 +1,6 @@
 //! A connect request ends the server sessions of older lives of its sender's node.
-ghost use Rattle.endpoint_node.specs.Steps.{StepsControl};
-ghost use Rattle.endpoint_node.specs.Changes.{◌⟶◌};
+ghost use Rattle.node_steps.specs.Steps.{StepsControl};
+ghost use Rattle.node_steps.specs.Changes.{◌⟶◌};
 ghost use Rattle.std.specs.Prelude.{◌≡◌, ◌<◌, length, slice_get, IfSome, None};
 ghost use Rattle.rpc_laws.specs.ControlSteps.{EndsAllOutdated};
 ghost use Rattle.rpc_laws.specs.ControlTable.{outdated};

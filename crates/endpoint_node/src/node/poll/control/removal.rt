@@ -1,11 +1,11 @@
 //! The end of a server session: the queued replies to its requests are taken out, slot by slot, and
 //! then its buffers leave the pool.
-ghost use Rattle.endpoint_node.specs.Steps.{FlushesOne, IsFlushed, StepsReplies, StepsControl};
-ghost use Rattle.endpoint_node.specs.Changes.{◌⟶◌};
+ghost use Rattle.node_steps.specs.Steps.{FlushesOne, IsFlushed, StepsReplies, StepsControl};
+ghost use Rattle.node_steps.specs.Changes.{◌⟶◌};
 ghost use Rattle.std.specs.Prelude.{◌≡◌, ◌<◌, false, length, slice_get, true, IfSome};
-ghost use Rattle.endpoint_node.specs.Ends.{LeavesSessions, ending, flushing_slot, flushing_slots};
-ghost use Rattle.endpoint_node.specs.Ends.{leaving};
-ghost use Rattle.endpoint_node.specs.Timers.{Notes, flushing};
+ghost use Rattle.node_steps.specs.Ends.{LeavesSessions, ending, flushing_slot, flushing_slots};
+ghost use Rattle.node_steps.specs.Ends.{leaving};
+ghost use Rattle.node_steps.specs.Timers.{Notes, flushing};
 ghost use Rattle.rpc_laws.specs.Queues.{is_reply};
 ghost use Rattle.session_store.specs.Changes.{IsDrained};
 

@@ -1,8 +1,8 @@
 //! What a reply to a client session's own request does at a node, and what the node has of the
 //! session.
-ghost use Rattle.endpoint_node.specs.Wants.{StandsIn};
-ghost use Rattle.endpoint_node.specs.Steps.{StepsControl};
-ghost use Rattle.endpoint_node.specs.Changes.{◌⟶◌};
+ghost use Rattle.node_steps.specs.Wants.{StandsIn};
+ghost use Rattle.node_steps.specs.Steps.{StepsControl};
+ghost use Rattle.node_steps.specs.Changes.{◌⟶◌};
 ghost use Rattle.std.specs.Prelude.{◌≡◌, ◌<◌, ◌≤◌, option_map, Some};
 ghost use Rattle.std.specs.List.{find};
 ghost use Rattle.rpc_base.specs.declared.event.Event.TheVariants.{ClosedHeard, FailedNoRoom};

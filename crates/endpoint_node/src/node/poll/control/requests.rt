@@ -1,15 +1,15 @@
 //! What a connect or disconnect request does at a node, and what the node has of its server
 //! sessions.
-ghost use Rattle.endpoint_node.specs.Wants.{FitsServer};
-ghost use Rattle.endpoint_node.specs.Steps.{StepsControl};
-ghost use Rattle.endpoint_node.specs.Changes.{◌⟶◌};
+ghost use Rattle.node_steps.specs.Wants.{FitsServer};
+ghost use Rattle.node_steps.specs.Steps.{StepsControl};
+ghost use Rattle.node_steps.specs.Changes.{◌⟶◌};
 ghost use Rattle.std.specs.Prelude.{◌≡◌, ◌<◌, ◌≤◌, length, option_map, slice_get, true, IfOk, Bool};
 ghost use Rattle.std.specs.Prelude.{IfSome, None, OnErr, OnOk, Some, is_some};
 ghost use Rattle.std.specs.List.{find};
-ghost use Rattle.endpoint_node.specs.ControlRows.{Acts, Controls};
-ghost use Rattle.endpoint_node.specs.Handed.{timed_of};
-ghost use Rattle.endpoint_node.specs.Leaves.{LeavesPackets};
-ghost use Rattle.endpoint_node.specs.Notes.{Makes};
+ghost use Rattle.node_steps.specs.ControlRows.{Acts, Controls};
+ghost use Rattle.node_steps.specs.Handed.{timed_of};
+ghost use Rattle.node_steps.specs.Leaves.{LeavesPackets};
+ghost use Rattle.node_steps.specs.Notes.{Makes};
 ghost use Rattle.memory_count.specs.Faults.{HasCause};
 ghost use Rattle.packet_header.specs.Header.{ControlInRange};
 ghost use Rattle.rpc_base.specs.declared.event.Event.TheVariants.{Accepted};

@@ -1,8 +1,8 @@
 //! What a control packet does at a node: its row of the control rule is found and done.
-ghost use Rattle.endpoint_node.specs.Steps.{StepsControl};
-ghost use Rattle.endpoint_node.specs.Changes.{◌⟶◌};
+ghost use Rattle.node_steps.specs.Steps.{StepsControl};
+ghost use Rattle.node_steps.specs.Changes.{◌⟶◌};
 ghost use Rattle.std.specs.Prelude.{◌≡◌, Bool, IfSome};
-ghost use Rattle.endpoint_node.specs.ControlRows.{Controls};
+ghost use Rattle.node_steps.specs.ControlRows.{Controls};
 ghost use Rattle.packet_header.specs.Header.{ControlInRange};
 ghost use Rattle.rpc_laws.specs.ControlTable.{control_reply, control_row};
 ghost use Rattle.session_mgmt.specs.Control.{HasCause, found_in, starved_if};

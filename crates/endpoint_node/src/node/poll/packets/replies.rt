@@ -1,11 +1,11 @@
 //! Step 3 of a poll, for replies: a CR or Response in front of the receive ring is handled.
-ghost use Rattle.endpoint_node.specs.Handed.{timed_of};
-ghost use Rattle.endpoint_node.specs.Leaves.{LeavesServing};
+ghost use Rattle.node_steps.specs.Handed.{timed_of};
+ghost use Rattle.node_steps.specs.Leaves.{LeavesServing};
 ghost use Rattle.session_store.specs.Handing.{HandsBackIf};
 ghost use Rattle.std.specs.Prelude.{◌≡◌, ◌≢◌, ◌+◌, [], None, Some, IfSome, drop, length};
 ghost use Rattle.client_core.specs.Shown.{done_event, end_bytes};
-ghost use Rattle.endpoint_node.specs.Replies.{Drops, HearsReply};
-ghost use Rattle.endpoint_node.specs.Notes.{Makes};
+ghost use Rattle.node_steps.specs.Replies.{Drops, HearsReply};
+ghost use Rattle.node_steps.specs.Notes.{Makes};
 ghost use Rattle.packet_header.specs.Header.{MessageInRange, MessageLength};
 ghost use Rattle.packet_header.specs.Reading.{body_of};
 ghost use Rattle.rpc_laws.specs.Front.{front_body, front_header};

@@ -1,15 +1,16 @@
 //! Step 3 of a poll, for requests: a Request or RFR in front of the receive ring is handled.
-ghost use Rattle.endpoint_node.specs.Changes.{◌⟶◌};
-ghost use Rattle.endpoint_node.specs.Fronts.{ServesFront, AsksInFront};
+ghost use Rattle.node_steps.specs.Changes.{◌⟶◌};
+ghost use Rattle.node_steps.specs.Fronts.{ServesFront, AsksInFront};
 ghost use Rattle.std.specs.Prelude.{◌≡◌, ◌<◌, ◌+◌, Some, IfSome, slice_get};
 ghost use Rattle.std.specs.List.{position};
 ghost use Rattle.rpc_laws.specs.Jobs.{are_full};
 ghost use Rattle.rpc_laws.specs.Queues.{replies};
 ghost use Rattle.rpc_laws.specs.Requests.{is_server};
 
+use crate::node::Node;
 use crate::node::poll::packets::replies::body;
-use crate::node::{JobName, Node};
 use memory_count::Memory;
+use node_steps::JobName;
 use packet_header::MessageHeader;
 use rpc_base::{DropReason, HEAD_BYTES, MOST_GIVEN};
 use rpc_outside::{Recorder, Service};

@@ -1,9 +1,9 @@
 //! Client sessions send their own requests: to connect, and to disconnect.
-ghost use Rattle.endpoint_node.specs.Wants.{StandsIn};
-ghost use Rattle.endpoint_node.specs.Steps.{StepsSpoken, Steps};
-ghost use Rattle.endpoint_node.specs.Changes.{◌⟶◌};
+ghost use Rattle.node_steps.specs.Wants.{StandsIn};
+ghost use Rattle.node_steps.specs.Steps.{StepsSpoken, Steps};
+ghost use Rattle.node_steps.specs.Changes.{◌⟶◌};
 ghost use Rattle.std.specs.Prelude.{◌≡◌, ◌<◌, false, length, slice_get, IfSome, Some};
-ghost use Rattle.endpoint_node.specs.Links.{GivesUpAt, SendsRequest};
+ghost use Rattle.node_steps.specs.Links.{GivesUpAt, SendsRequest};
 ghost use Rattle.rpc_base.specs.declared.event.Event.TheVariants.{ClosedUnheard, FailedNoAnswer};
 ghost use Rattle.rpc_base.specs.declared.state.SessionState.TheVariants.{Closing, Connecting};
 ghost use Rattle.rpc_laws.specs.ControlSteps.{Retries, own_request, retry_row};
@@ -11,20 +11,12 @@ ghost use Rattle.rpc_laws.specs.Steps.{NotesNext};
 
 use crate::node::Node;
 use crate::node::poll::link::speak;
+use node_steps::Asking;
 use packet_header::ControlHeader;
 use rpc_base::{Event, SessionNo, SessionState, Who};
 use rpc_laws::{RetryRow, Way};
 use rpc_outside::{Link, Recorder};
 use session_mgmt::{own_request, retry_row};
-
-/// What came of the requests of sessions.
-#[derive(Clone, Copy, Debug, PartialEq, Eq)]
-pub struct Asking {
-    /// How many were sent.
-    pub sent: u32,
-    /// Whether the link failed.
-    pub failed: bool,
-}
 
 impl Node {
     // Session `i`, which is Connecting, failed, since no answer came to its request.

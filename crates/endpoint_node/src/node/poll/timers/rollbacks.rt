@@ -1,13 +1,13 @@
 //! A call is rolled back, and a session breaks: queued packets are taken out, the session changes,
 //! and what happened is noted.
-ghost use Rattle.endpoint_node.specs.Wants.{CanRoll, CanBreak};
-ghost use Rattle.endpoint_node.specs.Steps.{LeavesLost, IsFlushed, FlushesOne, StepsFlushed};
-ghost use Rattle.endpoint_node.specs.Steps.{StepsEnds, Steps};
-ghost use Rattle.endpoint_node.specs.Changes.{◌⟶◌};
-ghost use Rattle.endpoint_node.specs.Leaves.{LeavesServing};
+ghost use Rattle.node_steps.specs.Wants.{CanRoll, CanBreak};
+ghost use Rattle.node_steps.specs.Steps.{LeavesLost, IsFlushed, FlushesOne, StepsFlushed};
+ghost use Rattle.node_steps.specs.Steps.{StepsEnds, Steps};
+ghost use Rattle.node_steps.specs.Changes.{◌⟶◌};
+ghost use Rattle.node_steps.specs.Leaves.{LeavesServing};
 ghost use Rattle.std.specs.Prelude.{◌≡◌, ◌<◌, [], true, false, length, slice_get};
-ghost use Rattle.endpoint_node.specs.Timers.{EndsOne, HasLost, Notes, breaking, breaking_off};
-ghost use Rattle.endpoint_node.specs.Timers.{flushing, flushing_all, rolling, rolling_back};
+ghost use Rattle.node_steps.specs.Timers.{EndsOne, HasLost, Notes, breaking, breaking_off};
+ghost use Rattle.node_steps.specs.Timers.{flushing, flushing_all, rolling, rolling_back};
 ghost use Rattle.rpc_base.specs.declared.owner.Owner.TheVariants.{Ask};
 ghost use Rattle.session_store.specs.Changes.{IsConnected, IsIdle, IsLost, calls_in};
 
@@ -30,8 +30,8 @@ fn lose_next<K: Continuation, R: Recorder>(
     requires known { i < length store.old.clients }
     requires lost { IsLost (slice_get store.old.clients i) }
     requires idle { IsIdle i store.old.queued }
-    ensures ends { result ≡ true → EndsOne R.log K.given me i store.old.clients
-        store.new.clients rec.old rec.new k.old k.new }
+    ensures ends { result ≡ true → EndsOne R.log K.given me i
+        (store.old.clients ⟶ store.new.clients) (rec.old ⟶ rec.new) (k.old ⟶ k.new) }
     ensures none { result ≡ false → calls_in (slice_get store.old.clients i) ≡ [] }
     ensures unchanged { result ≡ false → store.new.clients ≡ store.old.clients }
     ensures silent { result ≡ false → rec.new ≡ rec.old }
@@ -60,8 +60,8 @@ fn lose_session<K: Continuation, R: Recorder>(
     requires numbered { i < SESSION_NUMBERS }
     requires connected { IsConnected (slice_get store.old.clients i) }
     requires idle { IsIdle i store.old.queued }
-    ensures lost { HasLost R.log K.given me i [] store.old.clients store.new.clients
-        rec.old rec.new k.old k.new }
+    ensures lost { HasLost R.log K.given me i [] (store.old.clients ⟶ store.new.clients)
+        (rec.old ⟶ rec.new) (k.old ⟶ k.new) }
     ensures rest { LeavesLost K.given (store.old ⟶ store.new) (k.old ⟶ k.new) }
 {
     store.lose_peer(i);

@@ -1,6 +1,6 @@
 use Rattle.std.proofs.Common.{sym, ap, ◌∙◌, arith}
-use Rattle.endpoint_node.specs.Jobs.{is_named}
-use Rattle.endpoint_node.proofs.JobsPlace.{walk-here, walk-more, walk-none}
+use Rattle.node_steps.specs.Jobs.{is_named}
+use Rattle.node_steps.proofs.JobsPlace.{walk-here, walk-more, walk-none}
 use Rattle.endpoint_node.proofs.node.poll.jobs.place_of_job.Goals as goal
 
 pub returns-then-is_of : goal.returns-then-is_of

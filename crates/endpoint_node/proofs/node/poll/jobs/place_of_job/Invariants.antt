@@ -1,6 +1,6 @@
 use Rattle.std.proofs.Common.{◌≤◌}
 use Rattle.std.specs.List.{position_or_len}
-use Rattle.endpoint_node.specs.Jobs.{is_named}
+use Rattle.node_steps.specs.Jobs.{is_named}
 use Rattle.endpoint_node.proofs.node.poll.jobs.place_of_job.Given as goal
 
 abbrev pub invariant-jobs : goal.invariant-jobs

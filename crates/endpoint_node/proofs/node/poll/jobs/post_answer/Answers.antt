@@ -1,5 +1,5 @@
 use Rattle.std.proofs.Common.{sym, ◌∙◌}
-use Rattle.endpoint_node.proofs.JobsSteps.{session-there}
+use Rattle.node_steps.proofs.JobsSteps.{session-there}
 use Rattle.endpoint_node.proofs.node.poll.jobs.post_answer.Goals as goal
 
 pub on_finished-requires-clause-session : goal.on_finished-requires-clause-session

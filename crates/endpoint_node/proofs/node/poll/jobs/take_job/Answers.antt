@@ -1,7 +1,7 @@
 use Rattle.std.proofs.Common.{sym, ◌∙◌}
 use Rattle.rpc_base.proofs.TablesLemmas.{find-found, find-missing, without_first-found}
 use Rattle.rpc_base.proofs.TablesLemmas.{without_first-missing}
-use Rattle.endpoint_node.specs.Jobs.{is_named}
+use Rattle.node_steps.specs.Jobs.{is_named}
 use Rattle.endpoint_node.proofs.node.poll.jobs.take_job.Goals as goal
 
 pub returns-in_default-clause-found : goal.returns-in_default-clause-found

@@ -1,5 +1,5 @@
 use Rattle.session_store.proofs.ListLemmas.{get-there, set-own}
-use Rattle.endpoint_node.proofs.PostPaces.{changed-paced, no-rate, some-rate}
+use Rattle.node_steps.proofs.PostPaces.{changed-paced, no-rate, some-rate}
 use Rattle.std.proofs.Common.{false, true, refl}
 use Rattle.endpoint_node.proofs.node.poll.posts.delay.Goals as goal
 

@@ -1,5 +1,5 @@
 use Rattle.session_store.proofs.ListLemmas.{get-there}
-use Rattle.endpoint_node.proofs.PostPaces.{found-paced, no-rate, some-rate}
+use Rattle.node_steps.proofs.PostPaces.{found-paced, no-rate, some-rate}
 use Rattle.std.proofs.Common.{Some, ap, false, true, refl}
 use Rattle.endpoint_node.proofs.node.poll.posts.due_of.Goals as goal
 

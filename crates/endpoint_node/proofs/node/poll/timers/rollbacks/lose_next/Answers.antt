@@ -1,7 +1,7 @@
 use Rattle.std.proofs.Common.{ap, refl}
 use Rattle.std.specs.Prelude.{option_map}
-use Rattle.endpoint_node.proofs.TimerLosses.{none-lost, one-lost}
-use Rattle.endpoint_node.proofs.HandedBack.{gives-one, gives-same}
+use Rattle.node_steps.proofs.TimerLosses.{none-lost, one-lost}
+use Rattle.node_steps.proofs.HandedBack.{gives-one, gives-same}
 use Rattle.endpoint_node.proofs.node.poll.timers.rollbacks.lose_next.Goals as goal
 
 pub returns-in_default-clause-none : goal.returns-in_default-clause-none
