@@ -22,9 +22,9 @@ use Rattle.deferred_calls.specs.Desks.{Jobs, out_of, parcel_of}
 use Rattle.deferred_calls.specs.Moves.{HandsOut}
 use Rattle.deferred_calls.specs.Law.{Call, Does, Runs, gives, hands, answers, takes}
 use Rattle.deferred_calls.proofs.OutLemmas.{answered_out}
-use Rattle.endpoint_node.specs.Jobs.{AreStaffed, staff_of}
+use Rattle.node_steps.specs.Jobs.{AreStaffed, staff_of}
 use Rattle.endpoint_loop.specs.Endpoints.{Running, asks_of, told}
-use Rattle.endpoint_node.specs.Seen.{Asks, with_ask}
+use Rattle.node_steps.specs.Seen.{Asks, with_ask}
 use Rattle.endpoint_loop.specs.Stands.{StandsFor}
 use Rattle.endpoint_loop.proofs.PollCrew.{same-told, staffed-told}
 use Rattle.desk_laws.specs.Staying.{desk_members, IsOfHandles, StandsOn, with_desk}

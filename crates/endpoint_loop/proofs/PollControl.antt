@@ -24,9 +24,9 @@ use Rattle.rpc_laws.specs.ControlTable.{session_end, session_flushes}
 use Rattle.rpc_laws.specs.Requests.{in_slot_of}
 use Rattle.rpc_laws.specs.ServerTable.{flushes}
 use Rattle.rpc_laws.specs.Steps.{Then}
-use Rattle.endpoint_node.proofs.NoteStill.{AllStill, Stills, said-still, still-append, still-chain}
-use Rattle.endpoint_node.proofs.NoteStill.{still-then}
-use Rattle.endpoint_node.proofs.NoteCounts.{flushes-none}
+use Rattle.node_steps.proofs.NoteStill.{AllStill, Stills, said-still, still-append, still-chain}
+use Rattle.node_steps.proofs.NoteStill.{still-then}
+use Rattle.node_steps.proofs.NoteCounts.{flushes-none}
 
 -- what is noted after a Heard
 module _ (q : Event → Bool) (flushed : (o : Owner) (k : ℕ) → q (Flushed o k) ≡ false)

@@ -12,11 +12,11 @@ use Rattle.rpc_laws.specs.declared.tables.Job.{Job}
 use Rattle.rpc_laws.specs.declared.tables.Timed.{Timed}
 use Rattle.rpc_laws.specs.Jobs.{is_job}
 use Rattle.worker_crew.specs.Jobs.{Job as CrewJob}
-use Rattle.endpoint_node.specs.Jobs.{AreStaffed, asked_job, CanFinish, Staff}
+use Rattle.node_steps.specs.Jobs.{AreStaffed, asked_job, CanFinish, Staff}
 use Rattle.endpoint_loop.specs.Endpoints.{asks_of, asked_in, is_job_of, IsStaffed, told}
-use Rattle.endpoint_node.specs.Seen.{Asks, asking, with_ask}
-use Rattle.endpoint_node.proofs.JobsCrew.{by-counts, none-any, none-sum}
-use Rattle.endpoint_node.proofs.JobsSteps.{whose-job}
+use Rattle.node_steps.specs.Seen.{Asks, asking, with_ask}
+use Rattle.node_steps.proofs.JobsCrew.{by-counts, none-any, none-sum}
+use Rattle.node_steps.proofs.JobsSteps.{whose-job}
 
 module _ (asks : Asks) (out : List CrewJob) (jobs : List Job)
     (same : (count : CrewJob → ℕ)

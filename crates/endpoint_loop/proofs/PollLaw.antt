@@ -53,42 +53,45 @@ use Rattle.node_laws.specs.Kept.{Kept}
 use Rattle.server_core.proofs.FlushLemmas.{grew-then}
 use Rattle.worker_board.specs.declared.Parcel.{Parcel}
 use Rattle.worker_crew.specs.Jobs.{Job as CrewJob}
-use Rattle.endpoint_node.proofs.HandedGiven.{gave-then}
-use Rattle.endpoint_node.specs.Changes.{◌⟶◌}
-use Rattle.endpoint_node.specs.Lacks.{is_lack, lacks_in}
+use Rattle.node_steps.proofs.HandedGiven.{gave-then}
+use Rattle.node_steps.specs.Changes.{◌⟶◌}
+use Rattle.node_steps.specs.Lacks.{is_lack, lacks_in}
 use Rattle.endpoint_loop.specs.Polls.{CountsTurn}
-use Rattle.endpoint_node.specs.Counts.{is_handled, is_sent}
+use Rattle.node_steps.specs.Counts.{is_handled, is_sent}
 use Rattle.endpoint_loop.specs.declared.endpoint.poll.Turn.{Turn}
-use Rattle.endpoint_node.specs.Jobs.{Agree, AllBackground, AreStaffed, FinishesThese, FinishesTaken}
-use Rattle.endpoint_node.specs.Jobs.{MakesFinished, NoneBack, Staff, staff_of}
-use Rattle.endpoint_node.specs.Packets.{HandlesWith, MakesAllHandled, WorksFor}
-use Rattle.endpoint_node.specs.Packets.{with_all_given}
-use Rattle.endpoint_node.specs.Notes.{is_end, is_end_event, Makes, MakesSent, sent_of}
+use Rattle.node_steps.specs.Jobs.{Agree, AllBackground, AreStaffed, FinishesThese, FinishesTaken}
+use Rattle.node_steps.specs.Jobs.{MakesFinished, NoneBack, Staff, staff_of}
+use Rattle.node_steps.specs.Packets.{HandlesWith, MakesAllHandled, WorksFor}
+use Rattle.node_steps.specs.Packets.{with_all_given}
+use Rattle.node_steps.specs.Notes.{is_end, is_end_event, Makes, MakesSent, sent_of}
 use Rattle.endpoint_loop.specs.Polls.{FinishesBack, held_in, is_stopped}
-use Rattle.endpoint_node.specs.Links.{left_one}
+use Rattle.node_steps.specs.Links.{left_one}
 use Rattle.endpoint_loop.specs.Polls.{MakesPoll, PollsWith, SendsUntil, TellsOfPoll, turn_of}
 use Rattle.endpoint_loop.specs.Polls.{turn_told, wire_of}
-use Rattle.endpoint_node.specs.declared.node.poll.sends.Sending.{Sending}
+use Rattle.node_steps.specs.declared.told.Sending.{Sending}
 use Rattle.endpoint_loop.specs.Endpoints.{asks_of, IsServing, IsStaffed, told, crew_of}
-use Rattle.endpoint_node.specs.Seen.{Asks, asking, with_ask}
-use Rattle.endpoint_node.specs.Requests.{AllServed, IsNoWant, SparesShort, job_named, ring_left}
-use Rattle.endpoint_node.specs.Links.{FailedAs, HeldBack, is_unsent, LinkTook}
-use Rattle.endpoint_node.specs.Links.{troubles_of}
-use Rattle.endpoint_node.specs.Timers.{MakesTimes}
-use Rattle.endpoint_node.specs.Control.{Listens}
-use Rattle.endpoint_node.specs.declared.node.poll.control.Listening.{Listening}
-use Rattle.endpoint_node.specs.declared.node.poll.timers.retries.Asking.{Asking}
-use Rattle.endpoint_node.proofs.PacketCrew.{ones, staffed-still}
-use Rattle.endpoint_node.proofs.ShortLemmas.{spares-append, spares-calm}
+use Rattle.node_steps.specs.Seen.{Asks, asking, with_ask}
+use Rattle.node_steps.specs.Requests.{AllServed, IsNoWant, SparesShort, job_named, ring_left}
+use Rattle.node_steps.specs.Links.{FailedAs, HeldBack, is_unsent, LinkTook}
+use Rattle.node_steps.specs.Links.{troubles_of}
+use Rattle.node_steps.specs.Timers.{MakesTimes}
+use Rattle.node_steps.specs.Control.{Listens}
+use Rattle.node_steps.specs.declared.told.Listening.{Listening}
+use Rattle.node_steps.specs.declared.told.Asking.{Asking}
+use Rattle.node_steps.proofs.PacketCrew.{ones, staffed-still}
+use Rattle.node_steps.proofs.ShortLemmas.{spares-append, spares-calm}
 use Rattle.endpoint_loop.proofs.PollControl.{hears-still}
-use Rattle.endpoint_node.proofs.NoteSteps.{sent-append, took-then}
-use Rattle.endpoint_node.proofs.SendCounts.{both, held-more, link-both, link-still, nothing}
-use Rattle.endpoint_node.proofs.NoteStill.{AllStill, closes-still, posts-still, sends-still}
-use Rattle.endpoint_node.proofs.NoteStill.{still-append, still-none, times-still}
+use Rattle.node_steps.proofs.NoteSteps.{sent-append, took-then}
+use Rattle.node_steps.proofs.SendCounts.{both, held-more, link-both, link-still, nothing}
+use Rattle.node_steps.proofs.NoteStill.{AllStill, closes-still, posts-still, sends-still}
+use Rattle.node_steps.proofs.NoteStill.{still-append, still-none, times-still}
 use Rattle.endpoint_loop.proofs.PollCrew.{same-told, staffed-told}
-use Rattle.endpoint_node.proofs.NoteCounts.{handled-count, handled-elsewhere, handled-unsaid}
-use Rattle.endpoint_node.proofs.NoteCounts.{handled-unsent, is_elsewhere, many, many-append}
-use Rattle.endpoint_node.proofs.NoteCounts.{many-none, sent-after, sent-before, sent-count}
+use Rattle.node_steps.proofs.NoteCounts.{handled-count, handled-elsewhere, handled-unsaid}
+use Rattle.node_steps.proofs.NoteCounts.{handled-unsent, is_elsewhere, many, many-append}
+use Rattle.node_steps.specs.Requests.{service_change}
+use Rattle.node_steps.specs.Jobs.{staff_change}
+use Rattle.endpoint_loop.specs.Bounds.{bounds}
+use Rattle.node_steps.proofs.NoteCounts.{many-none, sent-after, sent-before, sent-count}
 
 -- whether a handler ran, or a life began, in which none did
 abbrev pub is_ran : Event → Bool
@@ -409,23 +412,25 @@ module _ {R K L V W : Type 0} (log : R → Log)
     (service : Service.Ghosts V) (workers : Workers.Ghosts W) (works : WorksFor workers.answer (rules_of service)) (now : ℕ) (n0 n1 n2 n3 n4 n5 n6 n7 : Timed) (w0 w1 w2 : W)
     (s0 s1 : V) (r0 rf r1 r2 r3 r4 r5 r6 : R) (k0 k1 k2 : K) (l0 l1 l2 l3 : L) (m0 m1 m2 : ℕ)
     (background : AllBackground service.mode_of n0.lists.jobs.out)
-    (finish : MakesFinished log workers.answer (crew_of workers w0).staff.out (crew_of workers w1).staff.out
-    (crew_of workers w0).worked (crew_of workers w1).worked (raised now n0) n1 r0 rf)
+    (finish : MakesFinished log workers.answer
+    ((crew_of workers w0).staff.out ⟶ (crew_of workers w1).staff.out)
+    ((crew_of workers w0).worked ⟶ (crew_of workers w1).worked) (raised now n0 ⟶ n1) (r0 ⟶ rf))
     (over : (n1.lists.room ≤ replies n1.lists.queued)
     ⊎ NoneBack (crew_of workers w1).worked (length (crew_of workers w1).staff.out) (crew_of workers w0).looks (crew_of workers w1).looks)
     (limit : (crew_of workers w1).staff.limit ≡ (crew_of workers w0).staff.limit)
     (given_is : (crew_of workers w1).staff.given ≡ (crew_of workers w0).staff.given)
     (waiting : (crew_of workers w1).staff.waiting ≡ (crew_of workers w0).staff.waiting)
     (heard_told : Listening) (asked_told : Asking)
-    (hear : Listens log net HearsAll heard_told n1 n2 rf r1 l0 l1 (m0 ⟶ m1))
+    (hear : Listens log net HearsAll heard_told (n1 ⟶ n2) (rf ⟶ r1) (l0 ⟶ l1) (m0 ⟶ m1))
     (heard_jobs : n2.lists.jobs ≡ n1.lists.jobs) (heard_me : n2.lists.me ≡ n1.lists.me)
     (heard_ring : n2.lists.ring ≡ n1.lists.ring)
     (inbox : n2.lists.inbox ≡ [])
-    (handle : MakesAllHandled log given (staff_of workers) (rules_of service) (service.stands s0) (service.stands s1)
-    workers.answer (HandlesAll service.mode_of) n2 n3 r1 r2 k0 k1 w1 w2 (m1 ⟶ m2))
+    (handle : MakesAllHandled log given (service_change service (s0 ⟶ s1))
+    (staff_change workers (w1 ⟶ w2)) (HandlesAll service.mode_of) (n2 ⟶ n3) (r1 ⟶ r2) (k0 ⟶ k1)
+    (m1 ⟶ m2))
     (worked : (crew_of workers w2).worked ≡ (crew_of workers w1).worked) (looks : (crew_of workers w2).looks ≡ (crew_of workers w1).looks)
     (me : n3.lists.me ≡ n2.lists.me)
-    (watch : MakesTimes log given net TimesAll asked_told n3 n4 r2 r3 k1 k2 l1 l2)
+    (watch : MakesTimes log given net TimesAll asked_told (n3 ⟶ n4) (r2 ⟶ r3) (k1 ⟶ k2) (l1 ⟶ l2))
     (post : Makes log PostsAll n4 n5 r3 r4)
     (send : MakesSent log net.sent SendsSome n5 n6 r4 r5 l2 l3)
     (held : HeldBack (left_one (line n6.clock n6.lists.queued)) (troubles_of net l2) (troubles_of net l3))
@@ -883,9 +888,8 @@ module _ {R K L V W : Type 0} (log : R → Log)
         ))
         (both-risen (lacks_in heard) (lacks_in handle.noted) m0 m1 m2 hear.wants handle.wants)
 
-    tells : TellsOfPoll given (rules_of service) (service.stands s0) (service.stands s1) turn
-        (wire_of net l0)
-        (wire_of net l3) n0.lists.ring me0 noted n7 k0 k2 (m0 ⟶ m2)
+    tells : TellsOfPoll given (service_change service (s0 ⟶ s1)) turn
+        (wire_of net l0 ⟶ wire_of net l3) (n0 ⟶ n7) noted (k0 ⟶ k2) (m0 ⟶ m2)
     tells = record {
       answers = answers;
       dones = handle.dones ++ watch.ends.dones;
@@ -899,11 +903,10 @@ module _ {R K L V W : Type 0} (log : R → Log)
     }
 
   pub makes-poll : (h0 h7 : List (List Handed))
-      → MakesPoll log given service workers turn now
-      (wire_of net l0)
-      (wire_of net l3)
-      (record { timed = n0; handed = h0; service = s0; workers = w0 })
-      (record { timed = n7; handed = h7; service = s1; workers = w2 }) r0 r6 k0 k2 (m0 ⟶ m2)
+      → MakesPoll (bounds log given service workers) turn now (wire_of net l0 ⟶ wire_of net l3)
+      ((record { timed = n0; handed = h0; service = s0; workers = w0 })
+      ⟶ (record { timed = n7; handed = h7; service = s1; workers = w2 })) (r0 ⟶ r6) (k0 ⟶ k2)
+      (m0 ⟶ m2)
   makes-poll h0 h7 = record {
     noted = noted;
     grew = grew-then log r0 rf r6 finish.noted _ finish.grew

@@ -46,31 +46,32 @@ use Rattle.session_mgmt.specs.declared.answers.ConnectError.{ConnectError}
 use Rattle.session_mgmt.specs.declared.answers.ConnectError.TheVariants.{NoMemory, NumbersSpent}
 use Rattle.session_mgmt.specs.declared.answers.ConnectError.TheVariants.{RingFull}
 use Rattle.worker_board.specs.declared.Parcel.{Parcel}
-use Rattle.endpoint_node.specs.Pairs.{IfNoMemory, PairsClient, PairsServer}
+use Rattle.node_steps.specs.Pairs.{IfNoMemory, PairsClient, PairsServer}
 use Rattle.endpoint_loop.specs.Endpoints.{Leaves}
-use Rattle.endpoint_node.specs.Pairs.{UnlessNoMemory, or_refused}
-use Rattle.endpoint_node.specs.Asks.{IfWanting, UnlessWanting}
-use Rattle.endpoint_node.specs.Changes.{Change}
-use Rattle.endpoint_node.specs.declared.node.calls.AskError.{AskError}
-use Rattle.endpoint_node.specs.declared.node.calls.AskError.TheVariants.{NoMemory as AskWanting}
-use Rattle.endpoint_node.specs.declared.node.calls.AskError.TheVariants.{NotConnected}
-use Rattle.endpoint_node.specs.declared.node.calls.AskError.TheVariants.{TooLarge}
-use Rattle.endpoint_node.specs.declared.node.calls.Refused.{Refused}
-use Rattle.endpoint_node.specs.Jobs.{FinishesThese, staff_of}
-use Rattle.endpoint_node.specs.Notes.{Makes, is_asked}
+use Rattle.node_steps.specs.Pairs.{UnlessNoMemory, or_refused}
+use Rattle.node_steps.specs.Asks.{IfWanting, UnlessWanting}
+use Rattle.node_steps.specs.Changes.{◌⟶◌, Change}
+use Rattle.node_steps.specs.declared.refusals.AskError.{AskError}
+use Rattle.node_steps.specs.declared.refusals.AskError.TheVariants.{NoMemory as AskWanting}
+use Rattle.node_steps.specs.declared.refusals.AskError.TheVariants.{NotConnected}
+use Rattle.node_steps.specs.declared.refusals.AskError.TheVariants.{TooLarge}
+use Rattle.node_steps.specs.declared.refusals.Refused.{Refused}
+use Rattle.node_steps.specs.Jobs.{FinishesThese, staff_of}
+use Rattle.node_steps.specs.Notes.{Makes, is_asked}
 use Rattle.endpoint_loop.specs.Polls.{FinishesBack, LinkTells, MakesPoll, PollsWith}
 use Rattle.endpoint_loop.specs.Polls.{SendsUntil, is_stopped}
 use Rattle.endpoint_loop.specs.Endpoints.{asks_of, IsStaffed, Running, told, crew_of}
 use Rattle.endpoint_loop.specs.Stands.{GoesOn, StandsFor}
 use Rattle.endpoint_loop.specs.declared.endpoint.poll.Turn.{Turn}
-use Rattle.endpoint_node.proofs.PacketCrew.{staffed-still}
+use Rattle.node_steps.proofs.PacketCrew.{staffed-still}
 use Rattle.endpoint_loop.proofs.PollControl.{hears-still}
 use Rattle.endpoint_loop.proofs.PollLaw.{is_ran, still-answers, these-still}
-use Rattle.endpoint_node.proofs.NoteStill.{AllStill, Stills, closes-still, posts-still, sends-still}
-use Rattle.endpoint_node.proofs.NoteStill.{still-by, still-then, times-still}
-use Rattle.endpoint_node.proofs.NoteCounts.{elsewhere-unasked, elsewhere-unworked}
-use Rattle.endpoint_node.proofs.NoteCounts.{handled-elsewhere, is_elsewhere, is_work}
-use Rattle.endpoint_node.proofs.NoteCounts.{many-append, many-none}
+use Rattle.node_steps.proofs.NoteStill.{AllStill, Stills, closes-still, posts-still, sends-still}
+use Rattle.node_steps.proofs.NoteStill.{still-by, still-then, times-still}
+use Rattle.node_steps.proofs.NoteCounts.{elsewhere-unasked, elsewhere-unworked}
+use Rattle.node_steps.proofs.NoteCounts.{handled-elsewhere, is_elsewhere, is_work}
+use Rattle.endpoint_loop.specs.Bounds.{bounds}
+use Rattle.node_steps.proofs.NoteCounts.{many-append, many-none}
 
 -- a handler ran, or a job was worked, or a life began
 abbrev pub is_labour : Event → Bool
@@ -275,7 +276,8 @@ module _ {R K V W : Type 0} (log : R → Log)
 
   -- the node keeps its number
   pub me-polled : (a b : Running V W) (f g : R) (j k : K) {memory : Change ℕ}
-      → MakesPoll log given service workers turn now link then_link a b f g j k memory
+      → MakesPoll (bounds log given service workers) turn now (link ⟶ then_link) (a ⟶ b) (f ⟶ g)
+      (j ⟶ k) memory
       → (limits : Limits) (past : List Fact)
       → StandsFor service workers limits past a
       → b.timed.lists.me ≡ a.timed.lists.me
@@ -297,7 +299,8 @@ module _ {R K V W : Type 0} (log : R → Log)
       (sends-some (is_stopped turn) s x t k)) _ x _ does.polls
 
   unfoldable pub goes-polled : (a b : Running V W) (f g : R) (j k : K) {memory : Change ℕ}
-      → MakesPoll log given service workers turn now link then_link a b f g j k memory
+      → MakesPoll (bounds log given service workers) turn now (link ⟶ then_link) (a ⟶ b) (f ⟶ g)
+      (j ⟶ k) memory
       → GoesOn log service workers a b f g
   goes-polled a b f g j k h = record {
     noted = h.noted;

@@ -5,7 +5,7 @@ use Rattle.node_laws.specs.NodeRun.{LifeRun}
 use Rattle.rpc_outside.specs.declared.service.Service as Service
 use Rattle.worker_crew.specs.Jobs.{Job as CrewJob}
 use Rattle.worker_crew.specs.declared.workers.Workers as Workers
-use Rattle.endpoint_node.specs.Jobs.{Agree}
+use Rattle.node_steps.specs.Jobs.{Agree}
 use Rattle.endpoint_loop.specs.Loans.{StandsOverLoans}
 use Rattle.endpoint_loop.specs.Endpoints.{asks_of, told}
 

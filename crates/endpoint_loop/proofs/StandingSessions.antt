@@ -12,7 +12,7 @@ use Rattle.rpc_laws.specs.Groups.{Connects, Disconnects, clients_spent, connect_
 use Rattle.rpc_laws.specs.Groups.{has_no_room, pending, shares, state_of}
 use Rattle.rpc_laws.specs.Sessions.{is_client, is_connected}
 use Rattle.endpoint_loop.proofs.StandingLaw.{is_labour}
-use Rattle.endpoint_node.proofs.NoteStill.{AllStill, Stills}
+use Rattle.node_steps.proofs.NoteStill.{AllStill, Stills}
 
 rated-still : (me session rate : ℕ) (b : Bool)
     → AllStill is_labour (cond b [] (plain me (Rated session rate) ∷ []))

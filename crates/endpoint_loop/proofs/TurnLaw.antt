@@ -9,7 +9,7 @@ use Rattle.client_core.specs.declared.outcome.Done.{Done}
 use Rattle.rpc_base.specs.declared.fact.Fact.{Fact}
 use Rattle.rpc_laws.specs.declared.tables.Timed.{Timed}
 use Rattle.rpc_laws.specs.Deliveries.{Delivers}
-use Rattle.memory_count.specs.Faults.{HasCause}
+use Rattle.memory_count.specs.Faults.{HasCause, HasRisen}
 use Rattle.rpc_outside.specs.Linking.{Carried, Comes, NoneComes}
 use Rattle.rpc_outside.specs.declared.link.Link as Link
 use Rattle.rpc_outside.specs.declared.service.Service as Service
@@ -18,16 +18,17 @@ use Rattle.server_core.proofs.FlushLemmas.{grew-none, grew-then}
 use Rattle.endpoint_loop.specs.Endpoints.{Leaves}
 use Rattle.endpoint_loop.specs.declared.endpoint.poll.Turn.{Turn}
 use Rattle.endpoint_loop.specs.declared.endpoint.turn.TheConstants.{MOST_ARRIVALS}
-use Rattle.endpoint_node.specs.Changes.{Change}
-use Rattle.endpoint_node.specs.Notes.{Makes}
+use Rattle.node_steps.specs.Changes.{◌⟶◌, Change}
+use Rattle.node_steps.specs.Notes.{Makes}
 use Rattle.endpoint_loop.specs.Polls.{MakesPoll, turn_of, wire_of}
 use Rattle.endpoint_loop.specs.Endpoints.{Running}
-use Rattle.endpoint_node.specs.Seen.{asking}
-use Rattle.endpoint_node.specs.Links.{FailedAs}
+use Rattle.node_steps.specs.Seen.{asking}
+use Rattle.node_steps.specs.Links.{FailedAs}
 use Rattle.endpoint_loop.specs.Stands.{GoesOn, StandsFor}
 use Rattle.endpoint_loop.specs.Turns.{Came, DeliversAll, IsAll, MakesTurn, Receives, ReceivesOnly}
 use Rattle.endpoint_loop.specs.Turns.{TakesIn, TellsAsBefore, told_after}
-use Rattle.endpoint_node.proofs.NoteSteps.{took-none, took-then}
+use Rattle.endpoint_loop.specs.Bounds.{bounds}
+use Rattle.node_steps.proofs.NoteSteps.{took-none, took-then}
 
 -- one more datagram is delivered
 delivers-more : (ds : List Carried) (d : Carried) (s m t : Timed) (x y : List Fact)
@@ -140,6 +141,15 @@ pub poll-cause : {E : Type 0} (f g : ℕ) (r : Result Turn E) → HasCause f g r
 poll-cause f g (Ok turn) h = h
 poll-cause f g (Err e) h = h
 
+-- a fault that came is told, whatever comes after it
+pub fault-stays : {T E : Type 0} (f g h : ℕ) (r : Result T E) → HasRisen f g → HasCause g h r
+    → HasRisen f h
+fault-stays f g h (Ok t) risen same = subst (λ (n : ℕ). HasRisen f n) (sym same) risen
+fault-stays f g h (Err e) risen more = record {
+  no_less = omega (arith, risen.no_less, more.no_less);
+  rose = omega (arith, risen.rose, more.no_less);
+}
+
 module _ {R K L V W : Type 0} (log : R → Log)
     (net : Link.Ghosts L) (given : K → List Done → Type 0)
     (service : Service.Ghosts V) (workers : Workers.Ghosts W) (now : ℕ) where
@@ -147,12 +157,12 @@ module _ {R K L V W : Type 0} (log : R → Log)
   pub makes-turn : (failed : Bool) (polled told : Option Turn) (a b c : Running V W) (f g h : R)
       (j k : K) (l m n : L) (memory : Change ℕ) → Receives log net failed a b f g l m
       → ReceivesOnly failed (wire_of net l) (wire_of net m) → NoneComes net.waiting net.received m n
-      → MakesPoll log given service workers polled now (wire_of net m) (wire_of net n) b c g h j k
-      memory
+      → MakesPoll (bounds log given service workers) polled now (wire_of net m ⟶ wire_of net n)
+      (b ⟶ c) (g ⟶ h) (j ⟶ k) memory
       → FailedAs (is_none polled) (net.faults m) (net.faults n)
       → told ≡ told_after failed polled
-      → MakesTurn log net given service workers told now l n a c f
-      h j k memory
+      → MakesTurn (bounds log given service workers) net told now (l ⟶ n) (a ⟶ c) (f ⟶ h) (j ⟶ k)
+      memory
   makes-turn failed polled told a b c f g h j k l m n memory took link none polls cause is = record {
     came = took.came;
     comes = came-still net.received net.waiting took.came l m n took.comes none;
@@ -179,9 +189,11 @@ pub told-on : {R K L V W : Type 0} (log : R → Log) (net : Link.Ghosts L)
     (given : K → List Done → Type 0) (service : Service.Ghosts V) (workers : Workers.Ghosts W)
     (told : Option Turn) (now : ℕ) (l m n : L) (a b : Running V W) (f g : R) (j k : K)
     (memory : Change ℕ)
-    → MakesTurn log net given service workers told now l m a b f g j k memory
+    → MakesTurn (bounds log given service workers) net told now (l ⟶ m) (a ⟶ b) (f ⟶ g) (j ⟶ k)
+    memory
     → TellsAsBefore net m n
-    → MakesTurn log net given service workers told now l n a b f g j k memory
+    → MakesTurn (bounds log given service workers) net told now (l ⟶ n) (a ⟶ b) (f ⟶ g) (j ⟶ k)
+    memory
 told-on log net given service workers told now l m n a b f g j k memory h t = record {
   came = h.came;
   comes = came-still net.received net.waiting h.came l m n h.comes t.lists;
@@ -194,8 +206,8 @@ told-on log net given service workers told now l m n a b f g j k memory h t = re
   receives = h.receives;
   polled = h.polled;
   told_as = h.told_as;
-  polls = subst (λ w. MakesPoll log given service workers h.polled now h.mid_link w h.between b
-      h.mid g j k memory) (sym (wire-same net m n t)) h.polls;
+  polls = subst (λ w. MakesPoll (bounds log given service workers) h.polled now (h.mid_link ⟶ w)
+      (h.between ⟶ b) (h.mid ⟶ g) (j ⟶ k) memory) (sym (wire-same net m n t)) h.polls;
   cause = subst (λ x. FailedAs (is_none h.polled) h.mid_link.troubles.faults x) (sym t.faults)
       h.cause;
 }

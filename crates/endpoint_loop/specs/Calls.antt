@@ -1,8 +1,8 @@
 -- What a call of an application does with an endpoint.
 use Rattle.std.specs.Prelude.{◌≡◌, ◌++◌, ℕ, None, [], ◌∷◌, Result, length, IfErr, IfOk, OnErr, OnOk}
-use Rattle.endpoint_node.specs.Changes.{Change}
-use Rattle.endpoint_node.specs.Notes.{Makes}
-use Rattle.endpoint_node.specs.Pairs.{IfNoMemory, UnlessNoMemory}
+use Rattle.node_steps.specs.Changes.{Change}
+use Rattle.node_steps.specs.Notes.{Makes}
+use Rattle.node_steps.specs.Pairs.{IfNoMemory, UnlessNoMemory}
 use Rattle.memory_count.specs.Faults.{HasRisenBy}
 use Rattle.rpc_laws.specs.Groups.{client_refusal, server_refusal}
 use Rattle.rpc_laws.specs.Steps.{Rel}

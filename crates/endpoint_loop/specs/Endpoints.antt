@@ -8,10 +8,10 @@ use Rattle.rpc_laws.specs.Service.{Serving}
 use Rattle.rpc_outside.specs.Served.{Served, StandsForSome}
 use Rattle.worker_board.specs.declared.Parcel.{Parcel}
 use Rattle.worker_crew.specs.Jobs.{Job as CrewJob}
-use Rattle.endpoint_node.specs.Jobs.{AllBackground, AreStaffed, Staff, staff_of}
-use Rattle.endpoint_node.specs.Packets.{WorksFor}
-use Rattle.endpoint_node.specs.Seen.{Asks, asking}
-use Rattle.endpoint_node.specs.Requests.{AllServed}
+use Rattle.node_steps.specs.Jobs.{AllBackground, AreStaffed, Staff, staff_of}
+use Rattle.node_steps.specs.Packets.{WorksFor}
+use Rattle.node_steps.specs.Seen.{Asks, asking}
+use Rattle.node_steps.specs.Requests.{AllServed}
 use Rattle.worker_crew.specs.declared.workers.Workers as Workers
 
 -- its lists with its clock, what was handed in with the calls of each client session, its service

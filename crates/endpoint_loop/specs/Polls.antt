@@ -1,39 +1,39 @@
 -- A poll of an endpoint.
 use Rattle.std.specs.Prelude.{count_by, ◌≡◌, ℕ, ◌+◌, ◌≤◌, ◌⊎◌, ◌||◌, if◌then◌else◌, Bool, true}
 use Rattle.std.specs.Prelude.{false, Option, Some, None, option_map, IfSome, List, ◌++◌, length}
-use Rattle.std.specs.Prelude.{map, Result, Ok, Err}
-use Rattle.endpoint_node.specs.Counts.{is_handled, is_sent}
-use Rattle.endpoint_node.specs.Links.{left_one, HeldBack, Troubles, unsent_in, troubles_of}
+use Rattle.std.specs.Prelude.{map, Result, Ok, Err, IfOk}
+use Rattle.node_steps.specs.Counts.{is_handled, is_sent}
+use Rattle.node_steps.specs.Links.{left_one, HeldBack, Troubles, unsent_in, troubles_of}
 use Rattle.std.specs.List.{filter}
 use Rattle.client_core.specs.Shown.{done_fact}
 use Rattle.client_core.specs.declared.outcome.Done.{Done}
-use Rattle.memory_count.specs.Faults.{HasRisenBy}
+use Rattle.memory_count.specs.Faults.{HasCause, HasRisen, HasRisenBy}
 use Rattle.rpc_base.specs.declared.fact.Fact.{Fact}
-use Rattle.rpc_laws.specs.declared.tables.Arrival.{Arrival}
 use Rattle.rpc_laws.specs.declared.tables.Timed.{Timed}
 use Rattle.rpc_laws.specs.Pacing.{line}
 use Rattle.rpc_laws.specs.PollOrder.{PollBy, SendsAll, SendsSome}
 use Rattle.rpc_laws.specs.Queues.{replies}
-use Rattle.rpc_laws.specs.Service.{Answers, Serving, served_after_all, rules_of}
+use Rattle.rpc_laws.specs.Service.{Serving, rules_of}
 use Rattle.rpc_laws.specs.Steps.{Rel}
-use Rattle.rpc_outside.specs.Linking.{Carried}
-use Rattle.rpc_outside.specs.Recording.{Grew, Log}
-use Rattle.rpc_outside.specs.Served.{Served}
+use Rattle.rpc_outside.specs.Linking.{Carried, NoneComes}
+use Rattle.rpc_outside.specs.Recording.{Grew}
 use Rattle.worker_board.specs.declared.Parcel.{Parcel}
-use Rattle.endpoint_node.specs.Changes.{Change}
-use Rattle.endpoint_node.specs.Given.{Gave}
-use Rattle.endpoint_node.specs.Lacks.{lacks_in}
-use Rattle.endpoint_node.specs.declared.node.poll.control.Listening.{Listening}
+use Rattle.node_steps.specs.Changes.{◌⟶◌, Change}
+use Rattle.node_steps.specs.Given.{Gave}
+use Rattle.node_steps.specs.Lacks.{lacks_in}
+use Rattle.node_steps.specs.declared.told.Listening.{Listening}
 use Rattle.endpoint_loop.specs.declared.endpoint.poll.Turn.{Turn}
-use Rattle.endpoint_node.specs.declared.node.poll.timers.retries.Asking.{Asking}
-use Rattle.endpoint_node.specs.declared.node.poll.sends.Sending.{Sending}
-use Rattle.endpoint_node.specs.Jobs.{FinishesThese, NoneBack, jobs_left, staff_of}
-use Rattle.endpoint_node.specs.Notes.{is_end, sent_of}
+use Rattle.node_steps.specs.declared.told.Asking.{Asking}
+use Rattle.node_steps.specs.declared.told.Sending.{Sending}
+use Rattle.node_steps.specs.Jobs.{FinishesThese, NoneBack, jobs_left, staff_of}
+use Rattle.node_steps.specs.Notes.{is_end, sent_of}
 use Rattle.endpoint_loop.specs.Endpoints.{Crew, IsStaffed, Running, told, crew_of}
-use Rattle.endpoint_node.specs.Requests.{SparesShort, job_named}
+use Rattle.node_steps.specs.Requests.{RunsHandlers, ServiceChange, SparesShort, job_named}
+use Rattle.node_steps.specs.Requests.{service_change}
+use Rattle.node_steps.specs.Handed.{GivesBackTo}
+use Rattle.endpoint_loop.specs.Bounds.{Bounds}
+use Rattle.endpoint_loop.specs.Stands.{GoesOn}
 use Rattle.rpc_outside.specs.declared.link.Link as Link
-use Rattle.rpc_outside.specs.declared.service.Service as Service
-use Rattle.worker_crew.specs.declared.workers.Workers as Workers
 
 -- the jobs of these parcels are finished; then no more came back, or as many replies are queued as
 -- the ring is long
@@ -105,34 +105,49 @@ wire_of l link = record { sent = l.sent link; troubles = troubles_of l link }
 -- what a poll tells besides: each handler that ran has its answer, the calls that the continuation
 -- was given are those whose ends were noted, in order, and the turn counts its facts. The link,
 -- where it tells what it sent, sent exactly the datagrams of the Sent facts, and failed or was busy
--- for each packet that it didn't take. No short request in front of this receive ring was dropped
+-- for each packet that it didn't take. No short request in front of the receive ring was dropped
 -- for want of memory, whatever the allocator did; and for each that was dropped so, and each session
 -- that starved, memory was refused
-pub record TellsOfPoll {K : Type 0} (given : K → List Done → Type 0) (v : Serving)
-    (stands then_stands : Served → Type 0) (told : Option Turn) (link then_link : LinkTells)
-    (ring : List Arrival) (me : ℕ) (x : List Fact) (t : Timed) (from to : K) (memory : Change ℕ)
-    : Type 0 where
-  pub answers : (served : Served) → stands served
-      → Answers v served x × then_stands (served_after_all v.mode served x)
+pub record TellsOfPoll {K : Type 0} (given : K → List Done → Type 0) (service : ServiceChange)
+    (told : Option Turn) (link : Change LinkTells) (node : Change Timed) (x : List Fact)
+    (k : Change K) (memory : Change ℕ) : Type 0 where
+  pub answers : RunsHandlers service x
   pub dones : List Done
-  pub ends : filter is_end x ≡ map (done_fact me) dones
-  pub gave : Gave given from to dones
+  pub ends : filter is_end x ≡ map (done_fact node.old.lists.me) dones
+  pub gave : Gave given k.old k.new dones
   pub counts : IfSome told (CountsTurn x)
-  pub took : then_link.sent ≡ option_map (λ ds. ds ++ sent_of x) link.sent
-  pub held : HeldBack (held_in x t) link.troubles then_link.troubles
-  pub spared : SparesShort v ring x
+  pub took : link.new.sent ≡ option_map (λ ds. ds ++ sent_of x) link.old.sent
+  pub held : HeldBack (held_in x node.new) link.old.troubles link.new.troubles
+  pub spared : SparesShort service.rules node.old.lists.ring x
   pub wants : HasRisenBy (lacks_in x) memory.old memory.new
 
 -- the recorder grew by the facts of a poll
-pub record MakesPoll {R K V W : Type 0} (log : R → Log) (given : K → List Done → Type 0)
-    (service : Service.Ghosts V) (workers : Workers.Ghosts W) (told : Option Turn) (now : ℕ)
-    (link then_link : LinkTells) (old new : Running V W) (before later : R) (from to : K)
+pub record MakesPoll {R K V W : Type 0} (b : Bounds R K V W) (told : Option Turn) (now : ℕ)
+    (link : Change LinkTells) (e : Change (Running V W)) (rec : Change R) (k : Change K)
     (memory : Change ℕ) : Type 0 where
   pub noted : List Fact
-  pub grew : Grew (log before) (log later) noted
-  pub does : IsStaffed workers.answer (staff_of workers old.workers) old.timed
-      → PollsWith (rules_of service) workers.answer (is_stopped told) now
-      (crew_of workers old.workers) (crew_of workers new.workers) old.timed noted new.timed
-      × TellsOfPoll given (rules_of service) (service.stands old.service)
-      (service.stands new.service) told link then_link old.timed.lists.ring old.timed.lists.me
-      noted new.timed from to memory
+  pub grew : Grew (b.log rec.old) (b.log rec.new) noted
+  pub does : IsStaffed b.workers.answer (staff_of b.workers e.old.workers) e.old.timed
+      → PollsWith (rules_of b.service) b.workers.answer (is_stopped told) now
+      (crew_of b.workers e.old.workers) (crew_of b.workers e.new.workers) e.old.timed noted
+      e.new.timed
+      × TellsOfPoll b.given (service_change b.service (e.old.service ⟶ e.new.service)) told link
+      (e.old.timed ⟶ e.new.timed) noted k memory
+
+-- a poll, and what it leaves: whatever the endpoint stood for, it stands for that and the facts of
+-- the poll; the turn is busy only where the link was busy once more; the workers are of the same
+-- team; no datagram came; the link failed exactly where a fault is told; what was handed in comes
+-- back with the calls that end; and memory isn't refused less often
+pub record Polls {R K L V W E : Type 0} (b : Bounds R K V W) (net : Link.Ghosts L)
+    (told : Result Turn E) (now : ℕ) (link : Change L) (e : Change (Running V W)) (rec : Change R)
+    (k : Change K) (memory : Change ℕ) : Type 0 where
+  pub polls : MakesPoll b (turn_of told) now (wire_of net link.old ⟶ wire_of net link.new) e rec k
+      memory
+  pub goes_on : GoesOn b.log b.service b.workers e.old e.new rec.old rec.new
+  pub busy : IfOk told (λ turn. turn.busy ≡ true
+      → HasRisen (net.busies link.old) (net.busies link.new))
+  pub team : b.workers.team e.new.workers ≡ b.workers.team e.old.workers
+  pub lists : NoneComes net.waiting net.received link.old link.new
+  pub cause : HasCause (net.faults link.old) (net.faults link.new) told
+  pub handed : GivesBackTo b.given e.old.handed e.new.handed k.old k.new
+  pub no_less : memory.old ≤ memory.new

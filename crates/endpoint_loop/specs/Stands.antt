@@ -7,7 +7,7 @@ use Rattle.rpc_laws.specs.Service.{rules_of, served_after_all}
 use Rattle.rpc_outside.specs.Recording.{Grew, Log}
 use Rattle.rpc_outside.specs.declared.service.Service as Service
 use Rattle.worker_crew.specs.declared.workers.Workers as Workers
-use Rattle.endpoint_node.specs.Jobs.{staff_of}
+use Rattle.node_steps.specs.Jobs.{staff_of}
 use Rattle.endpoint_loop.specs.Endpoints.{IsStaffed, Running, told}
 
 -- g is what the endpoint noted since it was made with these limits: g is a run of its node in its

@@ -1,25 +1,26 @@
 -- A turn of an endpoint: datagrams are received and delivered, and then it polls.
 use Rattle.std.specs.Prelude.{◌≡◌, ℕ, ◌≤◌, ◌⊎◌, Bool, true, false, Option, None, option_map}
-use Rattle.std.specs.Prelude.{is_none}
+use Rattle.std.specs.Prelude.{is_none, IfOk, Result}
 use Rattle.std.specs.Prelude.{IfSome, List, [], ◌∷◌, ◌++◌, length}
 use Rattle.rpc_outside.specs.Recording.{Log}
-use Rattle.client_core.specs.declared.outcome.Done.{Done}
 use Rattle.rpc_laws.specs.Deliveries.{Delivers}
 use Rattle.rpc_laws.specs.Steps.{Rel, Then}
 use Rattle.rpc_outside.specs.Linking.{Carried, KeepsAddresses, NoneComes}
 use Rattle.rpc_laws.specs.declared.tables.Lists.{Lists}
-use Rattle.endpoint_node.specs.Peers.{is_with}
+use Rattle.node_steps.specs.Peers.{is_with}
 use Rattle.rpc_outside.specs.declared.link.Link as Link
-use Rattle.rpc_outside.specs.declared.service.Service as Service
-use Rattle.worker_crew.specs.declared.workers.Workers as Workers
 use Rattle.endpoint_loop.specs.Endpoints.{Leaves}
 use Rattle.endpoint_loop.specs.declared.endpoint.poll.Turn.{Turn}
 use Rattle.endpoint_loop.specs.declared.endpoint.turn.TheConstants.{MOST_ARRIVALS}
-use Rattle.endpoint_node.specs.Changes.{Change}
-use Rattle.endpoint_node.specs.Notes.{Makes}
-use Rattle.endpoint_loop.specs.Polls.{LinkTells, MakesPoll, wire_of}
+use Rattle.node_steps.specs.Changes.{◌⟶◌, Change}
+use Rattle.node_steps.specs.Notes.{Makes}
+use Rattle.endpoint_loop.specs.Polls.{LinkTells, MakesPoll, turn_of, wire_of}
 use Rattle.endpoint_loop.specs.Endpoints.{Running}
-use Rattle.endpoint_node.specs.Links.{FailedAs}
+use Rattle.endpoint_loop.specs.Bounds.{Bounds}
+use Rattle.endpoint_loop.specs.Stands.{GoesOn}
+use Rattle.node_steps.specs.Handed.{GivesBackTo}
+use Rattle.memory_count.specs.Faults.{HasCause, HasRisen}
+use Rattle.node_steps.specs.Links.{FailedAs}
 
 -- these datagrams are delivered, one after another
 abbrev pub DeliversAll : List Carried → Rel
@@ -80,21 +81,36 @@ pub record ReceivesOnly (failed : Bool) (link then_link : LinkTells) : Type 0 wh
 -- the recorder grew by a delivery for each datagram that came, in order, and then by a poll. Where
 -- the link didn't fail in receiving, no more datagrams came; where it did, the poll was made all the
 -- same. The poll told nothing where the link failed in it
-pub record MakesTurn {R K L V W : Type 0} (log : R → Log) (net : Link.Ghosts L)
-    (given : K → List Done → Type 0) (service : Service.Ghosts V) (workers : Workers.Ghosts W)
-    (told : Option Turn) (now : ℕ) (link then_link : L) (old new : Running V W) (before later : R)
-    (from to : K) (memory : Change ℕ) : Type 0 where
+pub record MakesTurn {R K L V W : Type 0} (b : Bounds R K V W) (net : Link.Ghosts L)
+    (told : Option Turn) (now : ℕ) (link : Change L) (e : Change (Running V W)) (rec : Change R)
+    (k : Change K) (memory : Change ℕ) : Type 0 where
   pub came : List Carried
-  pub comes : Came net.received net.waiting came link then_link
+  pub comes : Came net.received net.waiting came link.old link.new
   pub failed : Bool
-  pub all : failed ≡ false → IsAll came (net.waiting then_link)
+  pub all : failed ≡ false → IsAll came (net.waiting link.new)
   pub between : Running V W
   pub mid : R
-  pub takes : TakesIn log came old between before mid
+  pub takes : TakesIn b.log came e.old between rec.old mid
   pub mid_link : LinkTells
-  pub receives : ReceivesOnly failed (wire_of net link) mid_link
+  pub receives : ReceivesOnly failed (wire_of net link.old) mid_link
   pub polled : Option Turn
   pub told_as : told ≡ told_after failed polled
-  pub polls : MakesPoll log given service workers polled now mid_link
-      (wire_of net then_link) between new mid later from to memory
-  pub cause : FailedAs (is_none polled) mid_link.troubles.faults (net.faults then_link)
+  pub polls : MakesPoll b polled now (mid_link ⟶ wire_of net link.new) (between ⟶ e.new)
+      (mid ⟶ rec.new) k memory
+  pub cause : FailedAs (is_none polled) mid_link.troubles.faults (net.faults link.new)
+
+-- a turn, and what it leaves: whatever the endpoint stood for, it stands for that and the facts of
+-- the turn; the turn is busy only where the link was busy once more; the workers are of the same
+-- team; the link failed exactly where a fault is told; what was handed in is given back with the
+-- calls that end; and memory isn't refused less often
+pub record Turns {R K L V W E : Type 0} (b : Bounds R K V W) (net : Link.Ghosts L)
+    (told : Result Turn E) (now : ℕ) (link : Change L) (e : Change (Running V W)) (rec : Change R)
+    (k : Change K) (memory : Change ℕ) : Type 0 where
+  pub turns : MakesTurn b net (turn_of told) now link e rec k memory
+  pub goes_on : GoesOn b.log b.service b.workers e.old e.new rec.old rec.new
+  pub busy : IfOk told (λ turn. turn.busy ≡ true
+      → HasRisen (net.busies link.old) (net.busies link.new))
+  pub team : b.workers.team e.new.workers ≡ b.workers.team e.old.workers
+  pub cause : HasCause (net.faults link.old) (net.faults link.new) told
+  pub handed : GivesBackTo b.given e.old.handed e.new.handed k.old k.new
+  pub no_less : memory.old ≤ memory.new

@@ -9,7 +9,7 @@ ghost use Rattle.rpc_base.specs.Limits.{Fits as InRange};
 ghost use Rattle.rpc_laws.specs.Groups.{state_of};
 ghost use Rattle.rpc_laws.specs.NodeLists.{new_node};
 ghost use Rattle.rpc_laws.specs.Sessions.{is_client};
-ghost use Rattle.endpoint_node.specs.Packets.{WorksFor};
+ghost use Rattle.node_steps.specs.Packets.{WorksFor};
 ghost use Rattle.endpoint_loop.specs.Stands.{StandsFor};
 ghost use Rattle.session_store.specs.Handing.{AreOfCalls};
 
@@ -56,7 +56,7 @@ impl<V: Service + Drop, W: Workers + Drop> Drop for Endpoint<V, W> {
 }
 
 impl<V: Service, W: Workers> Model for Endpoint<V, W> {
-    ghost use Rattle.endpoint_node.specs.Handed.{timed_of};
+    ghost use Rattle.node_steps.specs.Handed.{timed_of};
     ghost use Rattle.endpoint_loop.specs.Endpoints.{IsServing, Running};
     ghost use Rattle.rpc_laws.specs.Service.{rules_of};
 

@@ -3,9 +3,9 @@ use Rattle.std.specs.Prelude.{◌≡◌, ℕ, Option, Some, None, List, Result, 
 use Rattle.client_core.specs.Handing.{Handed}
 use Rattle.message_buffer.specs.Buffer.{Buffer, bytes_of}
 use Rattle.session_store.specs.Handing.{HandsInAt}
-use Rattle.endpoint_node.specs.declared.node.calls.AskError.{AskError}
-use Rattle.endpoint_node.specs.declared.node.calls.AskError.TheVariants.{TooLarge as AskTooLarge}
-use Rattle.endpoint_node.specs.declared.node.calls.AskError.TheVariants.{NotConnected as AskNotConnected}
+use Rattle.node_steps.specs.declared.refusals.AskError.{AskError}
+use Rattle.node_steps.specs.declared.refusals.AskError.TheVariants.{TooLarge as AskTooLarge}
+use Rattle.node_steps.specs.declared.refusals.AskError.TheVariants.{NotConnected as AskNotConnected}
 use Rattle.fan_calls.specs.declared.asking.FanError.{FanError}
 use Rattle.fan_calls.specs.declared.asking.FanError.TheVariants.{Gone, TooLarge, NotConnected}
 use Rattle.fan_calls.specs.declared.asking.FanError.TheVariants.{NoMemory}

@@ -1,8 +1,8 @@
 //! A call that asks a fan's bytes.
 ghost use Rattle.std.specs.Prelude.{◌≡◌, ◌≤◌, ◌↔◌, None, IfOk, OnErr, length};
 ghost use Rattle.std.specs.List.{find};
-ghost use Rattle.endpoint_node.specs.Asks.{refusal_of};
-ghost use Rattle.endpoint_node.specs.Notes.{Makes};
+ghost use Rattle.node_steps.specs.Asks.{refusal_of};
+ghost use Rattle.node_steps.specs.Notes.{Makes};
 ghost use Rattle.endpoint_loop.specs.Endpoints.{Leaves};
 ghost use Rattle.endpoint_loop.specs.Stands.{GoesOn};
 ghost use Rattle.memory_count.specs.Faults.{HasCause, HasRisenBy};

@@ -11,11 +11,11 @@ use Rattle.given_laws.proofs.HearStill.{hears-still}
 use Rattle.endpoint_loop.proofs.StandingLaw.{sends-some, these-some}
 use Rattle.endpoint_loop.specs.Endpoints.{Crew, told}
 use Rattle.endpoint_loop.specs.Polls.{PollsWith, SendsUntil}
-use Rattle.endpoint_node.proofs.NoteStill.{AllStill, Stills, closes-still, posts-still, sends-still}
-use Rattle.endpoint_node.proofs.NoteStill.{times-still}
-use Rattle.endpoint_node.specs.Jobs.{FinishesThese, jobs_left}
-use Rattle.endpoint_node.specs.Requests.{job_named}
-use Rattle.endpoint_node.specs.Seen.{Asks, with_ask}
+use Rattle.node_steps.proofs.NoteStill.{AllStill, Stills, closes-still, posts-still, sends-still}
+use Rattle.node_steps.proofs.NoteStill.{times-still}
+use Rattle.node_steps.specs.Jobs.{FinishesThese, jobs_left}
+use Rattle.node_steps.specs.Requests.{job_named}
+use Rattle.node_steps.specs.Seen.{Asks, with_ask}
 use Rattle.node_laws.proofs.Allowed.{AllAllowed}
 use Rattle.node_laws.proofs.ControlLemmas.{hears-all-lawful}
 use Rattle.node_laws.proofs.LeadsLemmas.{Lawful, LeadsAt, lawful-chain, valid-at}

@@ -7,7 +7,7 @@ use Rattle.std.specs.Prelude.{◌==◌, ◌||◌, count_by, is_none}
 use Rattle.std.specs.List.{AllByRecursion, find, list_any}
 use Rattle.std.proofs.lemmas.Bool.{eqb-true, ltb-false, ltb-true}
 use Rattle.std.proofs.lemmas.List.{map-append}
-use Rattle.endpoint_node.proofs.NoteStill.{AllStill, still-append}
+use Rattle.node_steps.proofs.NoteStill.{AllStill, still-append}
 use Rattle.node_laws.proofs.Allowed.{AllAllowed, MayGive, Newer}
 use Rattle.node_laws.proofs.RowLemmas.{continues-slot, drops-begins, drops-takes, last-parts}
 use Rattle.node_laws.proofs.RowLemmas.{not-begins}

@@ -11,15 +11,15 @@ use Rattle.endpoint_loop.proofs.StandingLaw.{ask-still, is_labour, life-after_al
 use Rattle.endpoint_loop.proofs.StandingLaw.{none-worked, stands-more}
 use Rattle.endpoint_loop.specs.Endpoints.{asks_of, Leaves, Running, told}
 use Rattle.endpoint_loop.specs.Stands.{StandsFor}
-use Rattle.endpoint_node.proofs.NoteEnds.{me-goes}
-use Rattle.endpoint_node.proofs.NoteStill.{Stills}
-use Rattle.endpoint_node.proofs.PacketCrew.{staffed-still}
-use Rattle.endpoint_node.specs.Asks.{refusal_in, refusal_of}
-use Rattle.endpoint_node.specs.Jobs.{staff_of}
-use Rattle.endpoint_node.specs.Notes.{Makes, sent_of}
-use Rattle.endpoint_node.specs.declared.node.calls.AskError.{AskError}
-use Rattle.endpoint_node.specs.declared.node.calls.AskError.TheVariants.{NoMemory as Wanting}
-use Rattle.endpoint_node.specs.declared.node.calls.AskError.TheVariants.{TooLarge}
+use Rattle.node_steps.proofs.NoteEnds.{me-goes}
+use Rattle.node_steps.proofs.NoteStill.{Stills}
+use Rattle.node_steps.proofs.PacketCrew.{staffed-still}
+use Rattle.node_steps.specs.Asks.{refusal_in, refusal_of}
+use Rattle.node_steps.specs.Jobs.{staff_of}
+use Rattle.node_steps.specs.Notes.{Makes, sent_of}
+use Rattle.node_steps.specs.declared.refusals.AskError.{AskError}
+use Rattle.node_steps.specs.declared.refusals.AskError.TheVariants.{NoMemory as Wanting}
+use Rattle.node_steps.specs.declared.refusals.AskError.TheVariants.{TooLarge}
 use Rattle.message_buffer.specs.Buffer.{Buffer, bytes_of, capacity_of}
 use Rattle.node_laws.specs.NodeRun.{asks, Group}
 use Rattle.relay_steps.specs.Asking.{AsksOne, RefusesOne}

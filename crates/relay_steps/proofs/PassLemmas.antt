@@ -11,7 +11,7 @@ use Rattle.desk_laws.proofs.StandLemmas.{stands-on}
 use Rattle.desk_laws.specs.Staying.{desk_members, IsOfHandles, with_desk}
 use Rattle.endpoint_loop.specs.Endpoints.{Running}
 use Rattle.endpoint_loop.specs.Stands.{StandsFor}
-use Rattle.endpoint_node.proofs.NoteSteps.{sent-append}
+use Rattle.node_steps.proofs.NoteSteps.{sent-append}
 use Rattle.relay_steps.specs.Asking.{AsksOne, RefusesOne}
 use Rattle.relay_steps.specs.Passing.{at_desk, GoesPast, more, none, Passes, PassesAll, PassesBy}
 use Rattle.relay_steps.specs.Passing.{PassesOn, PassesSome, Relayed, relayed, StandsAfter}

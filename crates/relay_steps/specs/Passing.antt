@@ -7,7 +7,7 @@ use Rattle.deferred_calls.specs.declared.job.Numbered.{Numbered}
 use Rattle.desk_laws.specs.Staying.{desk_members, with_desk}
 use Rattle.endpoint_loop.specs.Endpoints.{Running}
 use Rattle.endpoint_loop.specs.Stands.{StandsFor}
-use Rattle.endpoint_node.specs.Notes.{sent_of}
+use Rattle.node_steps.specs.Notes.{sent_of}
 use Rattle.message_buffer.specs.Buffer.{Buffer, bytes_of}
 use Rattle.relay_steps.specs.declared.passing.TheConstants.{BACKGROUND, OTHER_SERVER}
 use Rattle.relays.specs.Relaying.{Relaying}

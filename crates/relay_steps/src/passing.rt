@@ -1,8 +1,8 @@
 //! Jobs are asked of the other server, or worked here.
 ghost use Rattle.std.specs.Prelude.{◌≡◌, ◌≢◌, ◌≤◌, ◌-◌, ◌∷◌, [], IfErr, IfOk};
 ghost use Rattle.std.specs.Prelude.{MatchResult, OnErr, OnOk};
-ghost use Rattle.endpoint_node.specs.Lacks.{lacks_for};
-ghost use Rattle.endpoint_node.specs.declared.node.calls.AskError.TheVariants.{NoMemory as Wanting};
+ghost use Rattle.node_steps.specs.Lacks.{lacks_for};
+ghost use Rattle.node_steps.specs.declared.refusals.AskError.TheVariants.{NoMemory as Wanting};
 ghost use Rattle.memory_count.specs.Faults.{HasCause, HasReason, HasRisenBy};
 ghost use Rattle.message_buffer.specs.Buffer.{bytes_of, capacity_of};
 ghost use Rattle.relay_steps.specs.Passing.{GoesPast, PassesAll, PassesOn, relayed};

@@ -10,7 +10,7 @@ use Rattle.deferred_calls.proofs.DeskLemmas.{rises_out, same_place}
 use Rattle.deferred_calls.specs.Desks.{HasNumbers, Jobs, Rises}
 use Rattle.deferred_calls.specs.Law.{finished}
 use Rattle.deferred_calls.specs.declared.job.Numbered.{Numbered}
-use Rattle.endpoint_node.specs.Handed.{HandBack}
+use Rattle.node_steps.specs.Handed.{HandBack}
 use Rattle.relay_turns.specs.Deferred.{by_other, by_us, count_here, count_relayed, EndEach, IsOver}
 use Rattle.relay_turns.specs.Deferred.{job_over, Over}
 use Rattle.relay_turns.specs.Turning.{SettlesAll}

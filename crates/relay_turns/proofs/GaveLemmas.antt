@@ -17,10 +17,10 @@ use Rattle.endpoint_loop.specs.Polls.{is_stopped, PollsWith}
 use Rattle.endpoint_loop.specs.Stands.{StandsFor}
 use Rattle.endpoint_loop.specs.Turns.{DeliversAll}
 use Rattle.endpoint_loop.specs.declared.endpoint.poll.Turn.{Turn}
-use Rattle.endpoint_node.specs.Changes.{Change}
-use Rattle.endpoint_node.specs.Jobs.{jobs_left}
-use Rattle.endpoint_node.specs.Requests.{job_named}
-use Rattle.endpoint_node.specs.Seen.{with_ask}
+use Rattle.node_steps.specs.Changes.{Change}
+use Rattle.node_steps.specs.Jobs.{jobs_left}
+use Rattle.node_steps.specs.Requests.{job_named}
+use Rattle.node_steps.specs.Seen.{with_ask}
 use Rattle.given_laws.proofs.GivenLemmas.{counts-given, given-append, keeps-limit, polls-given}
 use Rattle.given_laws.specs.Given.{given_by, given_in, name_of}
 use Rattle.node_laws.proofs.Allowed.{Leads}

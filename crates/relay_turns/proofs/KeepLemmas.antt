@@ -12,7 +12,7 @@ use Rattle.deferred_calls.specs.Law.{finished}
 use Rattle.desk_laws.specs.Staying.{desk_members, with_desk}
 use Rattle.endpoint_loop.specs.Endpoints.{Running, told as lists_told}
 use Rattle.endpoint_loop.specs.declared.endpoint.poll.Turn.{Turn}
-use Rattle.endpoint_node.specs.Handed.{HandBack}
+use Rattle.node_steps.specs.Handed.{HandBack}
 use Rattle.given_laws.specs.Given.{name_of}
 use Rattle.node_laws.specs.NodeRun.{LifeRun}
 use Rattle.relay_steps.specs.Passing.{Relayed, relayed}

@@ -12,10 +12,10 @@ use Rattle.deferred_calls.specs.declared.job.Numbered.{Numbered}
 use Rattle.desk_laws.specs.Staying.{desk_members, with_desk}
 use Rattle.endpoint_loop.specs.Endpoints.{Running}
 use Rattle.endpoint_loop.specs.declared.endpoint.poll.Turn.{Turn}
-use Rattle.endpoint_node.proofs.NoteSteps.{sent-append}
-use Rattle.endpoint_node.specs.Changes.{Change}
-use Rattle.endpoint_node.specs.Handed.{GivesBackTo, HandBack}
-use Rattle.endpoint_node.specs.Notes.{is_end, sent_of}
+use Rattle.node_steps.proofs.NoteSteps.{sent-append}
+use Rattle.node_steps.specs.Changes.{Change}
+use Rattle.node_steps.specs.Handed.{GivesBackTo, HandBack}
+use Rattle.node_steps.specs.Notes.{is_end, sent_of}
 use Rattle.relay_steps.proofs.PassLemmas.{after-none, after-settles, after-then}
 use Rattle.relay_steps.specs.Passing.{GoesPast, Passes, PassesAll, relayed, StandsAfter}
 use Rattle.relay_turns.proofs.GaveLemmas.{given-of, goes-of, out-of, polls, took}

@@ -8,7 +8,7 @@ use Rattle.client_core.specs.declared.outcome.Done.{Done}
 use Rattle.deferred_calls.specs.Law.{finished}
 use Rattle.deferred_calls.specs.declared.job.Numbered.{Numbered}
 use Rattle.endpoint_loop.specs.declared.endpoint.poll.Turn.{Turn}
-use Rattle.endpoint_node.specs.Notes.{is_end}
+use Rattle.node_steps.specs.Notes.{is_end}
 use Rattle.given_laws.specs.Given.{given_in, name_of}
 use Rattle.node_laws.specs.NodeRun.{LifeRun}
 use Rattle.relay_steps.specs.Passing.{IsRefusal, nested_fact, Relayed}

@@ -9,9 +9,9 @@ use Rattle.deferred_calls.specs.declared.job.Numbered.{Numbered}
 use Rattle.desk_laws.specs.Staying.{desk_members, with_desk}
 use Rattle.endpoint_loop.specs.Endpoints.{Running, told as lists_told}
 use Rattle.endpoint_loop.specs.declared.endpoint.poll.Turn.{Turn}
-use Rattle.endpoint_node.specs.Changes.{Change}
-use Rattle.endpoint_node.specs.Handed.{HandBack}
-use Rattle.endpoint_node.specs.Notes.{asked_in, is_end}
+use Rattle.node_steps.specs.Changes.{Change}
+use Rattle.node_steps.specs.Handed.{HandBack}
+use Rattle.node_steps.specs.Notes.{asked_in, is_end}
 use Rattle.given_laws.specs.Given.{given_in, name_of}
 use Rattle.message_buffer.specs.Buffer.{bytes_of}
 use Rattle.relay_steps.specs.Passing.{Passes, PassesAll, Relayed, relayed, StandsAfter}

@@ -5,9 +5,9 @@ use Rattle.std.proofs.Common.{subst, append_assoc, append-nil, length-append}
 use Rattle.std.specs.Prelude.{option_map}
 use Rattle.rpc_outside.specs.Recording.{Log}
 use Rattle.client_core.specs.declared.outcome.Done.{Done}
-use Rattle.endpoint_node.specs.Notes.{sent_of}
+use Rattle.node_steps.specs.Notes.{sent_of}
 use Rattle.endpoint_loop.specs.Endpoints.{Running}
-use Rattle.endpoint_node.proofs.NoteSteps.{sent-append, took-none, took-then}
+use Rattle.node_steps.proofs.NoteSteps.{sent-append, took-none, took-then}
 use Rattle.rpc_outside.specs.Ticking.{Gives}
 use Rattle.rpc_outside.specs.declared.service.Service as Service
 use Rattle.server_core.proofs.FlushLemmas.{grew-none, grew-then}

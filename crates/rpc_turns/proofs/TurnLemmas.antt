@@ -3,26 +3,26 @@ use Rattle.std.proofs.Common.{◌≡◌, ℕ, Bool, true, false, cond, ltb, Opti
 use Rattle.std.proofs.Common.{length, refl, sym, ap, ap₂, ◌∙◌, subst, arith, append_assoc, append-nil}
 use Rattle.std.specs.Prelude.{IsTrue, ◌↔◌, map, option_map}
 use Rattle.std.specs.List.{filter}
-use Rattle.endpoint_node.specs.Changes.{Change}
-use Rattle.endpoint_node.specs.Jobs.{staff_of}
+use Rattle.node_steps.specs.Changes.{Change}
+use Rattle.node_steps.specs.Jobs.{staff_of}
 use Rattle.rpc_outside.specs.Recording.{Log}
 use Rattle.client_core.specs.declared.outcome.Done.{Done}
 use Rattle.client_core.specs.Shown.{done_fact}
 use Rattle.endpoint_loop.specs.declared.endpoint.poll.Turn.{Turn}
-use Rattle.endpoint_node.specs.Notes.{asked_in, is_asked, is_end, sent_of}
+use Rattle.node_steps.specs.Notes.{asked_in, is_asked, is_end, sent_of}
 use Rattle.endpoint_loop.specs.Polls.{wire_of}
 use Rattle.endpoint_loop.specs.Endpoints.{Running, asks_of, told}
 use Rattle.endpoint_loop.specs.Turns.{DeliversAll, TakesIn}
-use Rattle.endpoint_node.proofs.PacketCrew.{staffed-still}
-use Rattle.endpoint_node.proofs.NoteEnds.{ends-append, me-goes}
+use Rattle.node_steps.proofs.PacketCrew.{staffed-still}
+use Rattle.node_steps.proofs.NoteEnds.{ends-append, me-goes}
 use Rattle.endpoint_loop.proofs.PollLaw.{still-answers}
 use Rattle.endpoint_loop.proofs.StandingLaw.{delivery-still, goes-polled, group-polled, is_labour}
 use Rattle.endpoint_loop.proofs.StandingLaw.{life-after_all, life-more, me-polled}
 use Rattle.endpoint_loop.proofs.StandingLaw.{none-ran, none-worked, unasked-polled, unworked}
 use Rattle.endpoint_loop.specs.Stands.{StandsFor}
-use Rattle.endpoint_node.proofs.NoteStill.{AllStill, still-append}
-use Rattle.endpoint_node.proofs.NoteCounts.{many-append, many-none}
-use Rattle.endpoint_node.proofs.NoteSteps.{sent-append}
+use Rattle.node_steps.proofs.NoteStill.{AllStill, still-append}
+use Rattle.node_steps.proofs.NoteCounts.{many-append, many-none}
+use Rattle.node_steps.proofs.NoteSteps.{sent-append}
 use Rattle.node_laws.specs.NodeRun.{Group, LifeRun, delivers}
 use Rattle.rpc_base.specs.declared.event.Event.{Event}
 use Rattle.rpc_base.specs.declared.event.Event.TheVariants.{Arrived, Bad, Overflowed}
@@ -45,7 +45,7 @@ use Rattle.rpc_turns.specs.Moments.{Moment, Outside, Rested, endpoint_at}
 use Rattle.rpc_turns.specs.Turns.{Stands, TakesTurn, TellsMore, TellsTurn}
 use Rattle.rpc_turns.specs.Rests.{CountsIf, CountsTurn, Rests, is_asleep}
 use Rattle.rpc_turns.specs.declared.rest.Rest.{Rest}
-use Rattle.endpoint_node.specs.Status.{IsQuiet}
+use Rattle.node_steps.specs.Status.{IsQuiet}
 use Rattle.rpc_laws.specs.declared.tables.Lists.{Lists}
 
 module _ (v : Serving) (me life : ℕ) (limits : Limits) where

@@ -3,8 +3,8 @@ use Rattle.std.proofs.Common.{◌≡◌, [], ◌++◌, refl, sym, ap₂, ◌∙�
 use Rattle.std.proofs.lemmas.List.{map-append}
 use Rattle.client_core.specs.Shown.{done_fact}
 use Rattle.endpoint_loop.specs.Endpoints.{Running}
-use Rattle.endpoint_node.proofs.HandedGiven.{gave-none, gave-then}
-use Rattle.endpoint_node.proofs.NoteEnds.{ends-append}
+use Rattle.node_steps.proofs.HandedGiven.{gave-none, gave-then}
+use Rattle.node_steps.proofs.NoteEnds.{ends-append}
 use Rattle.rpc_outside.specs.declared.service.Service as Service
 use Rattle.rpc_turns.proofs.RunLemmas.{goes-none, goes-then}
 use Rattle.rpc_turns.specs.Moments.{Moment, Outside}

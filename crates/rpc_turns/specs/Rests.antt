@@ -3,8 +3,8 @@ use Rattle.std.specs.Prelude.{◌≡◌, ◌↔◌, ℕ, ◌+◌, ◌^◌, ◌<�
 use Rattle.std.specs.Prelude.{Option, Some}
 use Rattle.std.specs.Prelude.{IsTrue, if◌then◌else◌}
 use Rattle.endpoint_loop.specs.declared.endpoint.poll.Turn.{Turn}
-use Rattle.endpoint_node.specs.Due.{RestsAt}
-use Rattle.endpoint_node.specs.Status.{IsQuiet}
+use Rattle.node_steps.specs.Due.{RestsAt}
+use Rattle.node_steps.specs.Status.{IsQuiet}
 use Rattle.rpc_turns.specs.declared.rest.Rest.{Rest}
 use Rattle.rpc_turns.specs.declared.rest.TheConstants.{EMPTY_TURNS}
 use Rattle.rpc_laws.specs.declared.tables.Lists.{Lists}

@@ -4,9 +4,9 @@ use Rattle.std.specs.List.{filter}
 use Rattle.client_core.specs.Shown.{done_fact}
 use Rattle.client_core.specs.declared.outcome.Done.{Done}
 use Rattle.endpoint_loop.specs.declared.endpoint.poll.Turn.{Turn}
-use Rattle.endpoint_node.specs.Changes.{Change}
-use Rattle.endpoint_node.specs.Given.{Gave}
-use Rattle.endpoint_node.specs.Notes.{asked_in, is_end, sent_of}
+use Rattle.node_steps.specs.Changes.{◌⟶◌, Change}
+use Rattle.node_steps.specs.Given.{Gave}
+use Rattle.node_steps.specs.Notes.{asked_in, is_end, sent_of}
 use Rattle.endpoint_loop.specs.Endpoints.{Running}
 use Rattle.endpoint_loop.specs.Stands.{StandsFor}
 use Rattle.endpoint_loop.specs.Turns.{MakesTurn}
@@ -17,6 +17,7 @@ use Rattle.rpc_outside.specs.Recording.{Grew, Log}
 use Rattle.rpc_outside.specs.Ticking.{Gives}
 use Rattle.rpc_outside.specs.declared.service.Service as Service
 use Rattle.rpc_turns.specs.Moments.{Edges, Moment, Outside, Rested}
+use Rattle.endpoint_loop.specs.Bounds.{bounds}
 use Rattle.rpc_turns.specs.Rests.{CountsTurn, Rests, is_asleep}
 use Rattle.worker_crew.specs.declared.workers.Workers as Workers
 
@@ -48,8 +49,8 @@ pub record TakesTurn {V W L C R K : Type 0} (service : Service.Ghosts V)
   pub rests : Rests o.net (is_asleep old.run.rest) old.edges.link ready
   pub now : ℕ
   pub ticks : Gives o.gave old.edges.clock new.edges.clock now
-  pub turns : MakesTurn o.log o.net given service workers told now ready new.edges.link
-      old.run.endpoint new.run.endpoint old.edges.rec new.edges.rec from to memory
+  pub turns : MakesTurn (bounds o.log given service workers) o.net told now (ready ⟶ new.edges.link)
+      (old.run.endpoint ⟶ new.run.endpoint) (old.edges.rec ⟶ new.edges.rec) (from ⟶ to) memory
   pub counts : CountsTurn told new.run.endpoint.timed.lists old.run.rest new.run.rest
 
 -- what the facts of a turn tell besides: the calls that the continuation was given are those whose

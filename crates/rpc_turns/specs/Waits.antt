@@ -4,8 +4,8 @@ use Rattle.std.specs.List.{filter}
 use Rattle.client_core.specs.Shown.{done_fact}
 use Rattle.client_core.specs.declared.outcome.Done.{Done}
 use Rattle.endpoint_loop.specs.Endpoints.{Running}
-use Rattle.endpoint_node.specs.Given.{Gave}
-use Rattle.endpoint_node.specs.Notes.{is_end}
+use Rattle.node_steps.specs.Given.{Gave}
+use Rattle.node_steps.specs.Notes.{is_end}
 use Rattle.rpc_base.specs.declared.fact.Fact.{Fact}
 use Rattle.rpc_base.specs.declared.limits.Limits.{Limits}
 use Rattle.rpc_outside.specs.Recording.{Log}

@@ -1,7 +1,7 @@
 //! Sessions and calls of a run.
 ghost use Rattle.std.specs.Prelude.{◌≡◌, ◌≤◌, [], true, length, IfErr, IfOk, OnErr, OnOk};
 ghost use Rattle.memory_count.specs.Faults.{HasRisenBy};
-ghost use Rattle.endpoint_node.specs.Notes.{Makes};
+ghost use Rattle.node_steps.specs.Notes.{Makes};
 ghost use Rattle.message_buffer.specs.Buffer.{bytes_of, capacity_of};
 ghost use Rattle.rpc_base.specs.declared.state.SessionState.TheVariants.{Connected};
 ghost use Rattle.rpc_laws.specs.Groups.{Asks};

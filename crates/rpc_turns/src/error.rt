@@ -1,6 +1,6 @@
 //! Why a call of a run fails.
 ghost use Rattle.std.specs.Prelude.{◌≡◌, ◌≢◌};
-ghost use Rattle.endpoint_node.specs.declared.node.calls.AskError.TheVariants.{NoMemory as AskWanting};
+ghost use Rattle.node_steps.specs.declared.refusals.AskError.TheVariants.{NoMemory as AskWanting};
 ghost use Rattle.rpc_turns.specs.declared.error.RpcError.TheVariants.{Link, NoMemory as Wanting};
 ghost use Rattle.session_mgmt.specs.declared.answers.ConnectError.TheVariants.{NoMemory as ConnectWanting};
 

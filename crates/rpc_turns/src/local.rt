@@ -1,6 +1,6 @@
 //! Endpoints whose jobs are worked on their own thread, or that have none.
 ghost use Rattle.std.specs.Prelude.{◌≡◌, ◌≢◌, ◌≤◌, ℕ, [], IfOk};
-ghost use Rattle.endpoint_node.specs.Packets.{WorksFor};
+ghost use Rattle.node_steps.specs.Packets.{WorksFor};
 ghost use Rattle.memory_count.specs.Faults.{HasCause};
 ghost use Rattle.rpc_base.specs.Limits.{Fits};
 ghost use Rattle.rpc_laws.specs.NodeLists.{new_node};

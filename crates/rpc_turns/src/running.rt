@@ -1,7 +1,7 @@
 //! A run that owns all that it is made of.
 ghost use Rattle.std.specs.Prelude.{◌≡◌, ◌≢◌, ◌≤◌, ◌++◌, ℕ, [], drop, option_to_list, IfOk};
-ghost use Rattle.endpoint_node.specs.Changes.{◌⟶◌};
-ghost use Rattle.endpoint_node.specs.Handed.{GivesBackTo};
+ghost use Rattle.node_steps.specs.Changes.{◌⟶◌};
+ghost use Rattle.node_steps.specs.Handed.{GivesBackTo};
 ghost use Rattle.endpoint_loop.specs.Polls.{turn_of};
 ghost use Rattle.memory_count.specs.Faults.{HasCause};
 ghost use Rattle.rpc_outside.specs.declared.service.Mode.TheVariants.{Background};

@@ -1,7 +1,7 @@
 //! A turn of a run.
 ghost use Rattle.std.specs.Prelude.{◌≡◌, ◌≤◌};
-ghost use Rattle.endpoint_node.specs.Changes.{◌⟶◌};
-ghost use Rattle.endpoint_node.specs.Handed.{GivesBackTo};
+ghost use Rattle.node_steps.specs.Changes.{◌⟶◌};
+ghost use Rattle.node_steps.specs.Handed.{GivesBackTo};
 ghost use Rattle.endpoint_loop.specs.Polls.{turn_of};
 ghost use Rattle.endpoint_loop.specs.Stands.{GoesOn};
 ghost use Rattle.rpc_turns.specs.Moments.{outside, rested, where_at};

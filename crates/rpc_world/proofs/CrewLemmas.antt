@@ -5,9 +5,9 @@ use Rattle.std.specs.Prelude.{count_by, sum_by, slice_get}
 use Rattle.std.specs.List.{AllByRecursion, find, remove}
 use Rattle.std.proofs.lemmas.List.{map-append}
 use Rattle.std.proofs.lemmas.List.Sums.{sum_by-append, sum_by-cons}
-use Rattle.endpoint_node.specs.Jobs.{CanFinish, asked_job, staff_of}
+use Rattle.node_steps.specs.Jobs.{CanFinish, asked_job, staff_of}
 use Rattle.endpoint_loop.specs.Endpoints.{IsStaffed, asked_in, asks_of, is_job_of, told}
-use Rattle.endpoint_node.specs.Seen.{Asks, with_ask}
+use Rattle.node_steps.specs.Seen.{Asks, with_ask}
 use Rattle.node_laws.specs.Kept.{Kept}
 use Rattle.packet_header.specs.Parts.{IsMessage}
 use Rattle.rpc_base.proofs.FirstLemmas.{counted-cons}

@@ -4,9 +4,9 @@ use Rattle.std.proofs.Common.{map, refl, sym, ap, subst, ◌∙◌, arith}
 use Rattle.std.specs.Prelude.{count_by, sum_by}
 use Rattle.std.specs.List.{AllByRecursion}
 use Rattle.std.proofs.lemmas.List.Sums.{sum_by-cons}
-use Rattle.endpoint_node.specs.Jobs.{CanFinish, Staff, asked_job, staff_of}
+use Rattle.node_steps.specs.Jobs.{CanFinish, Staff, asked_job, staff_of}
 use Rattle.endpoint_loop.specs.Endpoints.{IsStaffed, asks_of, is_job_of}
-use Rattle.endpoint_node.specs.Seen.{Asks, asking, with_ask}
+use Rattle.node_steps.specs.Seen.{Asks, asking, with_ask}
 use Rattle.node_laws.specs.Kept.{Kept}
 use Rattle.node_laws.specs.Valid.{Valid, jobs_of}
 use Rattle.rpc_base.proofs.FirstLemmas.{counted-cons}

@@ -6,9 +6,9 @@ use Rattle.std.specs.Prelude.{option_map}
 use Rattle.std.specs.List.{slice_get, slice_set}
 use Rattle.std.proofs.lemmas.Option.{slice_get-map}
 use Rattle.endpoint_loop.specs.Endpoints.{Leaves}
-use Rattle.endpoint_node.specs.Pairs.{PairsClient, PairsServer, or_refused}
+use Rattle.node_steps.specs.Pairs.{PairsClient, PairsServer, or_refused}
 use Rattle.endpoint_loop.specs.Endpoints.{asks_of}
-use Rattle.endpoint_node.specs.Seen.{Asks, asking}
+use Rattle.node_steps.specs.Seen.{Asks, asking}
 use Rattle.ring_laws.proofs.Frames.{map-set, set-same}
 use Rattle.rpc_base.specs.declared.event.Event.{Event}
 use Rattle.rpc_base.specs.declared.event.Event.TheVariants.{PairedClient, PairedServer, NconnectNumbers, NconnectRing}

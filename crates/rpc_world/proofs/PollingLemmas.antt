@@ -6,12 +6,12 @@ use Rattle.std.specs.Prelude.{option_map, slice_get, slice_set}
 use Rattle.std.proofs.lemmas.List.{map-append}
 use Rattle.std.proofs.lemmas.Simd.{map-map}
 use Rattle.end_laws.proofs.OwnFacts.{poll-own}
-use Rattle.endpoint_node.specs.Jobs.{FinishesThese, NoneBack, jobs_left}
-use Rattle.endpoint_node.specs.Notes.{sent_by, sent_of}
+use Rattle.node_steps.specs.Jobs.{FinishesThese, NoneBack, jobs_left}
+use Rattle.node_steps.specs.Notes.{sent_by, sent_of}
 use Rattle.endpoint_loop.specs.Polls.{FinishesBack, PollsWith as EndPolls, SendsUntil}
 use Rattle.endpoint_loop.specs.Endpoints.{crew_of}
-use Rattle.endpoint_node.specs.Seen.{Asks, with_ask}
-use Rattle.endpoint_node.specs.Requests.{job_named}
+use Rattle.node_steps.specs.Seen.{Asks, with_ask}
+use Rattle.node_steps.specs.Requests.{job_named}
 use Rattle.node_laws.specs.Kept.{Kept}
 use Rattle.network_model.specs.Sending.{copy_from}
 use Rattle.rpc_base.specs.declared.event.Event.{Event}

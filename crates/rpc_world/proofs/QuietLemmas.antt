@@ -4,15 +4,15 @@ use Rattle.std.proofs.Common.{◌≡◌, ℕ, Bool, true, false, not, cond, Opti
 use Rattle.std.proofs.Common.{◌∷◌, length, nat_lt, refl, sym, ap, subst, ◌∙◌, ◌≢◌, Result, Ok, Err}
 use Rattle.std.specs.Prelude.{◌==◌, IfErr}
 use Rattle.std.specs.List.{find}
-use Rattle.endpoint_node.specs.Jobs.{staff_of}
+use Rattle.node_steps.specs.Jobs.{staff_of}
 use Rattle.end_laws.proofs.OwnFacts.{asks-own, connects-own, delivers-own, disconnects-own, rates-own}
 use Rattle.endpoint_loop.specs.Endpoints.{Leaves}
-use Rattle.endpoint_node.specs.Pairs.{UnlessNoMemory}
-use Rattle.endpoint_node.specs.Asks.{UnlessWanting}
-use Rattle.endpoint_node.specs.declared.node.calls.AskError.TheVariants.{NoMemory}
-use Rattle.endpoint_node.specs.declared.node.calls.Refused.{Refused}
+use Rattle.node_steps.specs.Pairs.{UnlessNoMemory}
+use Rattle.node_steps.specs.Asks.{UnlessWanting}
+use Rattle.node_steps.specs.declared.refusals.AskError.TheVariants.{NoMemory}
+use Rattle.node_steps.specs.declared.refusals.Refused.{Refused}
 use Rattle.endpoint_loop.specs.Endpoints.{IsStaffed, asks_of}
-use Rattle.endpoint_node.specs.Seen.{Asks as AsksBytes, asking}
+use Rattle.node_steps.specs.Seen.{Asks as AsksBytes, asking}
 use Rattle.rpc_base.specs.declared.event.Event.{Event}
 use Rattle.rpc_base.specs.declared.event.Event.TheVariants.{Arrived, Bad, Closing, NcallTooLarge}
 use Rattle.rpc_base.specs.declared.event.Event.TheVariants.{NcloseBusy, NcloseState, NconnectNumbers}

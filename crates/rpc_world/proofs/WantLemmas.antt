@@ -2,8 +2,8 @@
 -- memory was refused.
 use Rattle.std.proofs.Common.{◌≡◌, ◌+◌, ◌≤◌, ◌||◌, ℕ, Bool, true, false, cond, List, [], ◌∷◌, arith, refl}
 use Rattle.std.specs.List.{list_any}
-use Rattle.endpoint_node.specs.Lacks.{is_lack, lacks_in}
-use Rattle.endpoint_node.specs.Links.{HeldBack, Troubles, is_unsent, unsent_in}
+use Rattle.node_steps.specs.Lacks.{is_lack, lacks_in}
+use Rattle.node_steps.specs.Links.{HeldBack, Troubles, is_unsent, unsent_in}
 use Rattle.memory_count.specs.Faults.{HasRisen, HasRisenBy}
 use Rattle.rpc_base.proofs.FirstLemmas.{counted-cons}
 use Rattle.rpc_base.specs.declared.event.Event.{Event}

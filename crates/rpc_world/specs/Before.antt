@@ -1,7 +1,7 @@
 -- What the world has before each command of a script, and what that command may name.
 use Rattle.std.specs.Prelude.{ℕ, ◌≡◌, ◌+◌, ◌<◌, ◌≤◌, List, None, Some, length, slice_get}
 use Rattle.std.specs.List.{AllByRecursion}
-use Rattle.endpoint_node.specs.Jobs.{staff_of}
+use Rattle.node_steps.specs.Jobs.{staff_of}
 use Rattle.endpoint_loop.specs.Endpoints.{IsStaffed}
 use Rattle.packet_header.specs.Ranges.{Within, lives}
 use Rattle.rpc_base.specs.Limits.{Fits}

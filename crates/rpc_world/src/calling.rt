@@ -1,7 +1,7 @@
 //! `call`: a node is asked a call.
 ghost use Rattle.std.specs.Prelude.{◌≡◌, ◌≢◌, ◌<◌, ◌≤◌, ◌%◌, false, true, length, map, IfErr, IfOk, OnOk};
 ghost use Rattle.std.specs.List.{range_with_len};
-ghost use Rattle.endpoint_node.specs.Lacks.{lacks_asked};
+ghost use Rattle.node_steps.specs.Lacks.{lacks_asked};
 ghost use Rattle.memory_count.specs.Faults.{HasReason};
 ghost use Rattle.message_buffer.specs.Buffer.{bytes_of};
 ghost use Rattle.rpc_laws.specs.Groups.{Asks};

@@ -7,7 +7,7 @@ use Rattle.node_laws.specs.NodeRun.{asks, connects, disconnects, sets_rate}
 use Rattle.end_laws.specs.JointRun.{AloneGroup}
 use Rattle.endpoint_loop.proofs.StandingSessions.{connect-still, disconnect-still}
 use Rattle.endpoint_loop.proofs.StandingLaw.{ask-still, is_labour, rate-still}
-use Rattle.endpoint_node.proofs.NoteStill.{Stills}
+use Rattle.node_steps.proofs.NoteStill.{Stills}
 use Rattle.turn_laws.specs.Endpoints.{Call, CallDoes, MayCall, ask, connect, disconnect, set_rate}
 
 pub call-still : (call : Call) → Stills is_labour (CallDoes call)

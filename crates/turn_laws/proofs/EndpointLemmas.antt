@@ -20,22 +20,23 @@ use Rattle.rpc_laws.proofs.AnswerLemmas.{answers-append, served-append}
 use Rattle.node_laws.specs.NodeRun.{polls}
 use Rattle.end_laws.specs.JointRun.{AloneGroup}
 use Rattle.endpoint_loop.specs.Endpoints.{Leaves}
-use Rattle.endpoint_node.specs.Changes.{Change}
-use Rattle.endpoint_node.specs.Jobs.{staff_of}
-use Rattle.endpoint_node.specs.Notes.{Makes}
+use Rattle.node_steps.specs.Changes.{◌⟶◌, Change}
+use Rattle.node_steps.specs.Jobs.{staff_of}
+use Rattle.node_steps.specs.Notes.{Makes}
 use Rattle.endpoint_loop.specs.Polls.{FinishesBack, LinkTells, MakesPoll, SendsUntil, is_stopped}
 use Rattle.endpoint_loop.specs.Endpoints.{IsStaffed, Running, asks_of, crew_of, told}
 use Rattle.endpoint_loop.specs.Turns.{DeliversAll}
 use Rattle.endpoint_loop.specs.declared.endpoint.poll.Turn.{Turn}
-use Rattle.endpoint_node.proofs.PacketCrew.{staffed-still}
+use Rattle.node_steps.proofs.PacketCrew.{staffed-still}
 use Rattle.endpoint_loop.proofs.PollLaw.{still-answers, these-still}
 use Rattle.endpoint_loop.proofs.StandingLaw.{is_labour, none-ran, none-worked, poll-as}
 use Rattle.endpoint_loop.proofs.StandingLaw.{poll-unworked}
 use Rattle.endpoint_loop.proofs.StandingLaw.{delivery-still, sends-some, these-some, unworked}
-use Rattle.endpoint_node.proofs.NoteStill.{AllStill, Stills, sends-still, still-append}
-use Rattle.endpoint_node.proofs.NoteCounts.{is_work, many-append, many-none}
+use Rattle.node_steps.proofs.NoteStill.{AllStill, Stills, sends-still, still-append}
+use Rattle.node_steps.proofs.NoteCounts.{is_work, many-append, many-none}
 use Rattle.turn_laws.specs.Deeds.{Deed, Does, NodeDid, acts, noted_in, rests}
 use Rattle.turn_laws.specs.Endpoints.{EndpointDid, seen}
+use Rattle.endpoint_loop.specs.Bounds.{bounds}
 use Rattle.turn_laws.proofs.DeedLemmas.{deed-keeps, does-more, noted-more}
 use Rattle.worker_crew.specs.Jobs.{Job as CrewJob}
 use Rattle.worker_crew.specs.declared.workers.Workers as Workers
@@ -150,7 +151,8 @@ module _ {V W : Type 0} (service : Service.Ghosts V) (workers : Workers.Ghosts W
       (turn : Option Turn)
       (now : ℕ) (link then_link : LinkTells) (a b : Running V W) (f g : R) (j k : K)
       (memory : Change ℕ)
-      → (h : MakesPoll log given service workers turn now link then_link a b f g j k memory)
+      → (h : MakesPoll (bounds log given service workers) turn now (link ⟶ then_link) (a ⟶ b)
+      (f ⟶ g) (j ⟶ k) memory)
       → Staffed a
       → Part (Poll service.mode_of now) h.noted a b
   poll-part log given turn now link then_link a b f g j k memory h staffed =

@@ -15,11 +15,11 @@ use Rattle.rpc_laws.specs.Service.{Answers, Serving, rules_of, served_after_all}
 use Rattle.rpc_laws.proofs.AnswerLemmas.{answers-append, served-append}
 use Rattle.end_laws.specs.JointRun.{Joint, Party, at_node}
 use Rattle.end_laws.specs.WireRun.{WireRun}
-use Rattle.endpoint_node.specs.Notes.{sent_of}
+use Rattle.node_steps.specs.Notes.{sent_of}
 use Rattle.endpoint_loop.specs.Endpoints.{Running}
 use Rattle.endpoint_loop.proofs.StandingLaw.{unworked}
-use Rattle.endpoint_node.proofs.NoteStill.{AllStill}
-use Rattle.endpoint_node.proofs.NoteCounts.{is_work, many-append, many-none}
+use Rattle.node_steps.proofs.NoteStill.{AllStill}
+use Rattle.node_steps.proofs.NoteCounts.{is_work, many-append, many-none}
 use Rattle.turn_laws.specs.Deeds.{Deed, Does}
 use Rattle.turn_laws.specs.Endpoints.{DoesMore, GoesOnFrom, GoesOnWire, IsEndpoint, Stays, seen}
 use Rattle.turn_laws.specs.Wires.{AreOnWire, on_wire}

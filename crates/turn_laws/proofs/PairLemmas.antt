@@ -24,11 +24,11 @@ use Rattle.rpc_laws.proofs.AnswerLemmas.{served-append}
 use Rattle.rpc_laws.proofs.RunLemmas.{me-after_all}
 use Rattle.end_laws.specs.JointRun.{Joint, at_node, noted_by}
 use Rattle.end_laws.specs.WireRun.{WireStep, WireSteps, more, pairs}
-use Rattle.endpoint_node.specs.Pairs.{PairsClient, PairsServer, or_refused}
+use Rattle.node_steps.specs.Pairs.{PairsClient, PairsServer, or_refused}
 use Rattle.endpoint_loop.specs.Endpoints.{Running}
 use Rattle.endpoint_loop.proofs.StandingLaw.{client-still, server-still}
-use Rattle.endpoint_node.proofs.NoteStill.{AllStill}
-use Rattle.endpoint_node.proofs.NoteCounts.{is_work}
+use Rattle.node_steps.proofs.NoteStill.{AllStill}
+use Rattle.node_steps.proofs.NoteCounts.{is_work}
 use Rattle.turn_laws.specs.Endpoints.{IsEndpoint, seen}
 use Rattle.turn_laws.specs.Pairs.{PairsGoOnWires}
 use Rattle.turn_laws.proofs.DeedLemmas.{parts-grow}

@@ -24,7 +24,7 @@ use Rattle.end_laws.proofs.WireOwn.{wire-own}
 use Rattle.end_laws.proofs.ListLemmas.{Placed, add-placed, length-slice_set, set-placed}
 use Rattle.end_laws.specs.JointRun.{Joint, at_node}
 use Rattle.end_laws.specs.WireRun.{WireStep, WireSteps, makes, more, none}
-use Rattle.endpoint_node.specs.Notes.{sent_of}
+use Rattle.node_steps.specs.Notes.{sent_of}
 use Rattle.turn_laws.specs.Deeds.{Deed, DoesAll, noted_in}
 use Rattle.turn_laws.specs.Systems.{EachWasSent, RunsOverWires, System, SystemDid, WasSent}
 use Rattle.turn_laws.specs.Systems.{WireRunsKeepCalls}

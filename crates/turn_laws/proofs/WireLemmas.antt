@@ -17,9 +17,9 @@ use Rattle.rpc_laws.specs.Front.{is_control, is_message}
 use Rattle.rpc_laws.specs.InFlight.{flight_after, flight_after_all, flight_after_node, flight_at}
 use Rattle.end_laws.specs.JointRun.{Party, Joint}
 use Rattle.end_laws.specs.WireRun.{WireStep, WireSteps, acts as acts_alone, hears, more}
-use Rattle.endpoint_node.specs.Notes.{sent_by, sent_of}
+use Rattle.node_steps.specs.Notes.{sent_by, sent_of}
 use Rattle.endpoint_loop.specs.Turns.{DeliversAll}
-use Rattle.endpoint_node.proofs.NoteSteps.{sent-append}
+use Rattle.node_steps.proofs.NoteSteps.{sent-append}
 use Rattle.turn_laws.specs.Deeds.{Deed, Does, MayAct, acts, rests}
 use Rattle.turn_laws.specs.Wires.{AreOnWire, on_wire}
 use Rattle.turn_laws.proofs.DeedLemmas.{acted-keeps, delivered-keeps}

@@ -19,14 +19,15 @@ use Rattle.node_laws.specs.NodeRun.{IsCredits}
 use Rattle.end_laws.specs.JointRun.{Party, Joint, at_node}
 use Rattle.end_laws.specs.WireRun.{WireRun}
 use Rattle.endpoint_loop.specs.Endpoints.{Leaves}
-use Rattle.endpoint_node.specs.Changes.{Change}
-use Rattle.endpoint_node.specs.Jobs.{staff_of}
-use Rattle.endpoint_node.specs.Notes.{Makes, sent_of}
+use Rattle.node_steps.specs.Changes.{◌⟶◌, Change}
+use Rattle.node_steps.specs.Jobs.{staff_of}
+use Rattle.node_steps.specs.Notes.{Makes, sent_of}
 use Rattle.endpoint_loop.specs.Polls.{LinkTells, MakesPoll}
 use Rattle.endpoint_loop.specs.Endpoints.{IsStaffed, Running, told}
 use Rattle.endpoint_loop.specs.Turns.{MakesTurn}
 use Rattle.endpoint_loop.specs.declared.endpoint.poll.Turn.{Turn}
 use Rattle.turn_laws.specs.Deeds.{Deed, NodeDid, noted_in}
+use Rattle.endpoint_loop.specs.Bounds.{bounds}
 use Rattle.turn_laws.specs.Wires.{AreOnWire, on_wire}
 use Rattle.worker_crew.specs.declared.workers.Workers as Workers
 
@@ -109,8 +110,8 @@ TurnsAreDeeds {R} {K} {L} {V} {W} log net given service workers =
     (turn : Option Turn) (now : ℕ) (link then_link : L) (old new : Running V W) (before later : R)
     (from to : K) (memory : Change ℕ)
     → IsStaffed workers.answer (staff_of workers old.workers) old.timed
-    → (m : MakesTurn log net given service workers turn now link then_link old new before later
-    from to memory) → DoesMore log service workers m.came old new before later
+    → (m : MakesTurn (bounds log given service workers) net turn now (link ⟶ then_link) (old ⟶ new)
+    (before ⟶ later) (from ⟶ to) memory) → DoesMore log service workers m.came old new before later
 
 -- so is a poll, in which none comes
 abbrev pub PollsAreDeeds : {R K V W : Type 0} → (R → Log) → (K → List Done → Type 0)
@@ -119,8 +120,8 @@ PollsAreDeeds {R} {K} {V} {W} log given service workers =
     (turn : Option Turn) (now : ℕ) (link then_link : LinkTells) (old new : Running V W)
     (before later : R) (from to : K) (memory : Change ℕ)
     → IsStaffed workers.answer (staff_of workers old.workers) old.timed
-    → MakesPoll log given service workers turn now link then_link old new before later from to
-    memory
+    → MakesPoll (bounds log given service workers) turn now (link ⟶ then_link) (old ⟶ new)
+    (before ⟶ later) (from ⟶ to) memory
     → DoesMore log service workers [] old new before later
 
 -- and so is a delivery, of the datagram that it delivers

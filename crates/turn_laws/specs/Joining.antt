@@ -8,7 +8,7 @@ use Rattle.rpc_laws.specs.Lives.{first_life}
 use Rattle.rpc_laws.specs.NodeLists.{new_node}
 use Rattle.end_laws.specs.JointRun.{Party, Joint, limits_of}
 use Rattle.end_laws.specs.WireRun.{WireRun}
-use Rattle.endpoint_node.specs.Jobs.{staff_of}
+use Rattle.node_steps.specs.Jobs.{staff_of}
 use Rattle.endpoint_loop.specs.Endpoints.{IsStaffed, Running}
 use Rattle.turn_laws.specs.Endpoints.{IsEndpoint, Stays, seen}
 use Rattle.worker_crew.specs.declared.workers.Workers as Workers

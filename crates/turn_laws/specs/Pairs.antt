@@ -9,8 +9,8 @@ use Rattle.node_laws.specs.NodeRun.{IsCredits}
 use Rattle.end_laws.specs.JointRun.{Party, Joint}
 use Rattle.end_laws.specs.WireRun.{WireRun}
 use Rattle.endpoint_loop.specs.Endpoints.{Leaves}
-use Rattle.endpoint_node.specs.Pairs.{PairsClient, PairsServer}
-use Rattle.endpoint_node.specs.Notes.{Makes}
+use Rattle.node_steps.specs.Pairs.{PairsClient, PairsServer}
+use Rattle.node_steps.specs.Notes.{Makes}
 use Rattle.endpoint_loop.specs.Endpoints.{Running}
 use Rattle.turn_laws.specs.Endpoints.{IsEndpoint, Stays}
 use Rattle.worker_crew.specs.declared.workers.Workers as Workers

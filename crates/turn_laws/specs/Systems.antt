@@ -15,7 +15,7 @@ use Rattle.rpc_laws.specs.OwnAnswer.{OwnBy}
 use Rattle.rpc_laws.specs.Service.{Serving}
 use Rattle.end_laws.specs.JointRun.{Party, Joint, services}
 use Rattle.end_laws.specs.WireRun.{WireRun}
-use Rattle.endpoint_node.specs.Notes.{sent_of}
+use Rattle.node_steps.specs.Notes.{sent_of}
 use Rattle.world_laws.specs.CallOrder.{CallsInOrder}
 use Rattle.world_laws.specs.OneCall.{OneCall}
 use Rattle.turn_laws.specs.Deeds.{Deed, NodeDid, noted_in}

@@ -1,19 +1,19 @@
 //! Calls are asked, and datagrams delivered.
-ghost use Rattle.endpoint_node.specs.Changes.{◌⟶◌};
+ghost use Rattle.node_steps.specs.Changes.{◌⟶◌};
 ghost use Rattle.endpoint_loop.specs.Calls.{Calls};
 ghost use Rattle.session_store.specs.Handing.{HandsInAt};
 ghost use Rattle.std.specs.Prelude.{◌≡◌, ◌<◌, Some, IfOk, OnErr};
 ghost use Rattle.std.specs.List.{find};
 ghost use Rattle.endpoint_loop.specs.Endpoints.{Leaves};
-ghost use Rattle.endpoint_node.specs.Asks.{IfWanting, IsAskedAs, UnlessWanting, refusal_of};
-ghost use Rattle.endpoint_node.specs.Deliveries.{delivered_as};
-ghost use Rattle.endpoint_node.specs.Notes.{Makes};
+ghost use Rattle.node_steps.specs.Asks.{IfWanting, IsAskedAs, UnlessWanting, refusal_of};
+ghost use Rattle.node_steps.specs.Deliveries.{delivered_as};
+ghost use Rattle.node_steps.specs.Notes.{Makes};
 ghost use Rattle.message_buffer.specs.Buffer.{bytes_of, capacity_of};
 ghost use Rattle.rpc_laws.specs.Deliveries.{Delivers};
 ghost use Rattle.rpc_laws.specs.Groups.{Asks, state_of};
 ghost use Rattle.rpc_laws.specs.Sessions.{is_client};
 ghost use Rattle.endpoint_loop.specs.Stands.{GoesOn};
-ghost use Rattle.endpoint_node.specs.Lacks.{lacks_asked};
+ghost use Rattle.node_steps.specs.Lacks.{lacks_asked};
 ghost use Rattle.memory_count.specs.Faults.{HasRisenBy};
 
 use crate::endpoint::Endpoint;

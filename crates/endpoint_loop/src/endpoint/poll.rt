@@ -1,12 +1,9 @@
 //! A poll, step by step.
-ghost use Rattle.endpoint_node.specs.Changes.{◌⟶◌};
-ghost use Rattle.endpoint_node.specs.Handed.{GivesBackTo};
-ghost use Rattle.std.specs.Prelude.{◌≡◌, ◌≤◌, ◌*◌, ◌↔◌, IsTrue, false, true, IfOk};
-ghost use Rattle.endpoint_loop.specs.Polls.{MakesPoll, turn_of, turn_told, wire_of};
-ghost use Rattle.endpoint_loop.specs.Stands.{GoesOn};
+ghost use Rattle.std.specs.Prelude.{◌≡◌, ◌≤◌, ◌*◌, ◌↔◌, IsTrue, false, IfOk};
+ghost use Rattle.node_steps.specs.Changes.{◌⟶◌};
+ghost use Rattle.endpoint_loop.specs.Bounds.{bounds};
+ghost use Rattle.endpoint_loop.specs.Polls.{Polls, turn_of, turn_told};
 ghost use Rattle.rpc_laws.specs.Deliveries.{inbox_room};
-ghost use Rattle.memory_count.specs.Faults.{HasCause, HasRisen};
-ghost use Rattle.rpc_outside.specs.Linking.{NoneComes};
 
 use crate::endpoint::Endpoint;
 use endpoint_node::{Asking, Continuation, Listening, Sending};
@@ -96,17 +93,9 @@ impl<V: Service, W: Workers> Endpoint<V, W> {
         k: &mut K,
         rec: &mut R,
     ) -> Result<Turn, LinkFault>
-        ensures polls { MakesPoll R.log K.given V.Service W.Workers (turn_of result) now
-            (wire_of L.Link link.old) (wire_of L.Link link.new) self.old self.new rec.old rec.new
-            k.old k.new (memory.old ⟶ memory.new) }
-        ensures goes_on { GoesOn R.log V.Service W.Workers self.old self.new rec.old rec.new }
-        ensures busy { IfOk result (λ turn. turn.busy ≡ true →
-            HasRisen (L.busies link.old) (L.busies link.new)) }
-        ensures team { W.team self.new.workers ≡ W.team self.old.workers }
-        ensures lists { NoneComes L.waiting L.received link.old link.new }
-        ensures cause { HasCause (L.faults link.old) (L.faults link.new) result }
-        ensures handed { GivesBackTo K.given self.old.handed self.new.handed k.old k.new }
-        ensures no_less { memory.old ≤ memory.new }
+        ensures { Polls (bounds R.log K.given V.Service W.Workers) L.Link result now
+            (link.old ⟶ link.new) (self.old ⟶ self.new) (rec.old ⟶ rec.new) (k.old ⟶ k.new)
+            (memory.old ⟶ memory.new) }
     {
         self.node.raise_clock(now);
         self.node.finish_all(&mut self.workers, rec);

@@ -1,10 +1,10 @@
 //! Sessions are paired, opened and closed by the application, and get their rates.
-ghost use Rattle.endpoint_node.specs.Changes.{◌⟶◌};
+ghost use Rattle.node_steps.specs.Changes.{◌⟶◌};
 ghost use Rattle.endpoint_loop.specs.Calls.{Calls, OpensClient, OpensServer};
 ghost use Rattle.std.specs.Prelude.{◌≡◌, ◌<◌, ◌≤◌, IfErr, OnErr, OnOk};
 ghost use Rattle.std.specs.List.{find};
-ghost use Rattle.endpoint_node.specs.Pairs.{PairsClient, PairsServer};
-ghost use Rattle.endpoint_node.specs.Rates.{RatedAs};
+ghost use Rattle.node_steps.specs.Pairs.{PairsClient, PairsServer};
+ghost use Rattle.node_steps.specs.Rates.{RatedAs};
 ghost use Rattle.rpc_laws.specs.Groups.{SetsRate, state_of, Connects, Disconnects, disconnect_by};
 ghost use Rattle.rpc_laws.specs.Groups.{pending as pending_of};
 ghost use Rattle.rpc_laws.specs.Sessions.{is_client};

@@ -1,8 +1,8 @@
 //! What an endpoint tells of itself.
 ghost use Rattle.std.specs.Prelude.{◌≡◌, ◌≤◌, ◌↔◌, None, IfErr, IsSome, IsTrue, OnOk};
 ghost use Rattle.std.specs.List.{find};
-ghost use Rattle.endpoint_node.specs.Due.{IsFirstDue};
-ghost use Rattle.endpoint_node.specs.Status.{IsQuiet, free_told, pending_told};
+ghost use Rattle.node_steps.specs.Due.{IsFirstDue};
+ghost use Rattle.node_steps.specs.Status.{IsQuiet, free_told, pending_told};
 ghost use Rattle.rpc_laws.specs.Groups.{pair_refusal};
 ghost use Rattle.rpc_laws.specs.NodeLists.{limits_of};
 ghost use Rattle.rpc_laws.specs.Sessions.{is_client};

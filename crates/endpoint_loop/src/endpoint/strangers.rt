@@ -1,6 +1,6 @@
 //! Peers with whom no session is live: a link may give their numbers to others.
 ghost use Rattle.std.specs.Prelude.{◌≡◌, ℕ, true, false};
-ghost use Rattle.endpoint_node.specs.Peers.{is_with};
+ghost use Rattle.node_steps.specs.Peers.{is_with};
 ghost use Rattle.endpoint_loop.specs.Turns.{HasSession, TellsAsBefore};
 
 use crate::endpoint::Endpoint;

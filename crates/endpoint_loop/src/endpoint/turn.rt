@@ -1,11 +1,10 @@
 //! A turn: datagrams are received and delivered, and then the endpoint polls.
-ghost use Rattle.endpoint_node.specs.Changes.{◌⟶◌};
-ghost use Rattle.endpoint_node.specs.Handed.{GivesBackTo};
-ghost use Rattle.std.specs.Prelude.{◌≡◌, ◌≤◌, true, IfOk, is_err};
-ghost use Rattle.endpoint_loop.specs.Polls.{turn_of};
+ghost use Rattle.std.specs.Prelude.{◌≡◌, is_err};
+ghost use Rattle.node_steps.specs.Changes.{◌⟶◌};
+ghost use Rattle.endpoint_loop.specs.Bounds.{bounds};
 ghost use Rattle.endpoint_loop.specs.Stands.{GoesOn};
-ghost use Rattle.endpoint_loop.specs.Turns.{MakesTurn, Receives};
-ghost use Rattle.memory_count.specs.Faults.{HasCause, HasRisen};
+ghost use Rattle.endpoint_loop.specs.Turns.{Receives, Turns};
+ghost use Rattle.memory_count.specs.Faults.{HasCause};
 
 use crate::endpoint::Endpoint;
 use crate::endpoint::poll::{LinkFault, Turn};
@@ -57,16 +56,9 @@ impl<V: Service, W: Workers> Endpoint<V, W> {
         k: &mut K,
         rec: &mut R,
     ) -> Result<Turn, LinkFault>
-        ensures turns { MakesTurn R.log L.Link K.given V.Service W.Workers (turn_of result) now
-            link.old link.new self.old self.new rec.old rec.new k.old k.new
+        ensures { Turns (bounds R.log K.given V.Service W.Workers) L.Link result now
+            (link.old ⟶ link.new) (self.old ⟶ self.new) (rec.old ⟶ rec.new) (k.old ⟶ k.new)
             (memory.old ⟶ memory.new) }
-        ensures goes_on { GoesOn R.log V.Service W.Workers self.old self.new rec.old rec.new }
-        ensures busy { IfOk result (λ turn. turn.busy ≡ true →
-            HasRisen (L.busies link.old) (L.busies link.new)) }
-        ensures team { W.team self.new.workers ≡ W.team self.old.workers }
-        ensures cause { HasCause (L.faults link.old) (L.faults link.new) result }
-        ensures handed { GivesBackTo K.given self.old.handed self.new.handed k.old k.new }
-        ensures no_less { memory.old ≤ memory.new }
     {
         let received = self.receive(senders, link, rec);
         let polled = self.poll(memory, now, link, k, rec);
@@ -90,16 +82,9 @@ impl<V: Service, W: Workers> Endpoint<V, W> {
         k: &mut K,
         rec: &mut R,
     ) -> Result<Turn, LinkFault>
-        ensures turns { MakesTurn R.log L.Link K.given V.Service W.Workers (turn_of result) now
-            link.old link.new self.old self.new rec.old rec.new k.old k.new
+        ensures { Turns (bounds R.log K.given V.Service W.Workers) L.Link result now
+            (link.old ⟶ link.new) (self.old ⟶ self.new) (rec.old ⟶ rec.new) (k.old ⟶ k.new)
             (memory.old ⟶ memory.new) }
-        ensures goes_on { GoesOn R.log V.Service W.Workers self.old self.new rec.old rec.new }
-        ensures busy { IfOk result (λ turn. turn.busy ≡ true →
-            HasRisen (L.busies link.old) (L.busies link.new)) }
-        ensures team { W.team self.new.workers ≡ W.team self.old.workers }
-        ensures cause { HasCause (L.faults link.old) (L.faults link.new) result }
-        ensures handed { GivesBackTo K.given self.old.handed self.new.handed k.old k.new }
-        ensures no_less { memory.old ≤ memory.new }
     {
         let mut senders = Senders::new();
         let told = self.receive_and_poll(memory, now, &mut senders, link, k, rec);

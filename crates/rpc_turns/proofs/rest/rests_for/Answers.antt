@@ -1,6 +1,6 @@
 -- nothing is due up to the moment at which something is, or up to the last that was asked for
 use Rattle.std.proofs.Common.{arith, subst, sym, ◌≡◌, ◌+◌}
-use Rattle.endpoint_node.specs.Due.{RestsAt}
+use Rattle.node_steps.specs.Due.{RestsAt}
 use Rattle.rpc_turns.proofs.rest.rests_for.Goals as goal
 
 pub returns-in-Some : goal.returns-in-Some

@@ -8,7 +8,7 @@ use Rattle.rpc_laws.specs.InFlight.{flight_after_all}
 use Rattle.rpc_laws.specs.PollOrder.{PollBy, SendsAll}
 use Rattle.rpc_laws.specs.Working.{FinishesWorked}
 use Rattle.rpc_outside.specs.PlainAnswer.{plain_mode}
-use Rattle.endpoint_node.specs.Notes.{sent_of}
+use Rattle.node_steps.specs.Notes.{sent_of}
 use Rattle.rpc_world.specs.Answered.{Play, Whole}
 use Rattle.sim_script.specs.FollowsScript.{is_wanting}
 use Rattle.rpc_world.proofs.PeerSteps.{poll-names}

@@ -2,7 +2,7 @@ use Rattle.std.proofs.Common.{refl, ap}
 use Rattle.message_buffer.specs.Buffer.{bytes_of, capacity_of}
 use Rattle.node_laws.specs.NodeRun.{asks}
 use Rattle.rpc_laws.specs.Groups.{Asks}
-use Rattle.endpoint_node.specs.Handed.{timed_of}
+use Rattle.node_steps.specs.Handed.{timed_of}
 use Rattle.endpoint_loop.proofs.StandingLaw.{ask-still, asked-or, goes-nowhere, goes-on}
 use Rattle.endpoint_loop.proofs.endpoint.Endpoint.ask.Goals as goal
 

@@ -1,7 +1,7 @@
 use Rattle.std.proofs.Common.{refl, ap, rules}
 use Rattle.node_laws.specs.NodeRun.{connects}
 use Rattle.rpc_laws.specs.Groups.{Connects}
-use Rattle.endpoint_node.specs.Handed.{timed_of}
+use Rattle.node_steps.specs.Handed.{timed_of}
 use Rattle.endpoint_loop.proofs.StandingSessions.{connect-still}
 use Rattle.endpoint_loop.proofs.StandingLaw.{goes-nowhere, goes-on, paired-or}
 use Rattle.endpoint_loop.proofs.endpoint.Endpoint.connect.Goals as goal

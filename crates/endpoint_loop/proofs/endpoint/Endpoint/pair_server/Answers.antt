@@ -1,6 +1,6 @@
 use Rattle.std.proofs.Common.{refl, ap, rules}
-use Rattle.endpoint_node.specs.Pairs.{PairsServer}
-use Rattle.endpoint_node.specs.Handed.{timed_of}
+use Rattle.node_steps.specs.Pairs.{PairsServer}
+use Rattle.node_steps.specs.Handed.{timed_of}
 use Rattle.endpoint_loop.proofs.StandingLaw.{server-group, server-still, goes-nowhere, goes-on}
 use Rattle.endpoint_loop.proofs.StandingLaw.{paired-or}
 use Rattle.endpoint_loop.proofs.endpoint.Endpoint.pair_server.Goals as goal

@@ -1,7 +1,7 @@
-use Rattle.std.proofs.Common.{◌≡◌, false, [], ap, ◌∙◌, refl, arith, IfSome}
-use Rattle.endpoint_node.specs.Handed.{timed_of}
+use Rattle.std.proofs.Common.{◌≡◌, false, [], ap, ◌∙◌, refl, arith, IfSome, rules}
+use Rattle.node_steps.specs.Handed.{timed_of}
 use Rattle.endpoint_loop.specs.Polls.{is_stopped, turn_of}
-use Rattle.endpoint_node.proofs.HandedBack.{gives-more, gives-same}
+use Rattle.node_steps.proofs.HandedBack.{gives-more, gives-same}
 use Rattle.endpoint_loop.proofs.PollLaw.{IsCounted, makes-poll, still-serving, turn-busy}
 use Rattle.endpoint_loop.proofs.PollLaw.{turn-cause, turn-counted, turn-sent}
 use Rattle.endpoint_loop.proofs.StandingLaw.{goes-polled}
@@ -31,9 +31,9 @@ invariant_of-self g c =
     (c.close.ensures.rest.jobs ∙ c.send_all-sent.ensures.rest.jobs
     ∙ c.post_sessions.ensures.rest.jobs ∙ c.watch-asked.ensures.step.rest.jobs)
 
-pub returns-clause-polls : goal.returns-clause-polls
-returns-clause-polls g c =
-    rw (← c.self.view_is) (makes-poll g.R.Recorder.log g.K.Continuation.given
+pub returns : goal.returns
+returns g c =
+    let inside = makes-poll g.R.Recorder.log g.K.Continuation.given
     g.L.Link
     g.V.Service g.W.Workers c.self.invariant.works c.args.now (timed_of c.self.inside.node)
     (timed_of c.finish_all.new.self) (timed_of c.hear_all-heard.new.self)
@@ -57,7 +57,42 @@ returns-clause-polls g c =
     c.close.ensures.makes (turn_of c.turn_by.result) all
     (c.close.ensures.rest.jobs ∙ c.send_all-sent.ensures.rest.jobs
     ∙ c.post_sessions.ensures.rest.jobs ∙ c.watch-asked.ensures.step.rest.jobs) c.sound.ensures.kept counted
-    c.self.inside.node.handed c.close.new.self.handed)
+    c.self.inside.node.handed c.close.new.self.handed in
+    record {
+      polls = rw (← c.self.view_is) inside;
+      goes_on = rw (← c.self.view_is) (goes-polled g.R.Recorder.log g.K.Continuation.given
+          g.V.Service g.W.Workers _ _ _ _ _ _ _ _ _ _ inside);
+      busy = turn-busy c.handle_all-handled.result c.hear_all-heard.result c.watch-asked.result
+          c.send_all-sent.result _ _ _ _
+          c.hear_all-heard.ensures.step.listens.counts.held.busies.no_less
+          c.watch-asked.ensures.step.timed.link.counts.held.busies.no_less
+          c.send_all-sent.ensures.busy c.turn_by.result c.turn_by.ensures;
+      team = search rules;
+      lists = search rules;
+      cause = turn-cause c.handle_all-handled.result c.hear_all-heard.result c.watch-asked.result
+          c.send_all-sent.result _ _ _ _ c.hear_all-heard.ensures.step.listens.counts.cause
+          c.watch-asked.ensures.step.timed.link.counts.cause c.send_all-sent.ensures.cause
+          c.turn_by.result c.turn_by.ensures;
+      handed =
+          let raised = ap (λ v. v.handed) c.raise_clock.ensures in
+          let before = gives-same g.K.Continuation.given c.self.inside.node.handed
+          c.hear_all-heard.new.self.handed c.args.k.now c.args.k.now
+          (c.hear_all-heard.ensures.step.rest.handed ∙ c.finish_all.ensures.step.rest.handed
+          ∙ raised) refl in
+          let after = gives-same g.K.Continuation.given c.watch-asked.new.self.handed
+          c.close.new.self.handed c.watch-asked.new.k c.watch-asked.new.k
+          (c.close.ensures.rest.handed ∙ c.send_all-sent.ensures.rest.handed
+          ∙ c.post_sessions.ensures.rest.handed)
+          refl in
+          rw (← c.self.view_is) (gives-more g.K.Continuation.given _ _ _ _ _ _ before
+          (gives-more g.K.Continuation.given _ _ _ _ _ _ c.handle_all-handled.ensures.rest.handed
+          (gives-more g.K.Continuation.given _ _ _ _ _ _ c.watch-asked.ensures.step.rest.handed
+          after)));
+      no_less =
+          let heard = c.hear_all-heard.ensures.step.listens.wants.no_less in
+          let handled = c.handle_all-handled.ensures.handles.wants.no_less in
+          omega (arith, heard, handled);
+    }
   where
     all : is_stopped (turn_of c.turn_by.result) ≡ false → line c.send_all-sent.new.self.clock
         c.send_all-sent.new.self.lists.queued ≡ []
@@ -74,42 +109,3 @@ returns-clause-polls g c =
         (timed_of c.handle_all-handled.new.self) (timed_of c.post_sessions.new.self)
         (timed_of c.send_all-sent.new.self) c.handle_all-handled.ensures.count
         c.send_all-sent.ensures.count)
-
-pub returns-clause-busy : goal.returns-clause-busy
-returns-clause-busy g c =
-    turn-busy c.handle_all-handled.result c.hear_all-heard.result c.watch-asked.result
-    c.send_all-sent.result _ _ _ _ c.hear_all-heard.ensures.step.listens.counts.held.busies.no_less
-    c.watch-asked.ensures.step.timed.link.counts.held.busies.no_less c.send_all-sent.ensures.busy
-    c.turn_by.result c.turn_by.ensures
-
-pub returns-clause-cause : goal.returns-clause-cause
-returns-clause-cause g c =
-    turn-cause c.handle_all-handled.result c.hear_all-heard.result c.watch-asked.result
-    c.send_all-sent.result _ _ _ _ c.hear_all-heard.ensures.step.listens.counts.cause
-    c.watch-asked.ensures.step.timed.link.counts.cause c.send_all-sent.ensures.cause
-    c.turn_by.result c.turn_by.ensures
-
-pub returns-clause-goes_on : goal.returns-clause-goes_on
-returns-clause-goes_on g c =
-    goes-polled g.R.Recorder.log g.K.Continuation.given g.V.Service g.W.Workers _ _ _ _ _ _ _ _ _ _ (returns-clause-polls g c)
-
-pub returns-clause-handed : goal.returns-clause-handed
-returns-clause-handed g c =
-    let raised = ap (λ v. v.handed) c.raise_clock.ensures in
-    let before = gives-same g.K.Continuation.given c.self.inside.node.handed
-    c.hear_all-heard.new.self.handed c.args.k.now c.args.k.now
-    (c.hear_all-heard.ensures.step.rest.handed ∙ c.finish_all.ensures.step.rest.handed ∙ raised) refl in
-    let after = gives-same g.K.Continuation.given c.watch-asked.new.self.handed
-    c.close.new.self.handed c.watch-asked.new.k c.watch-asked.new.k
-    (c.close.ensures.rest.handed ∙ c.send_all-sent.ensures.rest.handed
-    ∙ c.post_sessions.ensures.rest.handed)
-    refl in
-    rw (← c.self.view_is) (gives-more g.K.Continuation.given _ _ _ _ _ _ before
-    (gives-more g.K.Continuation.given _ _ _ _ _ _ c.handle_all-handled.ensures.rest.handed
-    (gives-more g.K.Continuation.given _ _ _ _ _ _ c.watch-asked.ensures.step.rest.handed after)))
-
-pub returns-clause-no_less : goal.returns-clause-no_less
-returns-clause-no_less g c =
-    let heard = c.hear_all-heard.ensures.step.listens.wants.no_less in
-    let handled = c.handle_all-handled.ensures.handles.wants.no_less in
-    omega (arith, heard, handled)
