@@ -1,3 +1,4 @@
+mod ActiveLemmas
 mod JobLemmas
 mod PaceLemmas
 mod PutLemmas

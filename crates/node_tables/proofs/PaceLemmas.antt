@@ -1,5 +1,5 @@
 -- The pace of a session that has a rate.
-use Rattle.std.proofs.Common.{◌≡◌, ◌<◌, ℕ, Bool, true, false, ◌&&◌, List, Some, sym, ◌∙◌, slice_get}
+use Rattle.std.proofs.Common.{◌≡◌, ◌<◌, ℕ, Bool, true, false, ◌&&◌, List, Some, ◌∙◌, slice_get}
 use Rattle.std.specs.List.{position}
 use Rattle.std.specs.Prelude.{◌==◌}
 use borrow.Author.Tests.{ltb-true}

@@ -1,9 +1,10 @@
--- A client session as it is made, and the two halves of a fact's change of a node's lists: the
+-- A client session as it is made, how far a call has come as it begins, and the two halves of a fact's change of a node's lists: the
 -- tables that look at others, and those that stand alone.
-use Rattle.std.specs.Prelude.{ℕ, []}
+use Rattle.std.specs.Prelude.{ℕ, [], None}
 use Rattle.rpc_base.specs.declared.fact.Fact.{Fact}
 use Rattle.rpc_base.specs.declared.state.SessionState.{SessionState}
 use Rattle.rpc_laws.specs.declared.tables.Client.{Client}
+use Rattle.rpc_laws.specs.declared.tables.Progress.{Progress}
 use Rattle.rpc_laws.specs.declared.tables.Way.{Way}
 use Rattle.rpc_laws.specs.Sessions.{no_turns}
 use Rattle.rpc_laws.specs.declared.tables.Lists.{Lists}
@@ -28,6 +29,18 @@ others_changed f s = record s {
   server_numbers = (after 0 s f).server_numbers;
   known = (after 0 s f).known;
   counts = (after 0 s f).counts;
+}
+
+-- of a call that begins as r
+abbrev pub no_progress : (r : ℕ) → Progress
+no_progress r = record {
+  request = r;
+  got = 0;
+  posted = 0;
+  rolls = 0;
+  mark = 0;
+  answer = None;
+  parts = [];
 }
 
 -- all its credits are free, and it has no call

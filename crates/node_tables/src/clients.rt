@@ -1,6 +1,7 @@
 //! The client sessions, as events change them.
 ghost use Rattle.std.specs.Prelude.{◌≡◌, ◌++◌, ◌∷◌, [], Some, IfOk, OnOk};
 ghost use Rattle.std.specs.List.{position};
+ghost use Rattle.memory_count.specs.Faults.{HasCause};
 ghost use Rattle.rpc_base.specs.Tables.{at_first};
 ghost use Rattle.rpc_laws.specs.Sessions.{asks, begins, breaks, client_end, clients_told};
 ghost use Rattle.rpc_laws.specs.Sessions.{comes_to, connects, ends, has_call};
@@ -9,13 +10,11 @@ ghost use Rattle.rpc_laws.specs.Sessions.{posts, requests, rolls, sends, takes, 
 ghost use Rattle.node_tables.specs.Changed.{new_client};
 
 use crate::calls;
-use crate::counting::one_more;
+use crate::counting::{one_more, plus};
+use memory_count::{Memory, NoMemory};
 use packet_header::{ControlHeader, ControlKind, Life, MessageHeader};
-use rpc_base::{
-    CallNo, Listed, NoMemory, Peer, RequestNo, SESSION_NUMBERS, SessionNo, SessionState,
-};
-use rpc_laws::{Asking, Client, Way};
-use std::alloc::Global;
+use rpc_base::{CallNo, Listed, Peer, RequestNo, SESSION_NUMBERS, SessionNo, SessionState};
+use rpc_laws::{Asking, Calls, Client, Way};
 
 /// The slots of a session.
 const SLOTS: usize = 8;
@@ -24,23 +23,25 @@ const SLOTS: usize = 8;
 const NOBODYS_LIFE: u32 = 0;
 
 // Eight slots in which no request began.
-fn no_turns(alloc: Global) -> Result<Listed<u64>, NoMemory>
-    ensures { IfOk result (λ turns. turns ≡ no_turns) }
+fn no_turns(memory: &mut Memory) -> Result<Listed<u64>, NoMemory>
+    ensures turns { IfOk result (λ turns. turns ≡ no_turns) }
+    ensures cause { HasCause memory.old memory.new result }
 {
-    let turns = Vec::from_slice(alloc, &[0; SLOTS])?;
+    let turns = memory.copied(&[0; SLOTS])?;
     Ok(Listed::from(turns))
 }
 
 // A session in this state, all whose credits are free.
 fn new_client(
-    alloc: Global,
+    memory: &mut Memory,
     way: Way,
     state: SessionState,
     credits: u16,
 ) -> Result<Client, NoMemory>
-    ensures { IfOk result (λ x. x ≡ new_client way state credits) }
+    ensures client { IfOk result (λ x. x ≡ new_client way state credits) }
+    ensures cause { HasCause memory.old memory.new result }
 {
-    let turns = no_turns(alloc)?;
+    let turns = no_turns(memory)?;
     Ok(Client {
         way,
         state,
@@ -50,13 +51,13 @@ fn new_client(
         sent_at: 0,
         asked: 0,
         turns,
-        calls: Listed::new(alloc),
+        calls: Calls::new(memory.alloc()),
     })
 }
 
 /// A client end more, which was made by pairing.
 pub fn pair(
-    alloc: Global,
+    memory: &mut Memory,
     clients: &mut Listed<Client>,
     number: SessionNo,
     peer: Peer,
@@ -64,8 +65,9 @@ pub fn pair(
     credits: u16,
     life: u32,
 ) -> Result<(), NoMemory>
-    ensures { OnOk result (clients.new
+    ensures clients { OnOk result (clients.new
         ≡ clients.old ++ client_end number peer other credits life ∷ []) }
+    ensures cause { HasCause memory.old memory.new result }
 {
     let way = Way {
         number,
@@ -73,20 +75,20 @@ pub fn pair(
         other,
         life: Life(life),
     };
-    let client = new_client(alloc, way, SessionState::Connected, credits)?;
-    clients.push(client)?;
-    Ok(())
+    let client = new_client(memory, way, SessionState::Connected, credits)?;
+    memory.of(clients.push(client))
 }
 
 /// A session more, which was opened and isn't connected yet.
 pub fn open(
-    alloc: Global,
+    memory: &mut Memory,
     clients: &mut Listed<Client>,
     number: SessionNo,
     peer: Peer,
     credits: u16,
 ) -> Result<(), NoMemory>
-    ensures { OnOk result (clients.new ≡ clients.old ++ opened_end number peer credits ∷ []) }
+    ensures clients { OnOk result (clients.new ≡ clients.old ++ opened_end number peer credits ∷ []) }
+    ensures cause { HasCause memory.old memory.new result }
 {
     let way = Way {
         number,
@@ -94,9 +96,8 @@ pub fn open(
         other: SessionNo(SESSION_NUMBERS),
         life: Life(NOBODYS_LIFE),
     };
-    let client = new_client(alloc, way, SessionState::Connecting, credits)?;
-    clients.push(client)?;
-    Ok(())
+    let client = new_client(memory, way, SessionState::Connecting, credits)?;
+    memory.of(clients.push(client))
 }
 
 /// Where a session stands.
@@ -113,11 +114,7 @@ pub fn place_of(clients: &Listed<Client>, session: SessionNo) -> Option<usize>
 fn has_call(client: &Client, number: CallNo) -> bool
     ensures { result ≡ has_call number client.now }
 {
-    client
-        .calls
-        .as_slice()
-        .iter()
-        .any(|call| call.what.number.0 == number.0)
+    client.calls.has(number)
 }
 
 // Where the session of a call stands.
@@ -187,84 +184,106 @@ fn is_request_of(client: &Client, head: &ControlHeader) -> bool
     }
 }
 
-fn tell_client(client: &mut Client, clock: u64, head: &ControlHeader) -> Result<(), NoMemory>
-    ensures { OnOk result (client.new ≡ requests clock head.now client.old) }
+fn tell_client(
+    memory: &mut Memory,
+    client: &mut Client,
+    clock: u64,
+    head: &ControlHeader,
+) -> Result<(), NoMemory>
+    ensures client { OnOk result (client.new ≡ requests clock head.now client.old) }
+    ensures cause { HasCause memory.old memory.new result }
 {
     if is_request_of(client, head) {
-        client.sends = one_more(client.sends)?;
+        client.sends = one_more(memory, client.sends)?;
         client.sent_at = clock;
     }
     Ok(())
 }
 
 /// A control packet with this header was sent at this clock.
-pub fn tell(clients: &mut Listed<Client>, clock: u64, head: &ControlHeader) -> Result<(), NoMemory>
-    ensures { OnOk result (clients.new ≡ clients_told clock (Some head.now) clients.old) }
+pub fn tell(
+    memory: &mut Memory,
+    clients: &mut Listed<Client>,
+    clock: u64,
+    head: &ControlHeader,
+) -> Result<(), NoMemory>
+    ensures clients { OnOk result (clients.new ≡ clients_told clock (Some head.now) clients.old) }
+    ensures cause { HasCause memory.old memory.new result }
 {
     let Some(place) = place_of(clients, head.client) else {
         return Ok(());
     };
-    tell_client(clients.at_mut(place), clock, head)?;
+    tell_client(memory, clients.at_mut(place), clock, head)?;
     Ok(())
 }
 
-fn ask_client(client: &mut Client, what: Asking) -> Result<(), NoMemory>
-    ensures { OnOk result (client.new ≡ asks what client.old) }
+fn ask_client(memory: &mut Memory, client: &mut Client, what: Asking) -> Result<(), NoMemory>
+    ensures client { OnOk result (client.new ≡ asks what client.old) }
+    ensures cause { HasCause memory.old memory.new result }
 {
-    client.asked = one_more(client.asked)?;
-    calls::ask(&mut client.calls, what)?;
+    client.asked = one_more(memory, client.asked)?;
+    client.calls.ask(memory, what)?;
     Ok(())
 }
 
 /// A call was accepted on a session.
-pub fn ask(clients: &mut Listed<Client>, session: SessionNo, what: Asking) -> Result<(), NoMemory>
-    ensures { OnOk result (clients.new ≡ at_first (is_client session) (asks what) clients.old) }
+pub fn ask(
+    memory: &mut Memory,
+    clients: &mut Listed<Client>,
+    session: SessionNo,
+    what: Asking,
+) -> Result<(), NoMemory>
+    ensures clients { OnOk result (clients.new ≡ at_first (is_client session) (asks what) clients.old) }
+    ensures cause { HasCause memory.old memory.new result }
 {
     let Some(place) = place_of(clients, session) else {
         return Ok(());
     };
-    ask_client(clients.at_mut(place), what)?;
+    ask_client(memory, clients.at_mut(place), what)?;
     Ok(())
 }
 
 // One request more began in a slot.
-fn turn(turns: &mut Listed<u64>, slot: usize) -> Result<(), NoMemory>
-    ensures { OnOk result (turns.new ≡ turned slot turns.old) }
+fn turn(memory: &mut Memory, turns: &mut Listed<u64>, slot: usize) -> Result<(), NoMemory>
+    ensures turns { OnOk result (turns.new ≡ turned slot turns.old) }
+    ensures cause { HasCause memory.old memory.new result }
 {
     if slot < turns.len() {
-        let turn = one_more(*turns.at(slot))?;
+        let turn = one_more(memory, *turns.at(slot))?;
         turns.set(slot, turn);
     }
     Ok(())
 }
 
 fn begin_client(
-    alloc: Global,
+    memory: &mut Memory,
     client: &mut Client,
     number: CallNo,
     request: RequestNo,
 ) -> Result<(), NoMemory>
-    ensures { OnOk result (client.new ≡ begins number request client.old) }
+    ensures client { OnOk result (client.new ≡ begins number request client.old) }
+    ensures cause { HasCause memory.old memory.new result }
 {
-    turn(&mut client.turns, usize::from(request.slot()))?;
-    calls::begin(alloc, &mut client.calls, number, request);
+    turn(memory, &mut client.turns, usize::from(request.slot()))?;
+    calls::begin(memory, &mut client.calls, number, request)?;
     Ok(())
 }
 
 /// A call begins as this request.
 pub fn begin(
-    alloc: Global,
+    memory: &mut Memory,
     clients: &mut Listed<Client>,
     number: CallNo,
     request: RequestNo,
 ) -> Result<(), NoMemory>
-    ensures { OnOk result (clients.new
+    ensures clients { OnOk result (clients.new
         ≡ at_first (has_call number) (begins number request) clients.old) }
+    ensures cause { HasCause memory.old memory.new result }
 {
     let Some(place) = place_of_call(clients, number) else {
         return Ok(());
     };
-    begin_client(alloc, clients.at_mut(place), number, request)?;
+    begin_client(memory, clients.at_mut(place), number, request)?;
     Ok(())
 }
 
@@ -311,22 +330,25 @@ pub fn send(
 
 // It gave a credit back.
 fn take_client(
+    memory: &mut Memory,
     client: &mut Client,
     clock: u64,
     request: RequestNo,
     head: &Option<MessageHeader>,
     body: &[u8],
 ) -> Result<(), NoMemory>
-    ensures { OnOk result (client.new
+    ensures client { OnOk result (client.new
         ≡ takes clock request head.now body.now client.old) }
+    ensures cause { HasCause memory.old memory.new result }
 {
-    client.free = one_more(client.free)?;
-    calls::take(&mut client.calls, clock, request, head, body)?;
+    client.free = one_more(memory, client.free)?;
+    calls::take(memory, &mut client.calls, clock, request, head, body)?;
     Ok(())
 }
 
 /// A reply with this header and body to a request of a session was taken at this clock.
 pub fn take(
+    memory: &mut Memory,
     clients: &mut Listed<Client>,
     clock: u64,
     session: SessionNo,
@@ -334,41 +356,51 @@ pub fn take(
     head: &Option<MessageHeader>,
     body: &[u8],
 ) -> Result<(), NoMemory>
-    ensures { OnOk result (clients.new
+    ensures clients { OnOk result (clients.new
         ≡ at_first (is_client session) (takes clock request head.now body.now)
         clients.old) }
+    ensures cause { HasCause memory.old memory.new result }
 {
     let Some(place) = place_of(clients, session) else {
         return Ok(());
     };
-    take_client(clients.at_mut(place), clock, request, head, body)?;
+    take_client(memory, clients.at_mut(place), clock, request, head, body)?;
     Ok(())
 }
 
 // The credits of the packets that were posted and not answered come back.
-fn roll_client(client: &mut Client, number: CallNo, posted: u16, got: u16) -> Result<(), NoMemory>
-    ensures { OnOk result (client.new ≡ rolls number posted got client.old) }
+fn roll_client(
+    memory: &mut Memory,
+    client: &mut Client,
+    number: CallNo,
+    posted: u16,
+    got: u16,
+) -> Result<(), NoMemory>
+    ensures client { OnOk result (client.new ≡ rolls number posted got client.old) }
+    ensures cause { HasCause memory.old memory.new result }
 {
     let credits = u64::from(posted.saturating_sub(got));
-    client.free = client.free.checked_add(credits).ok_or(NoMemory)?;
-    calls::roll(&mut client.calls, number, got)?;
+    client.free = plus(memory, client.free, credits)?;
+    calls::roll(memory, &mut client.calls, number, got)?;
     Ok(())
 }
 
 /// A call was rolled back.
 pub fn roll(
+    memory: &mut Memory,
     clients: &mut Listed<Client>,
     number: CallNo,
     posted: u16,
     got: u16,
 ) -> Result<(), NoMemory>
-    ensures { OnOk result (clients.new
+    ensures clients { OnOk result (clients.new
         ≡ at_first (has_call number) (rolls number posted got) clients.old) }
+    ensures cause { HasCause memory.old memory.new result }
 {
     let Some(place) = place_of_call(clients, number) else {
         return Ok(());
     };
-    roll_client(clients.at_mut(place), number, posted, got)?;
+    roll_client(memory, clients.at_mut(place), number, posted, got)?;
     Ok(())
 }
 
@@ -392,7 +424,7 @@ pub fn lose(clients: &mut Listed<Client>, session: SessionNo)
 fn end_client(client: &mut Client, number: CallNo)
     ensures { client.new ≡ ends number client.old }
 {
-    calls::end(&mut client.calls, number);
+    client.calls.end(number);
 }
 
 /// A call is over.

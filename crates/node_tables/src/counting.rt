@@ -1,36 +1,52 @@
 //! Counts in 64 bits.
 ghost use Rattle.std.specs.Prelude.{◌≡◌, ◌+◌, IfOk};
+ghost use Rattle.memory_count.specs.Faults.{HasCause};
 ghost use Rattle.rpc_laws.specs.NodeLists.{asked_after, counts_after, one_more};
 ghost use Rattle.rpc_laws.specs.Requests.{server_numbers_after};
 
-use rpc_base::{Event, NoMemory};
+use memory_count::{Memory, NoMemory};
+use rpc_base::Event;
 use rpc_laws::Counted;
 
-/// One more than `n`. A count that 64 bits can't hold is want of memory, since each count is of
+/// The sum of two counts. A sum that 64 bits can't hold is want of memory, since each count is of
 /// facts that are kept.
-pub fn one_more(n: u64) -> Result<u64, NoMemory>
-    ensures { IfOk result (λ m. m ≡ n + 1) }
+pub fn plus(memory: &mut Memory, n: u64, more: u64) -> Result<u64, NoMemory>
+    ensures sum { IfOk result (λ sum. sum ≡ n + more) }
+    ensures cause { HasCause memory.old memory.new result }
 {
-    n.checked_add(1).ok_or(NoMemory)
+    match n.checked_add(more) {
+        Some(sum) => Ok(sum),
+        None => Err(memory.told()),
+    }
+}
+
+/// One more than `n`. A count that 64 bits can't hold is want of memory.
+pub fn one_more(memory: &mut Memory, n: u64) -> Result<u64, NoMemory>
+    ensures more { IfOk result (λ m. m ≡ n + 1) }
+    ensures cause { HasCause memory.old memory.new result }
+{
+    plus(memory, n, 1)
 }
 
 /// How many calls were accepted, after an event.
-pub fn count_asked(asked: u64, event: &Event) -> Result<u64, NoMemory>
-    ensures { IfOk result (λ n. n ≡ asked_after event.now asked) }
+pub fn count_asked(memory: &mut Memory, asked: u64, event: &Event) -> Result<u64, NoMemory>
+    ensures n { IfOk result (λ n. n ≡ asked_after event.now asked) }
+    ensures cause { HasCause memory.old memory.new result }
 {
     match event {
-        Event::Asked { .. } => one_more(asked),
+        Event::Asked { .. } => one_more(memory, asked),
         _ => Ok(asked),
     }
 }
 
 /// How many numbers of server sessions were used, after an event.
-pub fn count_server_numbers(used: u64, event: &Event) -> Result<u64, NoMemory>
-    ensures { IfOk result (λ n. n ≡ server_numbers_after event.now used) }
+pub fn count_server_numbers(memory: &mut Memory, used: u64, event: &Event) -> Result<u64, NoMemory>
+    ensures n { IfOk result (λ n. n ≡ server_numbers_after event.now used) }
+    ensures cause { HasCause memory.old memory.new result }
 {
     match event {
-        Event::PairedServer { .. } => one_more(used),
-        Event::Accepted { .. } => one_more(used),
+        Event::PairedServer { .. } => one_more(memory, used),
+        Event::Accepted { .. } => one_more(memory, used),
         _ => Ok(used),
     }
 }

@@ -1,14 +1,15 @@
 //! Background jobs of a node, as events change them.
 ghost use Rattle.std.specs.Prelude.{◌≡◌, ◌++◌, OnOk, IfOk};
 ghost use Rattle.std.specs.List.{position};
+ghost use Rattle.memory_count.specs.Faults.{HasCause};
 ghost use Rattle.rpc_base.specs.Tables.{without_first};
 ghost use Rattle.rpc_laws.specs.Jobs.{is_job, job_of, jobs_after, new_job};
 
 use crate::counting::one_more;
 use crate::servers::{place_of_request, place_of_server};
-use rpc_base::{Event, Listed, NoMemory, Octets, RequestNo, SessionNo};
+use memory_count::{Memory, NoMemory};
+use rpc_base::{Event, Listed, Octets, RequestNo, SessionNo};
 use rpc_laws::{Job, Jobs, Served, Server};
-use std::alloc::Global;
 
 // Where the job of a request stands.
 fn place_of(out: &Listed<Job>, session: SessionNo, request: RequestNo) -> Option<usize>
@@ -27,10 +28,11 @@ fn finish(out: &mut Listed<Job>, session: SessionNo, request: RequestNo)
 }
 
 // The job that a request becomes.
-fn job_of(alloc: Global, session: SessionNo, served: &Served) -> Result<Job, NoMemory>
-    ensures { IfOk result (λ job. job ≡ job_of session served.now) }
+fn job_of(memory: &mut Memory, session: SessionNo, served: &Served) -> Result<Job, NoMemory>
+    ensures job { IfOk result (λ job. job ≡ job_of session served.now) }
+    ensures cause { HasCause memory.old memory.new result }
 {
-    let ask = Octets::copy(alloc, served.ask.bytes())?;
+    let ask = Octets::from(memory.copied(served.ask.bytes())?);
     Ok(Job {
         session,
         request: served.number,
@@ -40,13 +42,14 @@ fn job_of(alloc: Global, session: SessionNo, served: &Served) -> Result<Job, NoM
 }
 
 fn give(
-    alloc: Global,
+    memory: &mut Memory,
     out: &mut Listed<Job>,
     servers: &Listed<Server>,
     session: SessionNo,
     request: RequestNo,
 ) -> Result<(), NoMemory>
-    ensures { OnOk result (out.new ≡ out.old ++ new_job session request servers.now) }
+    ensures out { OnOk result (out.new ≡ out.old ++ new_job session request servers.now) }
+    ensures cause { HasCause memory.old memory.new result }
 {
     let Some(i) = place_of_server(servers, session) else {
         return Ok(());
@@ -55,24 +58,24 @@ fn give(
     let Some(k) = place_of_request(slots, request) else {
         return Ok(());
     };
-    let job = job_of(alloc, session, slots.at(k))?;
-    out.push(job)?;
-    Ok(())
+    let job = job_of(memory, session, slots.at(k))?;
+    memory.of(out.push(job))
 }
 
 /// The jobs after an event of their node, whose server sessions are those before it.
 pub fn change_jobs(
-    alloc: Global,
+    memory: &mut Memory,
     jobs: &mut Jobs,
     servers: &Listed<Server>,
     event: &Event,
 ) -> Result<(), NoMemory>
-    ensures { OnOk result (jobs.new ≡ jobs_after event.now servers.now jobs.old) }
+    ensures jobs { OnOk result (jobs.new ≡ jobs_after event.now servers.now jobs.old) }
+    ensures cause { HasCause memory.old memory.new result }
 {
     match event {
         Event::Given { session, request } => {
-            give(alloc, &mut jobs.out, servers, *session, *request)?;
-            jobs.given = one_more(jobs.given)?;
+            give(memory, &mut jobs.out, servers, *session, *request)?;
+            jobs.given = one_more(memory, jobs.given)?;
         }
         Event::Ran {
             session,

@@ -1,6 +1,7 @@
 //! Pacing: when a packet that is posted is due, and what that leaves.
 ghost use Rattle.std.specs.Prelude.{◌≡◌, ◌≤◌, ◌<◌, ◌++◌, ◌∷◌, [], Some, option_map, OnOk};
 ghost use Rattle.std.specs.List.{find, position};
+ghost use Rattle.memory_count.specs.Faults.{HasCause};
 ghost use Rattle.rpc_base.specs.Tables.{at_first};
 ghost use Rattle.packet_header.specs.Parts.{part_size};
 ghost use Rattle.rpc_laws.specs.Pacing.{call_size, delayed, due_at, due_of, is_pace_of, is_paced};
@@ -8,9 +9,9 @@ ghost use Rattle.rpc_laws.specs.Pacing.{packet_size, paces_after};
 ghost use Rattle.rpc_laws.specs.Sessions.{is_client};
 
 use crate::{calls, clients as sessions};
+use memory_count::{Memory, NoMemory};
 use rpc_base::{
-    Event, HEAD_BYTES, Listed, MOST_DATAGRAM_BYTES, NoMemory, Owner, PART_BYTES, RequestNo,
-    SessionNo,
+    Event, HEAD_BYTES, Listed, MOST_DATAGRAM_BYTES, Owner, PART_BYTES, RequestNo, SessionNo,
 };
 use rpc_laws::{Call, Client, Pace};
 
@@ -136,30 +137,33 @@ fn set_rate(paces: &mut Listed<Pace>, session: SessionNo, rate: u32)
 }
 
 // A session more, which isn't paced.
-fn add(paces: &mut Listed<Pace>, session: SessionNo) -> Result<(), NoMemory>
-    ensures { OnOk result (paces.new
+fn add(memory: &mut Memory, paces: &mut Listed<Pace>, session: SessionNo) -> Result<(), NoMemory>
+    ensures paces { OnOk result (paces.new
         ≡ paces.old ++ record { session = session; rate = 0; next = 0 } ∷ []) }
+    ensures cause { HasCause memory.old memory.new result }
 {
-    paces.push(Pace {
+    let added = paces.push(Pace {
         session,
         rate: 0,
         next: 0,
-    })?;
-    Ok(())
+    });
+    memory.of(added)
 }
 
 /// The paces after an event at this clock of their node, whose client sessions are those before it.
 pub fn change_paces(
+    memory: &mut Memory,
     paces: &mut Listed<Pace>,
     clients: &Listed<Client>,
     event: &Event,
     clock: u64,
 ) -> Result<(), NoMemory>
-    ensures { OnOk result (paces.new ≡ paces_after clock event.now clients.now paces.old) }
+    ensures paces { OnOk result (paces.new ≡ paces_after clock event.now clients.now paces.old) }
+    ensures cause { HasCause memory.old memory.new result }
 {
     match event {
-        Event::Opened { session, .. } => add(paces, *session)?,
-        Event::PairedClient { session, .. } => add(paces, *session)?,
+        Event::Opened { session, .. } => add(memory, paces, *session)?,
+        Event::PairedClient { session, .. } => add(memory, paces, *session)?,
         Event::Rated { session, rate } => set_rate(paces, *session, *rate),
         Event::Posted { owner, number } => match owner {
             Owner::Ask { session, request } => {

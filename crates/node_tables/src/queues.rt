@@ -1,70 +1,75 @@
 //! The receive ring, the inbox and the queue of posted packets, as events change them.
-ghost use Rattle.std.specs.Prelude.{◌≡◌, [], ◌∷◌, ◌++◌, IfOk, OnOk, map, not};
-ghost use Rattle.std.specs.List.{list_any, position};
+ghost use Rattle.std.specs.Prelude.{◌≡◌, ◌≤◌, [], ◌∷◌, ◌++◌, IfOk, OnOk, length, map, not};
+ghost use Rattle.std.specs.List.{insert, list_any, position};
+ghost use Rattle.memory_count.specs.Faults.{HasCause};
 ghost use Rattle.rpc_base.specs.Tables.{without_first};
 ghost use Rattle.rpc_laws.specs.Queues.{inbox_after, is_due, is_queued, is_reply, made_ready};
 ghost use Rattle.rpc_laws.specs.Queues.{put_queued, queued_after, replies, ring_after};
 ghost use Rattle.rpc_laws.specs.Queues.{stands_before};
 
 use crate::reading::{read_control, read_message};
-use rpc_base::{Event, Listed, NoMemory, Octets, Owner, Peer};
+use memory_count::{Memory, NoMemory};
+use rpc_base::{Event, Listed, Octets, Owner, Peer};
 use rpc_laws::{Arrival, Queued};
 use std::alloc::{AllocError, Global};
 use std::mem;
 
 fn push(
-    alloc: Global,
+    memory: &mut Memory,
     arrivals: &mut Listed<Arrival>,
     peer: Peer,
     bytes: &[u8],
 ) -> Result<(), NoMemory>
-    ensures { OnOk result
+    ensures arrivals { OnOk result
         (arrivals.new ≡ arrivals.old ++ record { peer = peer; bytes = bytes.now } ∷ []) }
+    ensures cause { HasCause memory.old memory.new result }
 {
-    let bytes = Octets::copy(alloc, bytes)?;
-    arrivals.push(Arrival { peer, bytes })?;
-    Ok(())
+    let bytes = Octets::from(memory.copied(bytes)?);
+    memory.of(arrivals.push(Arrival { peer, bytes }))
 }
 
 fn push_message(
-    alloc: Global,
+    memory: &mut Memory,
     ring: &mut Listed<Arrival>,
     peer: Peer,
     bytes: &[u8],
 ) -> Result<(), NoMemory>
-    ensures { OnOk result (ring.new ≡ ring_after (Event.Arrived peer) bytes.now ring.old) }
+    ensures ring { OnOk result (ring.new ≡ ring_after (Event.Arrived peer) bytes.now ring.old) }
+    ensures cause { HasCause memory.old memory.new result }
 {
     if read_message(bytes).is_none() {
         return Ok(());
     }
-    push(alloc, ring, peer, bytes)
+    push(memory, ring, peer, bytes)
 }
 
 fn push_control(
-    alloc: Global,
+    memory: &mut Memory,
     inbox: &mut Listed<Arrival>,
     peer: Peer,
     bytes: &[u8],
 ) -> Result<(), NoMemory>
-    ensures { OnOk result (inbox.new ≡ inbox_after (Event.Arrived peer) bytes.now inbox.old) }
+    ensures inbox { OnOk result (inbox.new ≡ inbox_after (Event.Arrived peer) bytes.now inbox.old) }
+    ensures cause { HasCause memory.old memory.new result }
 {
     if read_control(bytes).is_none() {
         return Ok(());
     }
-    push(alloc, inbox, peer, bytes)
+    push(memory, inbox, peer, bytes)
 }
 
 /// The ring after an event of its node.
 pub fn change_ring(
-    alloc: Global,
+    memory: &mut Memory,
     ring: &mut Listed<Arrival>,
     event: &Event,
     bytes: &[u8],
 ) -> Result<(), NoMemory>
-    ensures { OnOk result (ring.new ≡ ring_after event.now bytes.now ring.old) }
+    ensures ring { OnOk result (ring.new ≡ ring_after event.now bytes.now ring.old) }
+    ensures cause { HasCause memory.old memory.new result }
 {
     match event {
-        Event::Arrived { peer } => push_message(alloc, ring, *peer, bytes)?,
+        Event::Arrived { peer } => push_message(memory, ring, *peer, bytes)?,
         Event::Took { .. } => ring.drop_front(),
         Event::Again { .. } => ring.drop_front(),
         Event::Dropped { .. } => ring.drop_front(),
@@ -75,15 +80,16 @@ pub fn change_ring(
 
 /// The inbox after an event of its node.
 pub fn change_inbox(
-    alloc: Global,
+    memory: &mut Memory,
     inbox: &mut Listed<Arrival>,
     event: &Event,
     bytes: &[u8],
 ) -> Result<(), NoMemory>
-    ensures { OnOk result (inbox.new ≡ inbox_after event.now bytes.now inbox.old) }
+    ensures inbox { OnOk result (inbox.new ≡ inbox_after event.now bytes.now inbox.old) }
+    ensures cause { HasCause memory.old memory.new result }
 {
     match event {
-        Event::Arrived { peer } => push_control(alloc, inbox, *peer, bytes)?,
+        Event::Arrived { peer } => push_control(memory, inbox, *peer, bytes)?,
         Event::Heard => inbox.drop_front(),
         _ => {}
     }
@@ -129,20 +135,40 @@ fn place_behind(queued: &Listed<Queued>, due: Option<u64>) -> Option<usize>
         .position(|entry| !stands_before(entry, due))
 }
 
+// One packet more, at a place.
+fn insert(
+    memory: &mut Memory,
+    entries: &mut Vec<Queued>,
+    place: usize,
+    owner: Owner,
+    number: u16,
+    due: Option<u64>,
+) -> Result<(), NoMemory>
+    requires { place ≤ length entries.old.items }
+    ensures items { OnOk result (entries.new.items ≡ insert entries.old.items place
+        (record { owner = owner; number = number; due = due })) }
+    ensures cause { HasCause memory.old memory.new result }
+{
+    let entry = Queued { owner, number, due };
+    let inserted = entries.insert(place, entry).map_err(AllocError::from);
+    memory.of(inserted)
+}
+
 // One packet more, behind those that stand before it.
 fn put(
-    alloc: Global,
+    memory: &mut Memory,
     queued: &mut Listed<Queued>,
     owner: Owner,
     number: u16,
     due: Option<u64>,
 ) -> Result<(), NoMemory>
-    ensures { OnOk result (queued.new
+    ensures queued { OnOk result (queued.new
         ≡ put_queued (record { owner = owner; number = number; due = due }) queued.old) }
+    ensures cause { HasCause memory.old memory.new result }
 {
     let place = place_behind(queued, due).unwrap_or(queued.len());
-    let mut entries = mem::replace(queued, Listed::new(alloc)).into_vec();
-    entries.insert(place, Queued { owner, number, due })?;
+    let mut entries = mem::replace(queued, Listed::new(memory.alloc())).into_vec();
+    insert(memory, &mut entries, place, owner, number, due)?;
     *queued = Listed::from(entries);
     Ok(())
 }
@@ -182,10 +208,12 @@ fn ready_entries(alloc: Global, queued: &[Queued], clock: u64) -> Result<Vec<Que
 }
 
 // A poll ended at this clock: what was due is ready.
-fn make_ready(alloc: Global, queued: &mut Listed<Queued>, clock: u64) -> Result<(), NoMemory>
-    ensures { OnOk result (queued.new ≡ map (made_ready clock) queued.old) }
+fn make_ready(memory: &mut Memory, queued: &mut Listed<Queued>, clock: u64) -> Result<(), NoMemory>
+    ensures queued { OnOk result (queued.new ≡ map (made_ready clock) queued.old) }
+    ensures cause { HasCause memory.old memory.new result }
 {
-    let entries = ready_entries(alloc, queued.as_slice(), clock)?;
+    let ready = ready_entries(memory.alloc(), queued.as_slice(), clock);
+    let entries = memory.of(ready)?;
     *queued = Listed::from(entries);
     Ok(())
 }
@@ -193,18 +221,19 @@ fn make_ready(alloc: Global, queued: &mut Listed<Queued>, clock: u64) -> Result<
 /// The queue after an event of its node, by which a packet is due then where it is posted and
 /// paced.
 pub fn change_queued(
-    alloc: Global,
+    memory: &mut Memory,
     queued: &mut Listed<Queued>,
     event: &Event,
     due: Option<u64>,
 ) -> Result<(), NoMemory>
-    ensures { OnOk result (queued.new ≡ queued_after event.now due queued.old) }
+    ensures queued { OnOk result (queued.new ≡ queued_after event.now due queued.old) }
+    ensures cause { HasCause memory.old memory.new result }
 {
     match event {
-        Event::Posted { owner, number } => put(alloc, queued, *owner, *number, due)?,
+        Event::Posted { owner, number } => put(memory, queued, *owner, *number, due)?,
         Event::Sent { owner, number, .. } => take_out(queued, *owner, *number),
         Event::Flushed { owner, number } => take_out(queued, *owner, *number),
-        Event::Polled { now } => make_ready(alloc, queued, *now)?,
+        Event::Polled { now } => make_ready(memory, queued, *now)?,
         _ => {}
     }
     Ok(())

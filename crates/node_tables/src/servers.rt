@@ -1,6 +1,7 @@
 //! The live server sessions and the newest requests of their slots, as events change them.
 ghost use Rattle.std.specs.Prelude.{◌≡◌, ◌++◌, ◌∷◌, [], IfOk, OnOk};
 ghost use Rattle.std.specs.List.{list_any, position};
+ghost use Rattle.memory_count.specs.Faults.{HasCause};
 ghost use Rattle.rpc_base.specs.Tables.{at_first, without_first};
 ghost use Rattle.rpc_laws.specs.Requests.{answered, first_packet, given, in_slot_of, is_request};
 ghost use Rattle.rpc_laws.specs.Front.{front_body, front_header};
@@ -9,14 +10,14 @@ ghost use Rattle.rpc_laws.specs.Requests.{took_packet};
 
 use crate::counting::one_more;
 use crate::reading::{front_body, read_front};
+use memory_count::{Memory, NoMemory};
 use packet_header::{Life, MessageHeader};
-use rpc_base::{Event, Listed, NoMemory, Octets, Owner, Peer, RequestNo, SessionNo};
+use rpc_base::{Event, Listed, Octets, Owner, Peer, RequestNo, SessionNo};
 use rpc_laws::{Arrival, Served, Server, Way};
-use std::alloc::Global;
 
 // A session more.
 fn add(
-    alloc: Global,
+    memory: &mut Memory,
     servers: &mut Listed<Server>,
     number: SessionNo,
     peer: Peer,
@@ -24,10 +25,11 @@ fn add(
     credits: u16,
     life: u32,
 ) -> Result<(), NoMemory>
-    ensures { OnOk result (servers.new
+    ensures servers { OnOk result (servers.new
         ≡ servers.old ++ server_end number peer other credits life ∷ []) }
+    ensures cause { HasCause memory.old memory.new result }
 {
-    servers.push(Server {
+    let added = servers.push(Server {
         way: Way {
             number,
             peer,
@@ -35,9 +37,9 @@ fn add(
             life: Life(life),
         },
         credits,
-        slots: Listed::new(alloc),
-    })?;
-    Ok(())
+        slots: Listed::new(memory.alloc()),
+    });
+    memory.of(added)
 }
 
 /// Where a session stands.
@@ -80,120 +82,125 @@ pub fn place_in_slot(slots: &Listed<Served>, request: RequestNo) -> Option<usize
 }
 
 // A request is given to a worker, with its bytes.
-fn give_slot(alloc: Global, served: &mut Served)
+fn give_slot(memory: &Memory, served: &mut Served)
     ensures { served.new ≡ given served.old }
 {
-    served.ask = Octets::from(Vec::new(alloc));
+    served.ask = Octets::from(Vec::new(memory.alloc()));
     served.working = true;
 }
 
-fn give_in(alloc: Global, slots: &mut Listed<Served>, request: RequestNo)
+fn give_in(memory: &Memory, slots: &mut Listed<Served>, request: RequestNo)
     ensures { slots.new ≡ at_first (is_request request) given slots.old }
 {
     let Some(place) = place_of_request(slots, request) else {
         return;
     };
-    give_slot(alloc, slots.at_mut(place));
+    give_slot(memory, slots.at_mut(place));
 }
 
-fn give_server(alloc: Global, server: &mut Server, request: RequestNo)
+fn give_server(memory: &Memory, server: &mut Server, request: RequestNo)
     ensures { server.new ≡ record server.old {
       slots = at_first (is_request request) given
           server.old.slots;
     } }
 {
-    give_in(alloc, &mut server.slots, request);
+    give_in(memory, &mut server.slots, request);
 }
 
 // A request of a session is given to a worker, with its bytes.
-fn give(alloc: Global, servers: &mut Listed<Server>, session: SessionNo, request: RequestNo)
+fn give(memory: &Memory, servers: &mut Listed<Server>, session: SessionNo, request: RequestNo)
     ensures { servers.new ≡ at_first (is_server session)
         (λ v. record v { slots = at_first (is_request request) given v.slots }) servers.old }
 {
     let Some(place) = place_of_server(servers, session) else {
         return;
     };
-    give_server(alloc, servers.at_mut(place), request);
+    give_server(memory, servers.at_mut(place), request);
 }
 
 // The handler's answer is there, and the bytes of the request are given up.
-fn answer_slot(alloc: Global, served: &mut Served, bytes: &[u8]) -> Result<(), NoMemory>
-    ensures { OnOk result (served.new ≡ answered bytes.now served.old) }
+fn answer_slot(memory: &mut Memory, served: &mut Served, bytes: &[u8]) -> Result<(), NoMemory>
+    ensures served { OnOk result (served.new ≡ answered bytes.now served.old) }
+    ensures cause { HasCause memory.old memory.new result }
 {
-    served.answer = Some(Octets::copy(alloc, bytes)?);
-    served.ask = Octets::from(Vec::new(alloc));
+    served.answer = Some(Octets::from(memory.copied(bytes)?));
+    served.ask = Octets::from(Vec::new(memory.alloc()));
     served.working = false;
     Ok(())
 }
 
 fn answer_in(
-    alloc: Global,
+    memory: &mut Memory,
     slots: &mut Listed<Served>,
     request: RequestNo,
     bytes: &[u8],
 ) -> Result<(), NoMemory>
-    ensures { OnOk result (slots.new
+    ensures slots { OnOk result (slots.new
         ≡ at_first (is_request request) (answered bytes.now) slots.old) }
+    ensures cause { HasCause memory.old memory.new result }
 {
     let Some(place) = place_of_request(slots, request) else {
         return Ok(());
     };
-    answer_slot(alloc, slots.at_mut(place), bytes)?;
+    answer_slot(memory, slots.at_mut(place), bytes)?;
     Ok(())
 }
 
 fn answer_server(
-    alloc: Global,
+    memory: &mut Memory,
     server: &mut Server,
     request: RequestNo,
     bytes: &[u8],
 ) -> Result<(), NoMemory>
-    ensures { OnOk result (server.new ≡ record server.old {
+    ensures server { OnOk result (server.new ≡ record server.old {
       slots = at_first (is_request request) (answered bytes.now) server.old.slots;
     }) }
+    ensures cause { HasCause memory.old memory.new result }
 {
-    answer_in(alloc, &mut server.slots, request, bytes)?;
+    answer_in(memory, &mut server.slots, request, bytes)?;
     Ok(())
 }
 
 // The handler gave this answer to a request of a session.
 fn answer(
-    alloc: Global,
+    memory: &mut Memory,
     servers: &mut Listed<Server>,
     session: SessionNo,
     request: RequestNo,
     bytes: &[u8],
 ) -> Result<(), NoMemory>
-    ensures { OnOk result (servers.new ≡ at_first (is_server session)
+    ensures servers { OnOk result (servers.new ≡ at_first (is_server session)
         (λ v. record v { slots = at_first (is_request request) (answered bytes.now) v.slots })
         servers.old) }
+    ensures cause { HasCause memory.old memory.new result }
 {
     let Some(place) = place_of_server(servers, session) else {
         return Ok(());
     };
-    answer_server(alloc, servers.at_mut(place), request, bytes)?;
+    answer_server(memory, servers.at_mut(place), request, bytes)?;
     Ok(())
 }
 
 // One more packet in turn.
-fn join(served: &mut Served, body: &[u8]) -> Result<(), NoMemory>
-    ensures { OnOk result (served.new ≡ next_packet body.now served.old) }
+fn join(memory: &mut Memory, served: &mut Served, body: &[u8]) -> Result<(), NoMemory>
+    ensures served { OnOk result (served.new ≡ next_packet body.now served.old) }
+    ensures cause { HasCause memory.old memory.new result }
 {
-    served.taken = one_more(served.taken)?;
-    served.ask.append(body)?;
-    Ok(())
+    served.taken = one_more(memory, served.taken)?;
+    memory.of(served.ask.append(body))
 }
 
 // A request that begins with this packet.
 fn first_packet(
-    alloc: Global,
+    memory: &mut Memory,
     request: RequestNo,
     head: &MessageHeader,
     body: &[u8],
 ) -> Result<Served, NoMemory>
-    ensures { IfOk result (λ served. served ≡ first_packet request head.now body.now) }
+    ensures served { IfOk result (λ served. served ≡ first_packet request head.now body.now) }
+    ensures cause { HasCause memory.old memory.new result }
 {
-    let ask = Octets::copy(alloc, body)?;
+    let ask = Octets::from(memory.copied(body)?);
     Ok(Served {
         number: request,
         req_type: head.req_type,
@@ -206,14 +213,20 @@ fn first_packet(
 }
 
 // The request of this number goes on, if it is there.
-fn go_on(slots: &mut Listed<Served>, request: RequestNo, body: &[u8]) -> Result<(), NoMemory>
-    ensures { OnOk result (slots.new
+fn go_on(
+    memory: &mut Memory,
+    slots: &mut Listed<Served>,
+    request: RequestNo,
+    body: &[u8],
+) -> Result<(), NoMemory>
+    ensures slots { OnOk result (slots.new
         ≡ at_first (is_request request) (next_packet body.now) slots.old) }
+    ensures cause { HasCause memory.old memory.new result }
 {
     let Some(place) = place_of_request(slots, request) else {
         return Ok(());
     };
-    join(slots.at_mut(place), body)?;
+    join(memory, slots.at_mut(place), body)?;
     Ok(())
 }
 
@@ -228,19 +241,19 @@ fn leave(slots: &mut Listed<Served>, request: RequestNo)
 
 // A request begins in the place of the older one of its slot.
 fn begin(
-    alloc: Global,
+    memory: &mut Memory,
     slots: &mut Listed<Served>,
     request: RequestNo,
     head: &MessageHeader,
     body: &[u8],
 ) -> Result<(), NoMemory>
-    ensures { OnOk result (slots.new ≡ without_first (in_slot_of request) slots.old
+    ensures slots { OnOk result (slots.new ≡ without_first (in_slot_of request) slots.old
         ++ first_packet request head.now body.now ∷ []) }
+    ensures cause { HasCause memory.old memory.new result }
 {
-    let served = first_packet(alloc, request, head, body)?;
+    let served = first_packet(memory, request, head, body)?;
     leave(slots, request);
-    slots.push(served)?;
-    Ok(())
+    memory.of(slots.push(served))
 }
 
 // Whether a request is the newest of its slot.
@@ -254,67 +267,71 @@ fn has_request(slots: &Listed<Served>, request: RequestNo) -> bool
 }
 
 fn take_in(
-    alloc: Global,
+    memory: &mut Memory,
     slots: &mut Listed<Served>,
     request: RequestNo,
     head: &Option<MessageHeader>,
     body: &[u8],
 ) -> Result<(), NoMemory>
-    ensures { OnOk result (slots.new ≡ took_packet request head.now body.now slots.old) }
+    ensures slots { OnOk result (slots.new ≡ took_packet request head.now body.now slots.old) }
+    ensures cause { HasCause memory.old memory.new result }
 {
     match head {
         None => Ok(()),
-        Some(_) if has_request(slots, request) => go_on(slots, request, body),
-        Some(head) => begin(alloc, slots, request, head, body),
+        Some(_) if has_request(slots, request) => go_on(memory, slots, request, body),
+        Some(head) => begin(memory, slots, request, head, body),
     }
 }
 
 fn take_server(
-    alloc: Global,
+    memory: &mut Memory,
     server: &mut Server,
     request: RequestNo,
     head: &Option<MessageHeader>,
     body: &[u8],
 ) -> Result<(), NoMemory>
-    ensures { OnOk result (server.new ≡ record server.old {
+    ensures server { OnOk result (server.new ≡ record server.old {
       slots = took_packet request head.now body.now server.old.slots;
     }) }
+    ensures cause { HasCause memory.old memory.new result }
 {
-    take_in(alloc, &mut server.slots, request, head, body)?;
+    take_in(memory, &mut server.slots, request, head, body)?;
     Ok(())
 }
 
 // A packet with this header and body was taken of a request of a session.
 fn take(
-    alloc: Global,
+    memory: &mut Memory,
     servers: &mut Listed<Server>,
     session: SessionNo,
     request: RequestNo,
     head: &Option<MessageHeader>,
     body: &[u8],
 ) -> Result<(), NoMemory>
-    ensures { OnOk result (servers.new ≡ at_first (is_server session)
+    ensures servers { OnOk result (servers.new ≡ at_first (is_server session)
         (λ v. record v { slots = took_packet request head.now body.now v.slots }) servers.old) }
+    ensures cause { HasCause memory.old memory.new result }
 {
     let Some(place) = place_of_server(servers, session) else {
         return Ok(());
     };
-    take_server(alloc, servers.at_mut(place), request, head, body)?;
+    take_server(memory, servers.at_mut(place), request, head, body)?;
     Ok(())
 }
 
 /// The server sessions after an event of their node, whose ring is the one before it. `bytes` is
 /// the answer of a handler that ran.
 pub fn change_servers(
-    alloc: Global,
+    memory: &mut Memory,
     servers: &mut Listed<Server>,
     ring: &Listed<Arrival>,
     event: &Event,
     bytes: &[u8],
 ) -> Result<(), NoMemory>
-    ensures { OnOk result (servers.new
+    ensures servers { OnOk result (servers.new
         ≡ servers_after event.now bytes.now (front_header ring.now) (front_body ring.now)
         servers.old) }
+    ensures cause { HasCause memory.old memory.new result }
 {
     match event {
         Event::PairedServer {
@@ -323,28 +340,28 @@ pub fn change_servers(
             client,
             credits,
             life,
-        } => add(alloc, servers, *session, *peer, *client, *credits, *life)?,
+        } => add(memory, servers, *session, *peer, *client, *credits, *life)?,
         Event::Accepted {
             session,
             peer,
             client,
             credits,
             life,
-        } => add(alloc, servers, *session, *peer, *client, *credits, *life)?,
+        } => add(memory, servers, *session, *peer, *client, *credits, *life)?,
         Event::Ended { session } => end(servers, *session),
         Event::Took { owner, .. } => match owner {
             Owner::Reply { session, request } => {
                 let head = read_front(ring);
-                take(alloc, servers, *session, *request, &head, front_body(ring))?;
+                take(memory, servers, *session, *request, &head, front_body(ring))?;
             }
             Owner::Ask { .. } | Owner::Control => {}
         },
-        Event::Given { session, request } => give(alloc, servers, *session, *request),
+        Event::Given { session, request } => give(memory, servers, *session, *request),
         Event::Ran {
             session,
             request,
             ..
-        } => answer(alloc, servers, *session, *request, bytes)?,
+        } => answer(memory, servers, *session, *request, bytes)?,
         _ => {}
     }
     Ok(())

@@ -1,6 +1,11 @@
 use Rattle.std.proofs.Common.{sym, ap, ◌∙◌, slice_set}
 use Rattle.rpc_base.proofs.TablesLemmas.{at_first-found, at_first-missing}
+use Rattle.node_tables.proofs.ActiveLemmas.{active-begun}
 use Rattle.node_tables.proofs.calls.send.Goals as goal
+
+pub at_mut-requires : goal.at_mut-requires
+at_mut-requires c = active-begun c.args.request c.in-Some.place c.args.calls.now
+    (sym c.in-Some.ensures)
 
 pub returns-in_default : goal.returns-in_default
 returns-in_default c = sym (at_first-missing _ _ _ (sym c.in_default.ensures))

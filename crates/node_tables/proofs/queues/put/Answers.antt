@@ -5,8 +5,8 @@ use Rattle.rpc_laws.specs.declared.tables.Queued.{Queued}
 use Rattle.node_tables.proofs.PutLemmas.{put-is}
 use Rattle.node_tables.proofs.queues.put.Goals as goal
 
-pub returns : goal.returns
-returns c =
+pub returns-clause-queued : goal.returns-clause-queued
+returns-clause-queued c =
     let new : Queued = record { owner = c.args.owner; number = c.args.number; due = c.args.due } in
     let old = c.into_vec-entries.ensures ∙ c.replace.ensures.value in
     let place =
