@@ -14,7 +14,7 @@ use crate::server_rule::parts_of;
 use node_tables::{has_queued, place_of_active, place_of_client};
 use packet_header::{MessageHeader, count};
 use rpc_base::{DropReason, Listed, Owner, PART_BYTES, Peer};
-use rpc_laws::{Asking, Call, Client, ClientRow, EndRow, Progress, Queued};
+use rpc_laws::{Asking, Call, Calls, Client, ClientRow, EndRow, Progress, Queued};
 
 /// How many packets the request of a call has.
 pub fn asked_packets(what: &Asking) -> u64
@@ -116,7 +116,7 @@ fn call_row(
 
 fn calls_row(
     queued: &Listed<Queued>,
-    calls: &Listed<Call>,
+    calls: &Calls,
     head: &MessageHeader,
     body_len: usize,
 ) -> ClientRow

@@ -1,5 +1,5 @@
 //! "The control rule" of docs/PROTOCOL.md, over the lists of a node.
-ghost use Rattle.std.specs.Prelude.{◌≡◌, ◌&&◌, IfOk, Some, option_map};
+ghost use Rattle.std.specs.Prelude.{◌≡◌, ◌&&◌, Some, option_map};
 ghost use Rattle.std.specs.List.{find, list_any, position};
 ghost use Rattle.packet_header.specs.declared.packet.ControlKind.TheVariants.{ConnectRequest};
 ghost use Rattle.rpc_laws.specs.ControlTable.{closed_row, confirm_row, connect_row, control_row};
@@ -13,7 +13,7 @@ ghost use Rattle.rpc_laws.specs.Sessions.{is_client, is_with};
 use crate::noted::{has_no_room, servers_spent, shares};
 use node_tables::{is_with, known_life, place_of_client};
 use packet_header::{ControlHeader, ControlKind, Life};
-use rpc_base::{Listed, NoMemory, Peer, SessionNo, SessionState};
+use rpc_base::{Listed, Peer, SessionNo, SessionState};
 use rpc_laws::{Client, ControlRow, Lists, Server};
 
 // Whether a server session is the other end of the client session that a peer has in this life.
@@ -122,56 +122,44 @@ pub fn outdated<'a>(lists: &'a Lists, peer: Peer, head: &ControlHeader) -> Optio
 }
 
 // A connect request of a session that isn't there.
-fn new_session_row(lists: &Lists, lacks: bool, head: &ControlHeader) -> Result<ControlRow, NoMemory>
-    ensures { IfOk result (λ row. row ≡ new_session_row lacks head.now lists.now) }
+fn new_session_row(lists: &Lists, lacks: bool, head: &ControlHeader) -> ControlRow
+    ensures { result ≡ new_session_row lacks head.now lists.now }
 {
-    let taken = shares(lists)?;
+    let taken = shares(lists);
     if has_no_room(lists, taken, u64::from(head.credits)) || servers_spent(lists) {
-        return Ok(ControlRow::Declines);
+        return ControlRow::Declines;
     }
     if lacks {
-        return Ok(ControlRow::Starves);
+        return ControlRow::Starves;
     }
-    Ok(ControlRow::Accepts {
+    ControlRow::Accepts {
         server: SessionNo(lists.server_numbers as u16),
-    })
+    }
 }
 
 // A connect request that isn't stale.
-fn confirm_row(
-    lists: &Lists,
-    lacks: bool,
-    peer: Peer,
-    head: &ControlHeader,
-) -> Result<ControlRow, NoMemory>
-    ensures { IfOk result (λ row. row ≡ confirm_row lacks head.now lists.now
-        (find (is_end_of peer head.now.client head.now.from_life) lists.now.servers)) }
+fn confirm_row(lists: &Lists, lacks: bool, peer: Peer, head: &ControlHeader) -> ControlRow
+    ensures { result ≡ confirm_row lacks head.now lists.now
+        (find (is_end_of peer head.now.client head.now.from_life) lists.now.servers) }
 {
     let Some(place) = place_of_end(&lists.servers, peer, head.client, head.from_life) else {
-        let row = new_session_row(lists, lacks, head)?;
-        return Ok(row);
+        return new_session_row(lists, lacks, head);
     };
     let server = lists.servers.at(place);
-    Ok(ControlRow::Confirms {
+    ControlRow::Confirms {
         server: server.way.number,
         credits: server.credits,
-    })
+    }
 }
 
 // A connect request.
-fn connect_row(
-    lists: &Lists,
-    lacks: bool,
-    peer: Peer,
-    head: &ControlHeader,
-) -> Result<ControlRow, NoMemory>
-    ensures { IfOk result (λ row. row ≡ connect_row lacks peer head.now lists.now) }
+fn connect_row(lists: &Lists, lacks: bool, peer: Peer, head: &ControlHeader) -> ControlRow
+    ensures { result ≡ connect_row lacks peer head.now lists.now }
 {
     if is_stale(lists, peer, head) {
-        return Ok(ControlRow::Ignores);
+        return ControlRow::Ignores;
     }
-    let row = confirm_row(lists, lacks, peer, head)?;
-    Ok(row)
+    confirm_row(lists, lacks, peer, head)
 }
 
 // But for a connect request, a packet for another life of the node has no effect.
@@ -364,30 +352,23 @@ pub fn named_end<'a>(
 }
 
 /// What the control rule says of a control packet of this peer, once no session is outdated by it.
-/// `lacks` tells whether memory for a
-/// server session is wanting. `NoMemory` comes only where 64 bits can't hold the credits of the
-/// node's sessions.
-pub fn control_row(
-    lists: &Lists,
-    lacks: bool,
-    peer: Peer,
-    head: &ControlHeader,
-) -> Result<ControlRow, NoMemory>
-    ensures { IfOk result (λ row. row ≡ control_row lacks peer head.now lists.now) }
+/// `lacks` tells whether memory for a server session is wanting.
+pub fn control_row(lists: &Lists, lacks: bool, peer: Peer, head: &ControlHeader) -> ControlRow
+    ensures { result ≡ control_row lacks peer head.now lists.now }
 {
     match head.kind {
         ControlKind::ConnectRequest => connect_row(lists, lacks, peer, head),
         ControlKind::DisconnectRequest => {
             let row = disconnect_row(&lists.servers, peer, head);
-            Ok(own_row(row, lists, head))
+            own_row(row, lists, head)
         }
         ControlKind::ConnectReply => {
             let row = connect_reply_row(&lists.clients, peer, head);
-            Ok(own_row(row, lists, head))
+            own_row(row, lists, head)
         }
         ControlKind::DisconnectReply => {
             let row = disconnect_reply_row(&lists.clients, peer, head);
-            Ok(own_row(row, lists, head))
+            own_row(row, lists, head)
         }
     }
 }

@@ -1,5 +1,6 @@
-//! The rules of a node over its lists as plain data: which row of each table applies, what a session
-//! begins and posts next, and what an application call or a delivery brings. It changes no list.
+//! The rules of a node over its lists as plain data: which row of each table applies, what a
+//! session begins and posts next, and what an application call or a delivery brings. It changes no
+//! list.
 #![tactic(auto)]
 
 mod client_rule;

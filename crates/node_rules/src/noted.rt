@@ -1,5 +1,5 @@
 //! What an application call, a delivery, or the world's working of a job notes.
-ghost use Rattle.std.specs.Prelude.{◌≡◌, ◌↔◌, IfOk, IsFalse, IsTrue, sum_by};
+ghost use Rattle.std.specs.Prelude.{◌≡◌, ◌<◌, ◌^◌, ◌↔◌, IsFalse, IsTrue, sum_by};
 ghost use Rattle.rpc_base.specs.declared.fact.Who.TheVariants.{Node};
 ghost use Rattle.std.specs.List.{list_any};
 ghost use Rattle.rpc_laws.specs.Front.{is_control, is_message};
@@ -15,8 +15,8 @@ ghost use Rattle.node_rules.specs.SingleFacts.{BeginsPolls, IsGroup};
 
 use node_tables::{place_of_client, read_control, read_message};
 use rpc_base::{
-    Event, Fact, MOST_CALLS, MOST_CREDITS, MOST_MESSAGE_BYTES, NoMemory, RequestNo,
-    SESSION_NUMBERS, SessionNo, SessionState, Who,
+    Event, Fact, MOST_CALLS, MOST_CREDITS, MOST_MESSAGE_BYTES, RequestNo, SESSION_NUMBERS,
+    SessionNo, SessionState, Who,
 };
 use rpc_laws::{Client, Lists, Server};
 
@@ -123,55 +123,55 @@ fn pending_in(lists: &Lists, session: SessionNo) -> u64
     lists.clients.at(place).calls.len() as u64
 }
 
-fn live_credits(client: &Client) -> u64
+fn live_credits(client: &Client) -> u16
     ensures { result ≡ live_credits client.now }
 {
     if is_live(client.state) {
-        u64::from(client.limit)
+        client.limit
     } else {
         0
     }
 }
 
-// The credits of the client sessions that are live, which are to fit 64 bits.
-fn client_shares(clients: &[Client]) -> Result<u64, NoMemory>
-    ensures { IfOk result (λ n. n ≡ sum_by live_credits clients.now) }
+// The credits of the client sessions that are live. A list has fewer than 2^64 of them, and none
+// has more than 16 bits hold.
+fn client_shares(clients: &[Client]) -> u128
+    ensures sum { result ≡ sum_by live_credits clients.now }
+    ensures few { result < 2 ^ 80 }
 {
-    let mut credits = 0u64;
+    let mut credits = 0u128;
     for client in clients {
-        credits = credits.checked_add(live_credits(client)).ok_or(NoMemory)?;
+        credits += u128::from(live_credits(client));
     }
-    Ok(credits)
+    credits
 }
 
-fn server_shares(servers: &[Server]) -> Result<u64, NoMemory>
-    ensures { IfOk result (λ n. n ≡ sum_by (λ v. v.credits) servers.now) }
+fn server_shares(servers: &[Server]) -> u128
+    ensures sum { result ≡ sum_by (λ v. v.credits) servers.now }
+    ensures few { result < 2 ^ 80 }
 {
-    let mut credits = 0u64;
+    let mut credits = 0u128;
     for server in servers {
-        credits = credits
-            .checked_add(u64::from(server.credits))
-            .ok_or(NoMemory)?;
+        credits += u128::from(server.credits);
     }
-    Ok(credits)
+    credits
 }
 
-/// The credits of the live sessions of a node. Where 64 bits can't hold them, that is want of
-/// memory, since so many sessions can't be kept.
-pub fn shares(lists: &Lists) -> Result<u64, NoMemory>
-    ensures { IfOk result (λ n. n ≡ shares lists.now) }
+/// The credits of the live sessions of a node.
+pub fn shares(lists: &Lists) -> u128
+    ensures { result ≡ shares lists.now }
 {
-    let own = client_shares(lists.clients.as_slice())?;
-    let other = server_shares(lists.servers.as_slice())?;
-    own.checked_add(other).ok_or(NoMemory)
+    let own = client_shares(lists.clients.as_slice());
+    let other = server_shares(lists.servers.as_slice());
+    own + other
 }
 
 /// Whether so many credits more would exceed the ring of a node whose live sessions have `taken`.
-pub fn has_no_room(lists: &Lists, taken: u64, credits: u64) -> bool
+pub fn has_no_room(lists: &Lists, taken: u128, credits: u64) -> bool
     requires { taken ≡ shares lists.now }
     ensures { result ≡ has_no_room credits lists.now }
 {
-    u128::from(lists.room) < u128::from(taken) + u128::from(credits)
+    u128::from(lists.room) < taken.saturating_add(u128::from(credits))
 }
 
 fn clients_spent(lists: &Lists) -> bool
@@ -194,16 +194,16 @@ fn are_credits(credits: u64) -> bool
 }
 
 // Whether a session of so many credits is made.
-fn is_taken(lists: &Lists, spent: bool, credits: u16) -> Result<bool, NoMemory>
-    ensures { IfOk result (λ b. b ≡ is_taken spent credits lists.now) }
+fn is_taken(lists: &Lists, spent: bool, credits: u16) -> bool
+    ensures { result ≡ is_taken spent credits lists.now }
 {
-    let taken = shares(lists)?;
+    let taken = shares(lists);
     let credits = u64::from(credits);
-    Ok(are_credits(credits) && !spent && !has_no_room(lists, taken, credits))
+    are_credits(credits) && !spent && !has_no_room(lists, taken, credits)
 }
 
 // Whether it isn't, for want of room.
-fn lacks_room(lists: &Lists, taken: u64, credits: u64) -> bool
+fn lacks_room(lists: &Lists, taken: u128, credits: u64) -> bool
     requires { taken ≡ shares lists.now }
     ensures { result ≡ lacks_room credits lists.now }
 {
@@ -248,8 +248,8 @@ fn is_out(lists: &Lists, session: SessionNo, request: RequestNo) -> bool
 }
 
 // Whether the node answers a connect, or makes an end of a pair, by this event.
-fn is_session_answer(lists: &Lists, event: &Event) -> Result<bool, NoMemory>
-    ensures { IfOk result (λ b. b ≡ is_session_answer lists.now event.now) }
+fn is_session_answer(lists: &Lists, event: &Event) -> bool
+    ensures { result ≡ is_session_answer lists.now event.now }
 {
     match event {
         Event::PairedClient {
@@ -258,9 +258,9 @@ fn is_session_answer(lists: &Lists, event: &Event) -> Result<bool, NoMemory>
             credits,
             ..
         } => {
-            let taken = is_taken(lists, clients_spent(lists), *credits)?;
+            let taken = is_taken(lists, clients_spent(lists), *credits);
             let next = usize::from(session.0) == lists.clients.len();
-            Ok(next && server.0 < SESSION_NUMBERS && taken)
+            next && server.0 < SESSION_NUMBERS && taken
         }
         Event::PairedServer {
             session,
@@ -268,29 +268,29 @@ fn is_session_answer(lists: &Lists, event: &Event) -> Result<bool, NoMemory>
             credits,
             ..
         } => {
-            let taken = is_taken(lists, servers_spent(lists), *credits)?;
+            let taken = is_taken(lists, servers_spent(lists), *credits);
             let next = u64::from(session.0) == lists.server_numbers;
-            Ok(next && client.0 < SESSION_NUMBERS && taken)
+            next && client.0 < SESSION_NUMBERS && taken
         }
         Event::Opened {
             session,
             credits,
             ..
         } => {
-            let taken = is_taken(lists, clients_spent(lists), *credits)?;
-            Ok(usize::from(session.0) == lists.clients.len() && taken)
+            let taken = is_taken(lists, clients_spent(lists), *credits);
+            usize::from(session.0) == lists.clients.len() && taken
         }
-        Event::NconnectNumbers => Ok(clients_spent(lists) || servers_spent(lists)),
+        Event::NconnectNumbers => clients_spent(lists) || servers_spent(lists),
         Event::NconnectRing {
             shares: told,
             credits,
             ring,
         } => {
-            let taken = shares(lists)?;
-            let right = u64::from(*told) == taken && *ring == lists.room;
-            Ok(right && lacks_room(lists, taken, u64::from(*credits)))
+            let taken = shares(lists);
+            let right = u128::from(*told) == taken && *ring == lists.room;
+            right && lacks_room(lists, taken, u64::from(*credits))
         }
-        _ => Ok(false),
+        _ => false,
     }
 }
 
@@ -369,25 +369,25 @@ fn is_own(lists: &Lists, fact: &Fact) -> bool
 
 // Whether a fact is the node's answer to an application call, what it notes of a delivery, or the
 // world's note of a job.
-fn is_noted(lists: &Lists, fact: &Fact) -> Result<bool, NoMemory>
-    ensures { IfOk result (λ b. IsTrue b ↔ IsNoted lists.now fact.now) }
+fn is_noted(lists: &Lists, fact: &Fact) -> bool
+    ensures { IsTrue result ↔ IsNoted lists.now fact.now }
 {
     let event = &fact.event;
     let first = fact.first.bytes();
-    let is_answer = is_session_answer(lists, event)?
+    let is_answer = is_session_answer(lists, event)
         || is_call_answer(lists, event, first.len())
         || is_outer_answer(lists, event, first);
     let has_right_bytes = (has_bytes(event) || first.is_empty()) && fact.second.is_empty();
-    Ok(is_own(lists, fact) && is_answer && has_right_bytes)
+    is_own(lists, fact) && is_answer && has_right_bytes
 }
 
 /// Whether a fact is a group of its own at a node with these lists: its answer to an application
 /// call, what it notes of a delivery, or the world's note of a job. Where it isn't, only a poll can
-/// begin with it. `NoMemory` comes only where 64 bits can't hold the credits of its sessions.
-pub fn is_group(lists: &Lists, fact: &Fact) -> Result<bool, NoMemory>
-    ensures some { IfOk result (λ b. IsTrue b → IsGroup lists.now fact.now) }
-    ensures only { IfOk result (λ b. IsFalse b → BeginsPolls lists.now fact.now) }
+/// begin with it.
+pub fn is_group(lists: &Lists, fact: &Fact) -> bool
+    ensures some { IsTrue result → IsGroup lists.now fact.now }
+    ensures only { IsFalse result → BeginsPolls lists.now fact.now }
 {
-    let noted = is_noted(lists, fact)?;
-    Ok(noted)
+    let noted = is_noted(lists, fact);
+    noted
 }

@@ -2,23 +2,29 @@
 ghost use Rattle.std.specs.Prelude.{◌≡◌, option_and_then, option_map, slice_index};
 ghost use Rattle.std.specs.List.{find, position};
 ghost use Rattle.rpc_base.specs.declared.event.Event.TheVariants.{Begun, Posted};
-ghost use Rattle.rpc_laws.specs.Calls.{is_waiting};
 ghost use Rattle.rpc_laws.specs.Posting.{beginning, can_post, holds_slot, is_taken, lowest_free};
 ghost use Rattle.rpc_laws.specs.Posting.{next_begun, next_packet, next_posted, next_turn, posting};
 
 use crate::client_rule::{asked_packets, known_packets};
 use crate::noted::is_connected;
 use rpc_base::{CallNo, Listed, Owner, SessionNo};
-use rpc_laws::{Call, Client, Lists};
+use rpc_laws::{Call, Calls, Client, Lists};
 
 /// The slots of a session.
 const SLOTS: [u8; 8] = [0, 1, 2, 3, 4, 5, 6, 7];
 
-// Whether an active call has this slot.
-fn is_taken(calls: &Listed<Call>, slot: u8) -> bool
+// Whether one of these calls has this slot.
+fn some_holds(calls: &[Call], slot: u8) -> bool
     ensures { result ≡ is_taken calls.now slot }
 {
-    calls.as_slice().iter().any(|call| holds_slot(call, slot))
+    calls.iter().any(|call| holds_slot(call, slot))
+}
+
+// Whether an active call has this slot. The calls that wait, which may be many, have none.
+fn is_taken(calls: &Calls, slot: u8) -> bool
+    ensures { result ≡ is_taken calls.now slot }
+{
+    some_holds(calls.begun(), slot)
 }
 
 fn holds_slot(call: &Call, slot: u8) -> bool
@@ -43,28 +49,22 @@ fn can_post(call: &Call) -> bool
     }
 }
 
-// Where the oldest call stands that may post.
-fn place_of_posting(calls: &Listed<Call>) -> Option<usize>
+// Where the oldest of these calls stands that may post.
+fn first_postable(calls: &[Call]) -> Option<usize>
     ensures { result ≡ position can_post calls.now }
 {
-    calls.as_slice().iter().position(|call| can_post(call))
+    calls.iter().position(|call| can_post(call))
 }
 
-fn is_waiting(call: &Call) -> bool
-    ensures { result ≡ is_waiting call.now }
+// Where the oldest call of a session stands that may post, which is none of those that wait.
+fn place_of_posting(calls: &Calls) -> Option<usize>
+    ensures { result ≡ position can_post calls.now }
 {
-    call.progress.is_none()
-}
-
-// Where the oldest call stands that waits.
-fn place_of_waiting(calls: &Listed<Call>) -> Option<usize>
-    ensures { result ≡ position is_waiting calls.now }
-{
-    calls.as_slice().iter().position(|call| is_waiting(call))
+    first_postable(calls.begun())
 }
 
 // The lowest free slot.
-fn lowest_free(calls: &Listed<Call>) -> Option<usize>
+fn lowest_free(calls: &Calls) -> Option<usize>
     ensures { result ≡ lowest_free calls.now }
 {
     SLOTS.iter().position(|slot| !is_taken(calls, *slot))
@@ -103,7 +103,7 @@ fn beginning_as(client: &Client, number: CallNo) -> Option<(CallNo, u128)>
 fn beginning(client: &Client) -> Option<(CallNo, u128)>
     ensures { option_map (λ p. Begun p.0 p.1) result ≡ beginning client.now }
 {
-    let Some(place) = place_of_waiting(&client.calls) else {
+    let Some(place) = client.calls.place_of_waiting() else {
         return None;
     };
     beginning_as(client, client.calls.at(place).what.number)
@@ -122,7 +122,7 @@ fn next_packet(session: SessionNo, call: &Call) -> Option<(Owner, u64)>
 }
 
 // The oldest active call of a session that may post.
-fn posting_of(session: SessionNo, calls: &Listed<Call>) -> Option<(Owner, u64)>
+fn posting_of(session: SessionNo, calls: &Calls) -> Option<(Owner, u64)>
     ensures { option_map (λ p. Posted p.0 p.1) result
         ≡ option_and_then (λ c. next_packet session c.progress) (find can_post calls.now) }
 {

@@ -1,6 +1,6 @@
 -- The facts of a packet of the ring in front of those that follow, whatever memory wants and the handler answers.
 use Rattle.std.proofs.Common.{◌≡◌, ◌+◌, ◌-◌, ◌≤◌, ℕ, Bool, true, false, ◌&&◌, cond, Option, Some, None, List, [], ◌∷◌}
-use Rattle.std.proofs.Common.{◌++◌, drop, length, take, refl, sym, ap, ap₂, ◌∙◌, subst, arith, append-nil}
+use Rattle.std.proofs.Common.{◌++◌, drop, length, take, refl, sym, ap, ap₂, ◌∙◌, subst}
 use Rattle.std.specs.Bool.{Decides}
 use Rattle.std.specs.List.{find}
 use Rattle.std.specs.Prelude.{◌==◌, ◌↔◌, IsTrue}
@@ -11,7 +11,6 @@ use Rattle.std.proofs.lemmas.Bool.Decides.{Decides-and, same_from_decides}
 use Rattle.std.proofs.lemmas.List.{length-append, nil_from_length, take-append-drop}
 use Rattle.std.proofs.lemmas.Slice.Eq.{bytes_eq-Decides}
 use Rattle.packet_header.specs.declared.packet.Kind.{Kind}
-use Rattle.packet_header.specs.declared.packet.Kind.TheVariants.{Request, Rfr, Cr, Response}
 use Rattle.packet_header.specs.declared.packet.MessageHeader.{MessageHeader}
 use Rattle.rpc_base.specs.declared.event.Event.{Event}
 use Rattle.rpc_base.specs.declared.event.Event.TheVariants.{DoneOk, Dropped, Given, Posted, Ran}
@@ -24,7 +23,7 @@ use Rattle.rpc_laws.specs.declared.rows.ServerRow.{ServerRow}
 use Rattle.rpc_laws.specs.declared.tables.Lists.{Lists}
 use Rattle.rpc_laws.specs.Facts.{plain, with_bytes, with_two}
 use Rattle.rpc_laws.specs.Jobs.{are_full}
-use Rattle.rpc_laws.specs.PollOrder.{handling_by, replies_facts}
+use Rattle.rpc_laws.specs.PollOrder.{handling_by}
 use Rattle.rpc_laws.specs.Requests.{is_server}
 use Rattle.rpc_laws.specs.ServerTable.{brings, is_last, makes_job, server_row}
 use Rattle.rpc_outside.specs.declared.service.Mode.{Mode}

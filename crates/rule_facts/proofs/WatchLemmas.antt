@@ -1,5 +1,5 @@
 -- The facts of the calls of a session, one call after another.
-use Rattle.std.proofs.Common.{◌≡◌, ◌+◌, ◌-◌, ◌<◌, ◌≤◌, ℕ, zero, suc, Some, None, List, [], ◌∷◌}
+use Rattle.std.proofs.Common.{◌≡◌, ◌+◌, ◌<◌, ◌≤◌, ℕ, zero, suc, Some, None, List, [], ◌∷◌}
 use Rattle.std.proofs.Common.{◌++◌, append_assoc}
 use Rattle.std.proofs.Common.{append-nil, drop, length, refl, slice_get, sym, ap, ◌∙◌, subst, take}
 use Rattle.std.proofs.Common.{arith, get_or}

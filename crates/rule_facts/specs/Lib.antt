@@ -4,7 +4,6 @@ pub mod Handling
 pub mod Heads
 pub mod NextFacts
 pub mod Retrying
-pub mod Sending
 pub mod Speaking
 pub mod Tells
 pub mod Watching

@@ -14,7 +14,8 @@ use Rattle.rpc_base.specs.declared.fact.Who.{Who}
 use Rattle.rpc_base.specs.declared.fact.Who.TheVariants.{Node, Net}
 use Rattle.rpc_base.specs.declared.owner.Owner.{Owner}
 use Rattle.rpc_base.specs.declared.state.DropReason.{DropReason}
-use Rattle.rpc_base.specs.declared.state.DropReason.TheVariants.{StaleLife, NoSession, WrongPeer, Old}
+use Rattle.rpc_base.specs.declared.state.DropReason.TheVariants.{StaleLife, NoSession, WrongPeer}
+use Rattle.rpc_base.specs.declared.state.DropReason.TheVariants.{Old}
 use Rattle.rpc_base.specs.declared.state.DropReason.TheVariants.{NotFirst}
 use Rattle.rpc_base.specs.declared.state.DropReason.TheVariants.{Working, Unserved, JobsFull}
 use Rattle.rpc_base.specs.declared.state.DropReason.TheVariants.{NoMemory}

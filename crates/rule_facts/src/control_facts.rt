@@ -1,5 +1,6 @@
 //! Which facts a row of the control rule notes.
 ghost use Rattle.std.specs.Prelude.{◌≡◌, IfOk, [], ◌∷◌};
+ghost use Rattle.memory_count.specs.Faults.{HasCause};
 ghost use Rattle.rpc_base.specs.declared.event.Event.TheVariants.{Accepted, ClosedHeard, Connected};
 ghost use Rattle.rpc_base.specs.declared.event.Event.TheVariants.{Declined, FailedNoRoom, Starved};
 ghost use Rattle.rpc_laws.specs.ControlTable.{control_facts, named_end, session_end};
@@ -11,11 +12,11 @@ use crate::says::{
     says_starved,
 };
 use crate::session_ends::session_ended;
+use memory_count::{Memory, NoMemory};
 use node_rules::named_end;
 use packet_header::ControlHeader;
-use rpc_base::{Fact, NoMemory, NodeId, Peer, SessionNo};
+use rpc_base::{Fact, NodeId, Peer, SessionNo};
 use rpc_laws::{ControlRow, Lists};
-use std::alloc::Global;
 
 /// A row that notes nothing.
 pub fn none(facts: &[Fact]) -> Option<usize>
@@ -99,41 +100,43 @@ fn closed(me: NodeId, head: &ControlHeader, facts: &[Fact]) -> Option<usize>
 
 // The server session that the packet names ends, if it is there.
 fn ended(
-    alloc: Global,
+    memory: &mut Memory,
     lists: &Lists,
     peer: Peer,
     head: &ControlHeader,
     facts: &[Fact],
 ) -> Result<Option<usize>, NoMemory>
-    ensures { IfOk result (Fronts (session_end lists.now.me lists.now.queued
+    ensures fronts { IfOk result (Fronts (session_end lists.now.me lists.now.queued
         (named_end peer head.now.client head.now.from_life head.now.server lists.now.servers))
         facts.now) }
+    ensures cause { HasCause memory.old memory.new result }
 {
     let Some(server) = named_end(&lists.servers, peer, head) else {
         return Ok(Some(0));
     };
-    let count = session_ended(alloc, lists.me, &lists.queued, server, facts)?;
+    let count = session_ended(memory, lists.me, &lists.queued, server, facts)?;
     Ok(count)
 }
 
 /// How many of the facts are those of a row, for a control packet of this peer. `None` comes
 /// exactly where the facts don't begin with these.
 pub fn control_noted(
-    alloc: Global,
+    memory: &mut Memory,
     lists: &Lists,
     peer: Peer,
     head: &ControlHeader,
     row: ControlRow,
     facts: &[Fact],
 ) -> Result<Option<usize>, NoMemory>
-    ensures { IfOk result (Fronts (control_facts lists.now peer head.now row) facts.now) }
+    ensures fronts { IfOk result (Fronts (control_facts lists.now peer head.now row) facts.now) }
+    ensures cause { HasCause memory.old memory.new result }
 {
     let me = lists.me;
     match row {
         ControlRow::Declines => Ok(declined(me, peer, head, facts)),
         ControlRow::Starves => Ok(starved(me, peer, head, facts)),
         ControlRow::Accepts { server } => Ok(accepted(me, peer, head, server, facts)),
-        ControlRow::Ends => ended(alloc, lists, peer, head, facts),
+        ControlRow::Ends => ended(memory, lists, peer, head, facts),
         ControlRow::Connects { server } => Ok(connected(me, head, server, facts)),
         ControlRow::Fails => Ok(failed(me, head, facts)),
         ControlRow::Closes => Ok(closed(me, head, facts)),

@@ -1,5 +1,5 @@
-//! Which facts the rules of a node note over its lists, compared with those that follow: of a packet,
-//! a timer, a job, a session and the sending. It changes no list.
+//! Which facts the rules of a node note over its lists, compared with those that follow: of a
+//! packet, a timer, a job and a session. It changes no list.
 #![tactic(auto)]
 
 mod client_facts;
@@ -9,7 +9,6 @@ mod flushing;
 mod front_facts;
 mod heads;
 mod next;
-mod packets;
 mod retrying;
 mod ring_facts;
 mod says;
@@ -23,7 +22,6 @@ pub use finishing::{awaited, next_finished};
 pub use flushing::flushed;
 pub use heads::is_spelled;
 pub use next::{is_end, is_heard, is_next_begun, is_next_posted};
-pub use packets::{is_sending, outgoing};
 pub use retrying::retried;
 pub use ring_facts::handled;
 pub use session_ends::{session_ended, slot_flushed};

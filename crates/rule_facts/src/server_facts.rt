@@ -1,6 +1,7 @@
 //! Which facts a Request or RFR notes: those of its row of the server rule. Whether memory was
 //! wanting, and what the handler answered, is told by the facts.
 ghost use Rattle.std.specs.Prelude.{◌≡◌, ◌≤◌, ◌++◌, ◌∷◌, [], ℕ, List, IfOk, IfSome};
+ghost use Rattle.memory_count.specs.Faults.{HasCause};
 ghost use Rattle.std.specs.List.{find};
 ghost use Rattle.rpc_base.specs.declared.event.Event.TheVariants.{Again, Given, Posted, Ran, Took};
 ghost use Rattle.rpc_base.specs.declared.owner.Owner.TheVariants.{Reply};
@@ -16,13 +17,13 @@ ghost use Rattle.rule_facts.specs.Handling.{SomeFronts, asked_by, asked_facts, r
 use crate::front_facts::{dropped, is_joined};
 use crate::says::{is_node, says_again, says_given, says_posted, says_took};
 use crate::session_ends::slot_flushed;
+use memory_count::{Memory, NoMemory};
 use node_rules::{are_full, makes_job, server_row};
 use node_tables::{place_of_request, place_of_server};
 use packet_header::MessageHeader;
-use rpc_base::{Event, Fact, Listed, NoMemory, NodeId, Owner, Peer, RequestNo};
+use rpc_base::{Event, Fact, Listed, NodeId, Owner, Peer, RequestNo};
 use rpc_laws::{Lists, Served, Server, ServerRow};
 use rpc_outside::{Mode, PlainService, Service};
-use std::alloc::Global;
 
 // How the plain service handles the requests of a type.
 fn plain_mode(req_type: u8) -> Mode
@@ -193,35 +194,37 @@ fn took(
 
 // The queued replies to the older request of its slot are taken out.
 fn older_flushed(
-    alloc: Global,
+    memory: &mut Memory,
     lists: &Lists,
     head: &MessageHeader,
     facts: &[Fact],
 ) -> Result<Option<usize>, NoMemory>
-    ensures { IfOk result (Fronts (flushes_older lists.now.me lists.now.queued
+    ensures fronts { IfOk result (Fronts (flushes_older lists.now.me lists.now.queued
         (find (is_server head.now.session) lists.now.servers) head.now.request) facts.now) }
+    ensures cause { HasCause memory.old memory.new result }
 {
     let Some(place) = place_of_server(&lists.servers, head.session) else {
         return Ok(Some(0));
     };
     let server = lists.servers.at(place);
-    let count = slot_flushed(alloc, lists.me, &lists.queued, server, head.request, facts)?;
+    let count = slot_flushed(memory, lists.me, &lists.queued, server, head.request, facts)?;
     Ok(count)
 }
 
 // A request begins.
 fn began(
-    alloc: Global,
+    memory: &mut Memory,
     lists: &Lists,
     mode: Mode,
     head: &MessageHeader,
     body: &[u8],
     facts: &[Fact],
 ) -> Result<Option<usize>, NoMemory>
-    ensures { IfOk result (SomeFronts (row_facts mode lists.now head.now body.now Begins)
+    ensures fronts { IfOk result (SomeFronts (row_facts mode lists.now head.now body.now Begins)
         facts.now) }
+    ensures cause { HasCause memory.old memory.new result }
 {
-    let Some(count) = older_flushed(alloc, lists, head, facts)? else {
+    let Some(count) = older_flushed(memory, lists, head, facts)? else {
         return Ok(None);
     };
     let Some(more) = took(mode, lists.me, head, &[], body, &facts[count..]) else {
@@ -261,7 +264,7 @@ fn repeated(me: NodeId, head: &MessageHeader, facts: &[Fact]) -> Option<usize>
 
 // How many of the facts are those of a row.
 fn row_noted(
-    alloc: Global,
+    memory: &mut Memory,
     lists: &Lists,
     mode: Mode,
     head: &MessageHeader,
@@ -269,12 +272,13 @@ fn row_noted(
     row: ServerRow,
     facts: &[Fact],
 ) -> Result<Option<usize>, NoMemory>
-    ensures { IfOk result (SomeFronts (row_facts mode lists.now head.now body.now row)
+    ensures fronts { IfOk result (SomeFronts (row_facts mode lists.now head.now body.now row)
         facts.now) }
+    ensures cause { HasCause memory.old memory.new result }
 {
     match row {
         ServerRow::Drops(reason) => Ok(dropped(lists.me, reason, facts)),
-        ServerRow::Begins => began(alloc, lists, mode, head, body, facts),
+        ServerRow::Begins => began(memory, lists, mode, head, body, facts),
         ServerRow::Takes => Ok(went_on(lists, mode, head, body, facts)),
         ServerRow::Repeats => Ok(repeated(lists.me, head, facts)),
     }
@@ -284,22 +288,24 @@ fn row_noted(
 /// plain service. `None` comes exactly where no front of them does, whatever memory wants and the
 /// handler answers.
 pub fn asked(
-    alloc: Global,
+    memory: &mut Memory,
     lists: &Lists,
     peer: Peer,
     head: &MessageHeader,
     body: &[u8],
     facts: &[Fact],
 ) -> Result<Option<usize>, NoMemory>
-    ensures { IfOk result (SomeFronts (asked_facts lists.now peer head.now body.now) facts.now) }
+    ensures fronts { IfOk result (SomeFronts (asked_facts lists.now peer head.now body.now)
+        facts.now) }
+    ensures cause { HasCause memory.old memory.new result }
 {
     let mode = plain_mode(head.req_type);
     let full = are_full(&lists.jobs);
     let row = server_row(mode, full, false, &lists.servers, peer, head);
-    if let Some(count) = row_noted(alloc, lists, mode, head, body, row, facts)? {
+    if let Some(count) = row_noted(memory, lists, mode, head, body, row, facts)? {
         return Ok(Some(count));
     }
     let starved = server_row(mode, full, true, &lists.servers, peer, head);
-    let count = row_noted(alloc, lists, mode, head, body, starved, facts)?;
+    let count = row_noted(memory, lists, mode, head, body, starved, facts)?;
     Ok(count)
 }

@@ -1,5 +1,6 @@
 //! Server sessions that end, and which facts tell it.
 ghost use Rattle.std.specs.Prelude.{◌≡◌, ◌≤◌, IfOk, IfSome, Some, length, [], ◌∷◌};
+ghost use Rattle.memory_count.specs.Faults.{HasCause};
 ghost use Rattle.std.specs.List.{find};
 ghost use Rattle.rpc_base.specs.declared.event.Event.TheVariants.{Ended};
 ghost use Rattle.rpc_laws.specs.Facts.{plain};
@@ -10,10 +11,10 @@ ghost use Rattle.rule_facts.specs.Fronts.{Fronts};
 
 use crate::flushing::flushed;
 use crate::says::says_ended;
+use memory_count::{Memory, NoMemory};
 use node_tables::place_in_slot;
-use rpc_base::{Fact, Listed, NoMemory, NodeId, Owner, RequestNo};
+use rpc_base::{Fact, Listed, NodeId, Owner, RequestNo};
 use rpc_laws::{Queued, Server};
-use std::alloc::Global;
 
 /// The slots of a session.
 const SLOTS: u8 = 8;
@@ -21,15 +22,16 @@ const SLOTS: u8 = 8;
 /// How many of the facts take out the queued replies to the newest request of the slot of this one.
 /// `None` comes exactly where the facts don't begin with these.
 pub fn slot_flushed(
-    alloc: Global,
+    memory: &mut Memory,
     me: NodeId,
     queued: &Listed<Queued>,
     server: &Server,
     request: RequestNo,
     facts: &[Fact],
 ) -> Result<Option<usize>, NoMemory>
-    ensures { IfOk result (Fronts (flushes me queued.now server.now.way.number
+    ensures fronts { IfOk result (Fronts (flushes me queued.now server.now.way.number
         (find (in_slot_of request) server.now.slots)) facts.now) }
+    ensures cause { HasCause memory.old memory.new result }
 {
     let Some(place) = place_in_slot(&server.slots, request) else {
         return Ok(Some(0));
@@ -38,13 +40,13 @@ pub fn slot_flushed(
         session: server.way.number,
         request: server.slots.at(place).number,
     };
-    let count = flushed(alloc, me, queued, &owner, facts)?;
+    let count = flushed(memory, me, queued, &owner, facts)?;
     Ok(count)
 }
 
 // How many of the facts take out the queued replies of the slots of a session, in their order.
 fn slots_flushed(
-    alloc: Global,
+    memory: &mut Memory,
     me: NodeId,
     queued: &Listed<Queued>,
     server: &Server,
@@ -52,12 +54,13 @@ fn slots_flushed(
 ) -> Result<Option<usize>, NoMemory>
     ensures fronts { IfOk result (Fronts (session_flushes me queued.now server.now) facts.now) }
     ensures within { IfOk result (λ o. IfSome o (λ n. n ≤ length facts.now)) }
+    ensures cause { HasCause memory.old memory.new result }
 {
     let mut count = 0;
     for slot in 0..SLOTS {
         let first = RequestNo::of(slot, 0);
         let rest = &facts[count..];
-        let Some(more) = slot_flushed(alloc, me, queued, server, first, rest)? else {
+        let Some(more) = slot_flushed(memory, me, queued, server, first, rest)? else {
             return Ok(None);
         };
         count += more;
@@ -78,15 +81,16 @@ fn over(me: NodeId, server: &Server, facts: &[Fact]) -> Option<usize>
 /// How many of the facts end a server session: its queued replies are taken out, and it is over.
 /// `None` comes exactly where the facts don't begin with these.
 pub fn session_ended(
-    alloc: Global,
+    memory: &mut Memory,
     me: NodeId,
     queued: &Listed<Queued>,
     server: &Server,
     facts: &[Fact],
 ) -> Result<Option<usize>, NoMemory>
-    ensures { IfOk result (Fronts (session_end me queued.now (Some server.now)) facts.now) }
+    ensures fronts { IfOk result (Fronts (session_end me queued.now (Some server.now)) facts.now) }
+    ensures cause { HasCause memory.old memory.new result }
 {
-    let Some(count) = slots_flushed(alloc, me, queued, server, facts)? else {
+    let Some(count) = slots_flushed(memory, me, queued, server, facts)? else {
         return Ok(None);
     };
     let Some(last) = over(me, server, &facts[count..]) else {

@@ -1,5 +1,6 @@
 //! Control packets that are handed to the link, and which facts tell it.
 ghost use Rattle.std.specs.Prelude.{◌≡◌, ◌≤◌, ◌↔◌, ◌∷◌, [], List, IfOk, IfSome, IsNone, IsTrue};
+ghost use Rattle.memory_count.specs.Faults.{HasCause};
 ghost use Rattle.std.specs.Prelude.{length, take};
 ghost use Rattle.packet_header.specs.declared.packet.Packet.TheVariants.{Control as ControlPacket};
 ghost use Rattle.rpc_base.specs.declared.fact.Fact.{Fact};
@@ -12,11 +13,11 @@ ghost use Rattle.rule_facts.specs.Speaking.{SpeakNone, says_handed, tells_handed
 use crate::control_facts::control_noted;
 use crate::heads::is_spelled;
 use crate::says::is_node;
+use memory_count::{Memory, NoMemory};
 use node_rules::{control_reply, control_row};
 use packet_header::{ControlHeader, Packet};
-use rpc_base::{Event, Fact, NoMemory, NodeId, Owner, Peer};
+use rpc_base::{Event, Fact, NodeId, Owner, Peer};
 use rpc_laws::{ControlRow, Lists};
-use std::alloc::Global;
 
 // Whether an event tells that a control packet was handed to the link for this peer.
 fn tells_handed(event: &Event, peer: Peer) -> bool
@@ -88,7 +89,7 @@ fn said(me: NodeId, peer: Peer, reply: &Option<ControlHeader>, facts: &[Fact]) -
 
 // How many of the facts are those of a row of a control packet, with its answer.
 fn answered_as(
-    alloc: Global,
+    memory: &mut Memory,
     lists: &Lists,
     peer: Peer,
     head: &ControlHeader,
@@ -99,8 +100,9 @@ fn answered_as(
         RowAnswer lists.now peer head.now row.now (take n facts.now))) }
     ensures only { IfOk result (λ o. IsNone o
         → RowAnswerNone lists.now peer head.now row.now facts.now) }
+    ensures cause { HasCause memory.old memory.new result }
 {
-    let Some(count) = control_noted(alloc, lists, peer, head, *row, facts)? else {
+    let Some(count) = control_noted(memory, lists, peer, head, *row, facts)? else {
         return Ok(None);
     };
     let reply = control_reply(lists.life, head, *row);
@@ -112,10 +114,9 @@ fn answered_as(
 
 /// How many of the facts answer a control packet of this peer, once no session is outdated by it:
 /// those of its row, and what is handed to the link. Whether memory for a session was wanting is
-/// told by the facts. `None` comes exactly where no front of them does so; `NoMemory` also where 64
-/// bits can't hold the credits of the node's sessions.
+/// told by the facts. `None` comes exactly where no front of them does so.
 pub fn answered(
-    alloc: Global,
+    memory: &mut Memory,
     lists: &Lists,
     peer: Peer,
     head: &ControlHeader,
@@ -124,12 +125,13 @@ pub fn answered(
     ensures some { IfOk result (λ o. IfSome o (λ n.
         Answer lists.now peer head.now (take n facts.now))) }
     ensures only { IfOk result (λ o. IsNone o → AnswerNone lists.now peer head.now facts.now) }
+    ensures cause { HasCause memory.old memory.new result }
 {
-    let row = control_row(lists, false, peer, head)?;
-    if let Some(count) = answered_as(alloc, lists, peer, head, &row, facts)? {
+    let row = control_row(lists, false, peer, head);
+    if let Some(count) = answered_as(memory, lists, peer, head, &row, facts)? {
         return Ok(Some(count));
     }
-    let starved = control_row(lists, true, peer, head)?;
-    let count = answered_as(alloc, lists, peer, head, &starved, facts)?;
+    let starved = control_row(lists, true, peer, head);
+    let count = answered_as(memory, lists, peer, head, &starved, facts)?;
     Ok(count)
 }

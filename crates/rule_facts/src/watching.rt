@@ -1,9 +1,9 @@
 //! What becomes of a call by the timer rule, and which facts tell it.
 ghost use Rattle.std.specs.Prelude.{◌≡◌, ◌∷◌, [], ◌≤◌, ◌↔◌, IfOk, IfSome, IsTrue, Some, flat_map};
+ghost use Rattle.memory_count.specs.Faults.{HasCause};
 ghost use Rattle.std.specs.Prelude.{length, map, slice_get};
-ghost use Rattle.std.specs.List.{list_all, position};
+ghost use Rattle.std.specs.List.{list_all};
 ghost use Rattle.rpc_base.specs.declared.event.Event.TheVariants.{Broken, DonePeerLost, Rolled};
-ghost use Rattle.rpc_laws.specs.Calls.{is_call};
 ghost use Rattle.rpc_laws.specs.Facts.{plain};
 ghost use Rattle.rpc_laws.specs.GoBackN.{break_facts, call_facts, client_facts, flushes_of};
 ghost use Rattle.rpc_laws.specs.GoBackN.{roll_facts, row_facts};
@@ -13,10 +13,10 @@ ghost use Rattle.rule_facts.specs.Watching.{call_waits, client_waits, is_waits};
 use crate::control_facts::none;
 use crate::flushing::flushed;
 use crate::says::{says_broken, says_done_peer_lost, says_rolled};
+use memory_count::{Memory, NoMemory};
 use node_rules::row_of;
-use rpc_base::{CallNo, Fact, Listed, NoMemory, NodeId, Owner, SessionNo};
-use rpc_laws::{Call, Client, Lists, Progress, Queued, TimerRow};
-use std::alloc::Global;
+use rpc_base::{CallNo, Fact, Listed, NodeId, Owner, SessionNo};
+use rpc_laws::{Call, Calls, Client, Lists, Progress, Queued, TimerRow};
 
 // Whether the first of the facts says that a call was rolled back.
 fn rolled(me: NodeId, number: CallNo, progress: &Progress, facts: &[Fact]) -> Option<usize>
@@ -31,21 +31,22 @@ fn rolled(me: NodeId, number: CallNo, progress: &Progress, facts: &[Fact]) -> Op
 
 // How many of the facts roll a call back: its queued packets are taken out before.
 fn rolls(
-    alloc: Global,
+    memory: &mut Memory,
     lists: &Lists,
     session: SessionNo,
     number: CallNo,
     progress: &Progress,
     facts: &[Fact],
 ) -> Result<Option<usize>, NoMemory>
-    ensures { IfOk result (Fronts (roll_facts lists.now.me session lists.now.queued number
+    ensures fronts { IfOk result (Fronts (roll_facts lists.now.me session lists.now.queued number
         progress.now) facts.now) }
+    ensures cause { HasCause memory.old memory.new result }
 {
     let owner = Owner::Ask {
         session,
         request: progress.request,
     };
-    let Some(count) = flushed(alloc, lists.me, &lists.queued, &owner, facts)? else {
+    let Some(count) = flushed(memory, lists.me, &lists.queued, &owner, facts)? else {
         return Ok(None);
     };
     let Some(last) = rolled(lists.me, number, progress, &facts[count..]) else {
@@ -56,21 +57,23 @@ fn rolls(
 
 // How many of the facts take out the queued packets of a call, if it is active.
 fn call_flushed(
-    alloc: Global,
+    memory: &mut Memory,
     me: NodeId,
     session: SessionNo,
     queued: &Listed<Queued>,
     call: &Call,
     facts: &[Fact],
 ) -> Result<Option<usize>, NoMemory>
-    ensures { IfOk result (Fronts (flushes_of me session queued.now call.now.progress) facts.now) }
+    ensures fronts { IfOk result (Fronts (flushes_of me session queued.now call.now.progress)
+        facts.now) }
+    ensures cause { HasCause memory.old memory.new result }
 {
     match &call.progress {
         None => Ok(none(facts)),
         Some(progress) => {
             let request = progress.request;
             let owner = Owner::Ask { session, request };
-            let count = flushed(alloc, me, queued, &owner, facts)?;
+            let count = flushed(memory, me, queued, &owner, facts)?;
             Ok(count)
         }
     }
@@ -78,23 +81,24 @@ fn call_flushed(
 
 // How many of the facts take out those of all calls of a session, one call after another.
 fn calls_flushed(
-    alloc: Global,
+    memory: &mut Memory,
     me: NodeId,
     session: SessionNo,
     queued: &Listed<Queued>,
-    calls: &Listed<Call>,
+    calls: &Calls,
     facts: &[Fact],
 ) -> Result<Option<usize>, NoMemory>
-    ensures fronts { IfOk result (Fronts (flat_map (λ c. flushes_of me session queued.now c.progress)
-        calls.now) facts.now) }
+    ensures fronts { IfOk result (Fronts (flat_map (λ c. flushes_of me session queued.now
+        c.progress) calls.now) facts.now) }
     ensures within { IfOk result (λ o. IfSome o (λ n. n ≤ length facts.now)) }
+    ensures cause { HasCause memory.old memory.new result }
 {
     let end = calls.len();
     let mut count = 0;
     for place in 0..end {
         let call = calls.at(place);
         let rest = &facts[count..];
-        let Some(more) = call_flushed(alloc, me, session, queued, call, rest)? else {
+        let Some(more) = call_flushed(memory, me, session, queued, call, rest)? else {
             return Ok(None);
         };
         count += more;
@@ -110,7 +114,7 @@ fn says_lost(fact: &Fact, me: NodeId, call: &Call) -> bool
 }
 
 // How many of the facts end the calls of a session, in their order.
-fn calls_lost(me: NodeId, calls: &Listed<Call>, facts: &[Fact]) -> Option<usize>
+fn calls_lost(me: NodeId, calls: &Calls, facts: &[Fact]) -> Option<usize>
     ensures { Fronts (map (λ c. plain me (DonePeerLost c.what.number)) calls.now) facts.now result }
 {
     let end = calls.len();
@@ -142,17 +146,18 @@ fn lost(me: NodeId, client: &Client, facts: &[Fact]) -> Option<usize>
 
 // How many of the facts break a session: the queued packets of its calls are taken out before.
 fn breaks(
-    alloc: Global,
+    memory: &mut Memory,
     lists: &Lists,
     client: &Client,
     facts: &[Fact],
 ) -> Result<Option<usize>, NoMemory>
-    ensures { IfOk result (Fronts (break_facts lists.now.me lists.now.queued client.now)
+    ensures fronts { IfOk result (Fronts (break_facts lists.now.me lists.now.queued client.now)
         facts.now) }
+    ensures cause { HasCause memory.old memory.new result }
 {
     let session = client.way.number;
     let calls = &client.calls;
-    let Some(count) = calls_flushed(alloc, lists.me, session, &lists.queued, calls, facts)? else {
+    let Some(count) = calls_flushed(memory, lists.me, session, &lists.queued, calls, facts)? else {
         return Ok(None);
     };
     let Some(more) = lost(lists.me, client, &facts[count..]) else {
@@ -163,7 +168,7 @@ fn breaks(
 
 // How many of the facts are those of a row.
 fn row_noted(
-    alloc: Global,
+    memory: &mut Memory,
     lists: &Lists,
     client: &Client,
     number: CallNo,
@@ -171,19 +176,20 @@ fn row_noted(
     row: TimerRow,
     facts: &[Fact],
 ) -> Result<Option<usize>, NoMemory>
-    ensures { IfOk result (Fronts (row_facts lists.now.me lists.now.queued client.now number
+    ensures fronts { IfOk result (Fronts (row_facts lists.now.me lists.now.queued client.now number
         progress.now row) facts.now) }
+    ensures cause { HasCause memory.old memory.new result }
 {
     match row {
         TimerRow::Waits => Ok(none(facts)),
-        TimerRow::RollsBack => rolls(alloc, lists, client.way.number, number, progress, facts),
-        TimerRow::Breaks => breaks(alloc, lists, client, facts),
+        TimerRow::RollsBack => rolls(memory, lists, client.way.number, number, progress, facts),
+        TimerRow::Breaks => breaks(memory, lists, client, facts),
     }
 }
 
 // How many of the facts a call gives, if it is active.
 fn call_watched(
-    alloc: Global,
+    memory: &mut Memory,
     lists: &Lists,
     clock: u64,
     timeout: u64,
@@ -191,32 +197,31 @@ fn call_watched(
     call: &Call,
     facts: &[Fact],
 ) -> Result<Option<usize>, NoMemory>
-    ensures { IfOk result (Fronts (call_facts clock timeout lists.now.me lists.now.queued client.now
-        (Some call.now)) facts.now) }
+    ensures fronts { IfOk result (Fronts (call_facts clock timeout lists.now.me lists.now.queued
+        client.now (Some call.now)) facts.now) }
+    ensures cause { HasCause memory.old memory.new result }
 {
     match &call.progress {
         None => Ok(none(facts)),
         Some(progress) => {
             let row = row_of(clock, timeout, client.way.number, &lists.queued, progress);
-            let count = row_noted(alloc, lists, client, call.what.number, progress, row, facts)?;
+            let count = row_noted(
+                memory,
+                lists,
+                client,
+                call.what.number,
+                progress,
+                row,
+                facts,
+            )?;
             Ok(count)
         }
     }
 }
 
-// Where a call stands.
-fn place_of_call(calls: &Listed<Call>, number: CallNo) -> Option<usize>
-    ensures { result ≡ position (is_call number) calls.now }
-{
-    calls
-        .as_slice()
-        .iter()
-        .position(|call| call.what.number.0 == number.0)
-}
-
 // So many it gives by its number, if it isn't over.
 fn client_watched(
-    alloc: Global,
+    memory: &mut Memory,
     lists: &Lists,
     clock: u64,
     timeout: u64,
@@ -224,14 +229,15 @@ fn client_watched(
     number: CallNo,
     facts: &[Fact],
 ) -> Result<Option<usize>, NoMemory>
-    ensures { IfOk result (Fronts (client_facts clock timeout lists.now.me lists.now.queued number
-        (Some client.now)) facts.now) }
+    ensures fronts { IfOk result (Fronts (client_facts clock timeout lists.now.me lists.now.queued
+        number (Some client.now)) facts.now) }
+    ensures cause { HasCause memory.old memory.new result }
 {
-    let Some(place) = place_of_call(&client.calls, number) else {
+    let Some(place) = client.calls.place_of(number) else {
         return Ok(Some(0));
     };
     let call = client.calls.at(place);
-    let count = call_watched(alloc, lists, clock, timeout, client, call, facts)?;
+    let count = call_watched(memory, lists, clock, timeout, client, call, facts)?;
     Ok(count)
 }
 
@@ -239,7 +245,7 @@ fn client_watched(
 /// `i`; the clock and the timeout are in microseconds. `None` comes exactly where the facts don't
 /// begin with these.
 pub fn watched(
-    alloc: Global,
+    memory: &mut Memory,
     lists: &Lists,
     clock: u64,
     timeout: u64,
@@ -247,15 +253,16 @@ pub fn watched(
     number: CallNo,
     facts: &[Fact],
 ) -> Result<Option<usize>, NoMemory>
-    ensures { IfOk result (Fronts (client_facts clock timeout lists.now.me lists.now.queued number
-        (slice_get lists.now.clients i)) facts.now) }
+    ensures fronts { IfOk result (Fronts (client_facts clock timeout lists.now.me lists.now.queued
+        number (slice_get lists.now.clients i)) facts.now) }
+    ensures cause { HasCause memory.old memory.new result }
 {
     let sessions = lists.clients.len();
     if sessions <= i {
         return Ok(Some(0));
     }
     let client = lists.clients.at(i);
-    let count = client_watched(alloc, lists, clock, timeout, client, number, facts)?;
+    let count = client_watched(memory, lists, clock, timeout, client, number, facts)?;
     Ok(count)
 }
 
@@ -281,20 +288,32 @@ fn call_waits(
     }
 }
 
-// Whether no call of a session gives anything.
+// Whether none of these calls of a session gives anything.
+fn all_wait(
+    clock: u64,
+    timeout: u64,
+    session: SessionNo,
+    queued: &Listed<Queued>,
+    calls: &[Call],
+) -> bool
+    ensures { result ≡ list_all (call_waits clock timeout session queued.now) calls.now }
+{
+    calls
+        .iter()
+        .all(|call| call_waits(clock, timeout, session, queued, call))
+}
+
+// Whether no call of a session gives anything. Those that wait, which may be many, give nothing.
 fn calls_wait(
     clock: u64,
     timeout: u64,
     session: SessionNo,
     queued: &Listed<Queued>,
-    calls: &Listed<Call>,
+    calls: &Calls,
 ) -> bool
     ensures { result ≡ list_all (call_waits clock timeout session queued.now) calls.now }
 {
-    calls
-        .as_slice()
-        .iter()
-        .all(|call| call_waits(clock, timeout, session, queued, call))
+    all_wait(clock, timeout, session, queued, calls.begun())
 }
 
 /// Whether no call of client session `i` gives anything at `clock`, be it active or waiting; the

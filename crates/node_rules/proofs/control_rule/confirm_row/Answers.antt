@@ -7,7 +7,7 @@ pub returns-in_default : goal.returns-in_default
 returns-in_default c =
     rw (find-missing (is_end_of c.args.peer c.args.head.now.client c.args.head.now.from_life)
     c.args.lists.now.servers (sym c.in_default.ensures))
-    c.in_ok-row.ensures
+    c.new_session_row.ensures
 
 pub returns : goal.returns
 returns c =

@@ -9,16 +9,16 @@ use Rattle.rule_facts.specs.Handling.{row_facts, SomeFronts}
 use Rattle.rule_facts.proofs.HandlingLemmas.{some-fixed}
 use Rattle.rule_facts.proofs.server_facts.row_noted.Goals as goal
 
-pub returns-in-Drops : goal.returns-in-Drops
-returns-in-Drops c =
+pub returns-in-Drops-clause-fronts : goal.returns-in-Drops-clause-fronts
+returns-in-Drops-clause-fronts c =
     let h : MessageHeader = c.args.head.now in
     let s : Lists = c.args.lists.now in
     subst (λ (row : ServerRow). SomeFronts (row_facts c.args.mode s h c.args.body.now row) c.args.facts.now
     c.dropped.result) (sym c.in-Drops.is)
     (some-fixed (plain s.me (Dropped c.in-Drops.reason) ∷ []) c.args.facts.now c.dropped.result c.dropped.ensures)
 
-pub returns-in-Repeats : goal.returns-in-Repeats
-returns-in-Repeats c =
+pub returns-in-Repeats-clause-fronts : goal.returns-in-Repeats-clause-fronts
+returns-in-Repeats-clause-fronts c =
     let h : MessageHeader = c.args.head.now in
     let s : Lists = c.args.lists.now in
     subst (λ (row : ServerRow). SomeFronts (row_facts c.args.mode s h c.args.body.now row) c.args.facts.now

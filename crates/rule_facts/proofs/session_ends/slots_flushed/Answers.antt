@@ -20,7 +20,7 @@ returns-in_default-clause-fronts c =
     let at : k ≡ i = c.of-first.ensures ∙ omega arith in
     let none : Fronts (of k) (take (length facts - count) (drop count facts)) None =
     subst (λ (o : Option ℕ). Fronts (of k) (take (length facts - count) (drop count facts)) o) c.in_default.is
-    c.in_ok-more.ensures in
+    c.in_ok-more.ensures.fronts in
     flats-stop of slots i k facts count c.loop-slot-test.true (at ∙ slot-at i c.loop-slot-test.true)
     c.loop-slot.invariant.0 (subst (λ (z : List Fact). Fronts (of k) z None) whole none)
 
@@ -38,8 +38,8 @@ loop-slot-preserved c =
     let at : k ≡ i = c.of-first.ensures ∙ omega arith in
     let some : Fronts (of k) (take (length facts - count) (drop count facts)) (Some more) =
     subst (λ (o : Option ℕ). Fronts (of k) (take (length facts - count) (drop count facts)) o) c.in-Some.is
-    c.in_ok-more.ensures in
+    c.in_ok-more.ensures.fronts in
     let next =
     flats-next of slots i k facts count more c.loop-slot-test.true (at ∙ slot-at i c.loop-slot-test.true)
     c.loop-slot.invariant.0 (subst (λ (z : List Fact). Fronts (of k) z (Some more)) whole some) in
-    (next, fronts-within _ facts (count + more) next)
+    (next, fronts-within _ facts (count + more) next, c.in_ok-more.ensures.cause ∙ c.loop-slot.invariant.2)

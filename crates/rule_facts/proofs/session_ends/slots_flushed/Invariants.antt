@@ -1,4 +1,4 @@
-use Rattle.std.proofs.Common.{◌≤◌, Some, length, take}
+use Rattle.std.proofs.Common.{◌≡◌, ◌≤◌, Some, length, take}
 use Rattle.std.specs.Prelude.{flat_map}
 use Rattle.std.specs.List.{find}
 use Rattle.rpc_laws.specs.Requests.{in_slot_of}
@@ -12,3 +12,4 @@ invariant-loop-slot l =
     Fronts (flat_map (λ slot. flushes l.me l.queued l.server.way.number (find (in_slot_of slot) l.server.slots))
     (take l.slot slots)) l.facts (Some l.count)
     × (l.count ≤ length l.facts)
+    × (l.memory ≡ l.initial.memory)

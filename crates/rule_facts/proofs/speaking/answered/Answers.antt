@@ -5,6 +5,6 @@ use Rattle.rule_facts.proofs.speaking.answered.Goals as goal
 
 pub returns-clause-only : goal.returns-clause-only
 returns-clause-only c = λ none.
-    neither-row c.args.lists.now c.args.peer c.args.head.now c.in_ok-row.row c.in_ok-starved.starved
-    c.args.facts.now c.in_ok-row.ensures c.in_ok-starved.ensures
+    neither-row c.args.lists.now c.args.peer c.args.head.now c.control_row-row.result c.control_row-starved.result
+    c.args.facts.now c.control_row-row.ensures c.control_row-starved.ensures
     (c.in_ok-count.ensures.only (ap is_some c.in_default.is)) (c.in_ok-count-2.ensures.only none)

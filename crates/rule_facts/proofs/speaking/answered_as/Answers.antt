@@ -17,7 +17,7 @@ returns-clause-some c =
     let facts = c.args.facts.now in
     let n = c.in-Some.count in
     let front : Fronts (control_facts s peer h row) facts (Some n) =
-    subst (λ (o : Option ℕ). Fronts (control_facts s peer h row) facts o) c.in-Some.is c.in_ok-count.ensures in
+    subst (λ (o : Option ℕ). Fronts (control_facts s peer h row) facts o) c.in-Some.is c.in_ok-count.ensures.fronts in
     let whole = rest-is facts n (fronts-within (control_facts s peer h row) facts n front) in
     let speaks =
     subst (λ (z : List Fact). SpeaksIf s.me peer c.control_reply-reply.result (take c.in-Some-said.more z)) whole

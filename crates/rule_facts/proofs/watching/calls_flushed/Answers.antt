@@ -1,4 +1,4 @@
-use Rattle.std.proofs.Common.{◌+◌, ◌-◌, ℕ, List, Option, Some, None, arith, drop, length, subst}
+use Rattle.std.proofs.Common.{◌∙◌, ◌+◌, ◌-◌, ℕ, List, Option, Some, None, arith, drop, length, subst}
 use Rattle.std.proofs.Common.{take}
 use Rattle.std.specs.Prelude.{flat_map}
 use Rattle.rpc_base.specs.declared.fact.Fact.{Fact}
@@ -20,7 +20,7 @@ returns-in_default-clause-fronts c =
     let none : Fronts (of call) (take (length facts - count) (drop count facts)) None =
     subst (λ (o : Option ℕ). Fronts (of call) (take (length facts - count) (drop count facts)) o)
     c.in_default.is
-    c.in_ok-more.ensures in
+    c.in_ok-more.ensures.fronts in
     calls-stop of c.args.calls.now c.loop-place.place call facts count c.at-call.ensures
     c.loop-place.invariant.0
     (subst (λ (z : List Fact). Fronts (of call) z None) whole none)
@@ -37,12 +37,12 @@ loop-place-preserved c =
     let some : Fronts (of call) (take (length facts - count) (drop count facts)) (Some more) =
     subst (λ (o : Option ℕ). Fronts (of call) (take (length facts - count) (drop count facts)) o)
     c.in-Some.is
-    c.in_ok-more.ensures in
+    c.in_ok-more.ensures.fronts in
     let next =
     calls-next of c.args.calls.now c.loop-place.place call facts count more c.at-call.ensures
     c.loop-place.invariant.0 (subst (λ (z : List Fact). Fronts (of call) z (Some more)) whole some)
     in
-    (next, fronts-within _ facts (count + more) next)
+    (next, fronts-within _ facts (count + more) next, c.in_ok-more.ensures.cause ∙ c.loop-place.invariant.2)
 
 pub returns-clause-fronts : goal.returns-clause-fronts
 returns-clause-fronts c =

@@ -1,4 +1,4 @@
-use Rattle.std.proofs.Common.{◌≤◌, Some, length, take}
+use Rattle.std.proofs.Common.{◌≡◌, ◌≤◌, Some, length, take}
 use Rattle.std.specs.Prelude.{flat_map}
 use Rattle.rpc_laws.specs.GoBackN.{flushes_of}
 use Rattle.rule_facts.specs.Fronts.{Fronts}
@@ -9,3 +9,4 @@ invariant-loop-place l =
     Fronts (flat_map (λ c. flushes_of l.me l.session l.queued c.progress) (take l.place l.calls))
     l.facts (Some l.count)
     × (l.count ≤ length l.facts)
+    × (l.memory ≡ l.initial.memory)

@@ -7,13 +7,13 @@ use Rattle.rule_facts.specs.Fronts.{Fronts}
 use Rattle.rule_facts.proofs.FrontLemmas.{fronts-nothing}
 use Rattle.rule_facts.proofs.watching.client_watched.Goals as goal
 
-pub returns-in_default : goal.returns-in_default
-returns-in_default c =
+pub returns-in_default-clause-fronts : goal.returns-in_default-clause-fronts
+returns-in_default-clause-fronts c =
     rw (find-missing (is_call c.args.number) c.args.client.now.calls (sym c.in_default.ensures))
     (fronts-nothing c.args.facts.now)
 
-pub returns : goal.returns
-returns c =
+pub returns-clause-fronts : goal.returns-clause-fronts
+returns-clause-fronts c =
     let s = c.args.lists.now in
     let found =
     find-found (is_call c.args.number) c.args.client.now.calls c.in-Some.place
@@ -23,4 +23,4 @@ returns c =
     Fronts (call_facts c.args.clock c.args.timeout s.me s.queued c.args.client.now o)
     c.args.facts.now
     c.in_ok-count.count)
-    (sym found) c.in_ok-count.ensures
+    (sym found) c.in_ok-count.ensures.fronts

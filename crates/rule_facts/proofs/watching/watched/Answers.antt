@@ -6,8 +6,8 @@ use Rattle.rule_facts.specs.Fronts.{Fronts}
 use Rattle.rule_facts.proofs.FrontLemmas.{fronts-nothing}
 use Rattle.rule_facts.proofs.watching.watched.Goals as goal
 
-pub returns-then-sessions-i : goal.returns-then-sessions-i
-returns-then-sessions-i c =
+pub returns-then-sessions-i-clause-fronts : goal.returns-then-sessions-i-clause-fronts
+returns-then-sessions-i-clause-fronts c =
     let s = c.args.lists.now in
     let past =
     slice_get_past s.clients c.args.i
@@ -17,10 +17,10 @@ returns-then-sessions-i c =
     (Some 0))
     (sym past) (fronts-nothing c.args.facts.now)
 
-pub returns : goal.returns
-returns c =
+pub returns-clause-fronts : goal.returns-clause-fronts
+returns-clause-fronts c =
     let s = c.args.lists.now in
     subst (λ (x : Option Client).
     Fronts (client_facts c.args.clock c.args.timeout s.me s.queued c.args.number x) c.args.facts.now
     c.in_ok-count.count)
-    (sym c.at-client.ensures) c.in_ok-count.ensures
+    (sym c.at-client.ensures) c.in_ok-count.ensures.fronts
