@@ -1,6 +1,6 @@
 -- The fact that a packet is sent.
-use Rattle.std.specs.Prelude.{ℕ, ◌≡◌, ◌+◌, ◌-◌, ◌==◌, ◌&&◌, Bool, false, Option, Some, None, List, []}
-use Rattle.std.specs.Prelude.{length}
+use Rattle.std.specs.Prelude.{ℕ, ◌≡◌, ◌+◌, ◌-◌, ◌==◌, ◌&&◌, Bool, false, Option, Some, None, List}
+use Rattle.std.specs.Prelude.{[], length}
 use Rattle.std.specs.Str.{bytes_eq}
 use Rattle.packet_header.specs.Parts.{packet_count, part}
 use Rattle.packet_header.specs.declared.packet.Kind.TheVariants.{Request, Rfr, Cr, Response}

@@ -1,5 +1,6 @@
 //! The second step of a poll: the packets of the inbox, one after another.
 ghost use Rattle.std.specs.Prelude.{◌≡◌, IfOk, OnOk, is_some, length, min, take};
+ghost use Rattle.memory_count.specs.Faults.{HasCause};
 ghost use Rattle.rpc_laws.specs.ControlSteps.{AnswersControl, EndsAllOutdated, EndsOutdated};
 ghost use Rattle.rpc_laws.specs.ControlSteps.{Hears, HearsAll, TakesControl};
 ghost use Rattle.rpc_laws.specs.ControlTable.{outdated};
@@ -10,18 +11,18 @@ ghost use Rattle.poll_steps.specs.Steps.{IsStep};
 
 use crate::facts::fact_at;
 use crate::finishing::apply_all;
+use memory_count::{Memory, NoMemory};
 use node_rules::outdated;
 use node_tables::{apply, read_control};
 use packet_header::ControlHeader;
-use rpc_base::{Fact, NoMemory, Peer};
+use rpc_base::{Fact, Peer};
 use rpc_laws::Lists;
 use rule_facts::{answered, is_heard, session_ended};
-use std::alloc::Global;
 
 // Changes the lists as the first facts do, of which a rule told how many there are, and answers
 // that number.
 fn apply_told(
-    alloc: Global,
+    memory: &mut Memory,
     lists: &mut Lists,
     clock: u64,
     facts: &[Fact],
@@ -29,21 +30,23 @@ fn apply_told(
 ) -> Result<usize, NoMemory>
     ensures count { IfOk result (λ n. n ≡ min told (length facts.now)) }
     ensures applied { OnOk result (lists.new ≡ after_all clock lists.old (take told facts.now)) }
+    ensures cause { HasCause memory.old memory.new result }
 {
     let count = told.min(facts.len());
-    apply_all(alloc, lists, clock, &facts[..count])?;
+    apply_all(memory, lists, clock, &facts[..count])?;
     Ok(count)
 }
 
 // A packet is taken out of the inbox.
 fn take_control(
-    alloc: Global,
+    memory: &mut Memory,
     lists: &mut Lists,
     clock: u64,
     facts: &[Fact],
 ) -> Result<Option<usize>, NoMemory>
-    ensures { IfOk result (IsStep TakesControl (at_clock clock lists.old) facts.now
+    ensures step { IfOk result (IsStep TakesControl (at_clock clock lists.old) facts.now
         (at_clock clock lists.new)) }
+    ensures cause { HasCause memory.old memory.new result }
 {
     if facts.is_empty() {
         return Ok(None);
@@ -52,29 +55,30 @@ fn take_control(
     if !is_heard(lists, fact) {
         return Ok(None);
     }
-    apply(alloc, lists, clock, fact)?;
+    apply(memory, lists, clock, fact)?;
     Ok(Some(1))
 }
 
 // How many of the facts end the first server session that a control packet of this peer outdates.
 fn end_one(
-    alloc: Global,
+    memory: &mut Memory,
     lists: &mut Lists,
     clock: u64,
     peer: Peer,
     head: &ControlHeader,
     facts: &[Fact],
 ) -> Result<Option<usize>, NoMemory>
-    ensures { IfOk result (IsStep (EndsOutdated peer head.now) (at_clock clock lists.old) facts.now
-        (at_clock clock lists.new)) }
+    ensures step { IfOk result (IsStep (EndsOutdated peer head.now) (at_clock clock lists.old)
+        facts.now (at_clock clock lists.new)) }
+    ensures cause { HasCause memory.old memory.new result }
 {
     let Some(server) = outdated(lists, peer, head) else {
         return Ok(None);
     };
-    let Some(told) = session_ended(alloc, lists.me, &lists.queued, server, facts)? else {
+    let Some(told) = session_ended(memory, lists.me, &lists.queued, server, facts)? else {
         return Ok(None);
     };
-    let count = apply_told(alloc, lists, clock, facts, told)?;
+    let count = apply_told(memory, lists, clock, facts, told)?;
     Ok(Some(count))
 }
 
@@ -87,19 +91,20 @@ fn outdates(lists: &Lists, peer: Peer, head: &ControlHeader) -> bool
 
 // The sessions that it outdates end, until none is left.
 fn end_outdated(
-    alloc: Global,
+    memory: &mut Memory,
     lists: &mut Lists,
     clock: u64,
     peer: Peer,
     head: &ControlHeader,
     facts: &[Fact],
 ) -> Result<Option<usize>, NoMemory>
-    ensures { IfOk result (IsStep (EndsAllOutdated peer head.now) (at_clock clock lists.old)
+    ensures step { IfOk result (IsStep (EndsAllOutdated peer head.now) (at_clock clock lists.old)
         facts.now (at_clock clock lists.new)) }
+    ensures cause { HasCause memory.old memory.new result }
 {
     let mut count = 0;
     'sessions: while outdates(lists, peer, head) {
-        let Some(more) = end_one(alloc, lists, clock, peer, head, &facts[count..])? else {
+        let Some(more) = end_one(memory, lists, clock, peer, head, &facts[count..])? else {
             return Ok(None);
         };
         count += more;
@@ -109,40 +114,42 @@ fn end_outdated(
 
 // Its row is applied, and its answer is sent.
 fn answer_one(
-    alloc: Global,
+    memory: &mut Memory,
     lists: &mut Lists,
     clock: u64,
     peer: Peer,
     head: &ControlHeader,
     facts: &[Fact],
 ) -> Result<Option<usize>, NoMemory>
-    ensures { IfOk result (IsStep (AnswersControl peer head.now) (at_clock clock lists.old)
+    ensures step { IfOk result (IsStep (AnswersControl peer head.now) (at_clock clock lists.old)
         facts.now (at_clock clock lists.new)) }
+    ensures cause { HasCause memory.old memory.new result }
 {
-    let Some(told) = answered(alloc, lists, peer, head, facts)? else {
+    let Some(told) = answered(memory, lists, peer, head, facts)? else {
         return Ok(None);
     };
-    let count = apply_told(alloc, lists, clock, facts, told)?;
+    let count = apply_told(memory, lists, clock, facts, told)?;
     Ok(Some(count))
 }
 
 // What it outdates ends, and then it is answered.
 fn end_and_answer(
-    alloc: Global,
+    memory: &mut Memory,
     lists: &mut Lists,
     clock: u64,
     peer: Peer,
     head: &ControlHeader,
     facts: &[Fact],
 ) -> Result<Option<usize>, NoMemory>
-    ensures { IfOk result (IsStep (Then (EndsAllOutdated peer head.now)
+    ensures step { IfOk result (IsStep (Then (EndsAllOutdated peer head.now)
         (AnswersControl peer head.now)) (at_clock clock lists.old) facts.now
         (at_clock clock lists.new)) }
+    ensures cause { HasCause memory.old memory.new result }
 {
-    let Some(ended) = end_outdated(alloc, lists, clock, peer, head, facts)? else {
+    let Some(ended) = end_outdated(memory, lists, clock, peer, head, facts)? else {
         return Ok(None);
     };
-    let Some(said) = answer_one(alloc, lists, clock, peer, head, &facts[ended..])? else {
+    let Some(said) = answer_one(memory, lists, clock, peer, head, &facts[ended..])? else {
         return Ok(None);
     };
     Ok(Some(ended + said))
@@ -150,21 +157,22 @@ fn end_and_answer(
 
 // A control packet of this peer is taken out and handled.
 fn hear_as(
-    alloc: Global,
+    memory: &mut Memory,
     lists: &mut Lists,
     clock: u64,
     peer: Peer,
     head: &ControlHeader,
     facts: &[Fact],
 ) -> Result<Option<usize>, NoMemory>
-    ensures { IfOk result (IsStep (Then TakesControl (Then (EndsAllOutdated peer head.now)
+    ensures step { IfOk result (IsStep (Then TakesControl (Then (EndsAllOutdated peer head.now)
         (AnswersControl peer head.now))) (at_clock clock lists.old) facts.now
         (at_clock clock lists.new)) }
+    ensures cause { HasCause memory.old memory.new result }
 {
-    let Some(taken) = take_control(alloc, lists, clock, facts)? else {
+    let Some(taken) = take_control(memory, lists, clock, facts)? else {
         return Ok(None);
     };
-    let Some(more) = end_and_answer(alloc, lists, clock, peer, head, &facts[taken..])? else {
+    let Some(more) = end_and_answer(memory, lists, clock, peer, head, &facts[taken..])? else {
         return Ok(None);
     };
     Ok(Some(taken + more))
@@ -172,13 +180,14 @@ fn hear_as(
 
 // The front packet of the inbox is handled.
 fn hear_one(
-    alloc: Global,
+    memory: &mut Memory,
     lists: &mut Lists,
     clock: u64,
     facts: &[Fact],
 ) -> Result<Option<usize>, NoMemory>
-    ensures { IfOk result (IsStep Hears (at_clock clock lists.old) facts.now
+    ensures step { IfOk result (IsStep Hears (at_clock clock lists.old) facts.now
         (at_clock clock lists.new)) }
+    ensures cause { HasCause memory.old memory.new result }
 {
     if lists.inbox.is_empty() {
         return Ok(None);
@@ -188,7 +197,7 @@ fn hear_one(
     let Some(head) = read_control(front.bytes.bytes()) else {
         return Ok(None);
     };
-    let count = hear_as(alloc, lists, clock, peer, &head, facts)?;
+    let count = hear_as(memory, lists, clock, peer, &head, facts)?;
     Ok(count)
 }
 
@@ -197,20 +206,20 @@ fn hear_one(
 /// row of the control rule is applied, and its answer is handed to the link. Whether memory for a
 /// server session was wanting, and whether the link took an answer, is told by the facts. `None`
 /// comes exactly where no front of the facts is that. Changes the lists as these facts do; where
-/// the answer is `None`, or memory is wanting, what they hold isn't told; `NoMemory` comes also
-/// where 64 bits can't hold the credits of the node's sessions.
+/// the answer is `None`, or memory is wanting, what they hold isn't told.
 pub fn hear_all(
-    alloc: Global,
+    memory: &mut Memory,
     lists: &mut Lists,
     clock: u64,
     facts: &[Fact],
 ) -> Result<Option<usize>, NoMemory>
-    ensures { IfOk result (IsStep HearsAll (at_clock clock lists.old) facts.now
+    ensures step { IfOk result (IsStep HearsAll (at_clock clock lists.old) facts.now
         (at_clock clock lists.new)) }
+    ensures cause { HasCause memory.old memory.new result }
 {
     let mut count = 0;
     'packets: while !lists.inbox.is_empty() {
-        let Some(more) = hear_one(alloc, lists, clock, &facts[count..])? else {
+        let Some(more) = hear_one(memory, lists, clock, &facts[count..])? else {
             return Ok(None);
         };
         count += more;

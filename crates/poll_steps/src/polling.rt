@@ -1,5 +1,6 @@
 //! A poll as one: its seven steps in their order, and the clock that its end tells.
 ghost use Rattle.std.specs.Prelude.{◌≡◌, IfOk};
+ghost use Rattle.memory_count.specs.Faults.{HasCause};
 ghost use Rattle.node_rules.specs.SingleFacts.{at_clock};
 ghost use Rattle.poll_steps.specs.Polling.{FromInbox, FromJobs, FromPosting, FromRing, FromSending};
 ghost use Rattle.poll_steps.specs.Polling.{FromTimers, IsPoll, end_clock, last_clock};
@@ -13,24 +14,25 @@ use crate::hearing::hear_all;
 use crate::posting::post_all;
 use crate::sending::send_packets;
 use crate::timing::time_all;
-use rpc_base::{Event, Fact, NoMemory};
+use memory_count::{Memory, NoMemory};
+use rpc_base::{Event, Fact};
 use rpc_laws::Lists;
-use std::alloc::Global;
 
 // The packets of the queue are sent, and the poll ends.
 fn from_sending(
-    alloc: Global,
+    memory: &mut Memory,
     lists: &mut Lists,
     clock: u64,
     facts: &[Fact],
 ) -> Result<Option<usize>, NoMemory>
-    ensures { IfOk result (IsStep FromSending (at_clock clock lists.old) facts.now
+    ensures step { IfOk result (IsStep FromSending (at_clock clock lists.old) facts.now
         (at_clock clock lists.new)) }
+    ensures cause { HasCause memory.old memory.new result }
 {
-    let Some(sent) = send_packets(alloc, lists, clock, facts)? else {
+    let Some(sent) = send_packets(memory, lists, clock, facts)? else {
         return Ok(None);
     };
-    let Some(more) = end_poll(alloc, lists, clock, &facts[sent..])? else {
+    let Some(more) = end_poll(memory, lists, clock, &facts[sent..])? else {
         return Ok(None);
     };
     Ok(Some(sent + more))
@@ -38,18 +40,19 @@ fn from_sending(
 
 // Packets are posted, and what comes then.
 fn from_posting(
-    alloc: Global,
+    memory: &mut Memory,
     lists: &mut Lists,
     clock: u64,
     facts: &[Fact],
 ) -> Result<Option<usize>, NoMemory>
-    ensures { IfOk result (IsStep FromPosting (at_clock clock lists.old) facts.now
+    ensures step { IfOk result (IsStep FromPosting (at_clock clock lists.old) facts.now
         (at_clock clock lists.new)) }
+    ensures cause { HasCause memory.old memory.new result }
 {
-    let Some(posted) = post_all(alloc, lists, clock, facts)? else {
+    let Some(posted) = post_all(memory, lists, clock, facts)? else {
         return Ok(None);
     };
-    let Some(more) = from_sending(alloc, lists, clock, &facts[posted..])? else {
+    let Some(more) = from_sending(memory, lists, clock, &facts[posted..])? else {
         return Ok(None);
     };
     Ok(Some(posted + more))
@@ -57,18 +60,19 @@ fn from_posting(
 
 // The timers, and what comes then.
 fn from_timers(
-    alloc: Global,
+    memory: &mut Memory,
     lists: &mut Lists,
     clock: u64,
     facts: &[Fact],
 ) -> Result<Option<usize>, NoMemory>
-    ensures { IfOk result (IsStep FromTimers (at_clock clock lists.old) facts.now
+    ensures step { IfOk result (IsStep FromTimers (at_clock clock lists.old) facts.now
         (at_clock clock lists.new)) }
+    ensures cause { HasCause memory.old memory.new result }
 {
-    let Some(timed) = time_all(alloc, lists, clock, facts)? else {
+    let Some(timed) = time_all(memory, lists, clock, facts)? else {
         return Ok(None);
     };
-    let Some(more) = from_posting(alloc, lists, clock, &facts[timed..])? else {
+    let Some(more) = from_posting(memory, lists, clock, &facts[timed..])? else {
         return Ok(None);
     };
     Ok(Some(timed + more))
@@ -76,18 +80,19 @@ fn from_timers(
 
 // The packets of the ring are handled, and what comes then.
 fn from_ring(
-    alloc: Global,
+    memory: &mut Memory,
     lists: &mut Lists,
     clock: u64,
     facts: &[Fact],
 ) -> Result<Option<usize>, NoMemory>
-    ensures { IfOk result (IsStep FromRing (at_clock clock lists.old) facts.now
+    ensures step { IfOk result (IsStep FromRing (at_clock clock lists.old) facts.now
         (at_clock clock lists.new)) }
+    ensures cause { HasCause memory.old memory.new result }
 {
-    let Some(handled) = handle_all(alloc, lists, clock, facts)? else {
+    let Some(handled) = handle_all(memory, lists, clock, facts)? else {
         return Ok(None);
     };
-    let Some(more) = from_timers(alloc, lists, clock, &facts[handled..])? else {
+    let Some(more) = from_timers(memory, lists, clock, &facts[handled..])? else {
         return Ok(None);
     };
     Ok(Some(handled + more))
@@ -95,18 +100,19 @@ fn from_ring(
 
 // The packets of the inbox are handled, and what comes then.
 fn from_inbox(
-    alloc: Global,
+    memory: &mut Memory,
     lists: &mut Lists,
     clock: u64,
     facts: &[Fact],
 ) -> Result<Option<usize>, NoMemory>
-    ensures { IfOk result (IsStep FromInbox (at_clock clock lists.old) facts.now
+    ensures step { IfOk result (IsStep FromInbox (at_clock clock lists.old) facts.now
         (at_clock clock lists.new)) }
+    ensures cause { HasCause memory.old memory.new result }
 {
-    let Some(heard) = hear_all(alloc, lists, clock, facts)? else {
+    let Some(heard) = hear_all(memory, lists, clock, facts)? else {
         return Ok(None);
     };
-    let Some(more) = from_ring(alloc, lists, clock, &facts[heard..])? else {
+    let Some(more) = from_ring(memory, lists, clock, &facts[heard..])? else {
         return Ok(None);
     };
     Ok(Some(heard + more))
@@ -114,18 +120,19 @@ fn from_inbox(
 
 // Jobs are finished, and what comes then.
 fn from_jobs(
-    alloc: Global,
+    memory: &mut Memory,
     lists: &mut Lists,
     clock: u64,
     facts: &[Fact],
 ) -> Result<Option<usize>, NoMemory>
-    ensures { IfOk result (IsStep FromJobs (at_clock clock lists.old) facts.now
+    ensures step { IfOk result (IsStep FromJobs (at_clock clock lists.old) facts.now
         (at_clock clock lists.new)) }
+    ensures cause { HasCause memory.old memory.new result }
 {
-    let Some(finished) = finish_jobs(alloc, lists, clock, facts)? else {
+    let Some(finished) = finish_jobs(memory, lists, clock, facts)? else {
         return Ok(None);
     };
-    let Some(more) = from_inbox(alloc, lists, clock, &facts[finished..])? else {
+    let Some(more) = from_inbox(memory, lists, clock, &facts[finished..])? else {
         return Ok(None);
     };
     Ok(Some(finished + more))
@@ -155,12 +162,13 @@ fn last_clock(facts: &[Fact]) -> Option<u64>
 /// are in microseconds. `None` comes exactly where the facts are no poll. Changes the lists as the
 /// facts do; where the answer is `None`, or memory is wanting, what they hold isn't told.
 pub fn poll(
-    alloc: Global,
+    memory: &mut Memory,
     lists: &mut Lists,
     clock: u64,
     facts: &[Fact],
 ) -> Result<Option<u64>, NoMemory>
-    ensures { IfOk result (IsPoll clock lists.old facts.now lists.new) }
+    ensures poll { IfOk result (IsPoll clock lists.old facts.now lists.new) }
+    ensures cause { HasCause memory.old memory.new result }
 {
     let Some(now) = last_clock(facts) else {
         return Ok(None);
@@ -168,7 +176,7 @@ pub fn poll(
     if now < clock {
         return Ok(None);
     }
-    let Some(count) = from_jobs(alloc, lists, now, facts)? else {
+    let Some(count) = from_jobs(memory, lists, now, facts)? else {
         return Ok(None);
     };
     if count < facts.len() {

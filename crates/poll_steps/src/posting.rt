@@ -1,6 +1,7 @@
 //! The fifth step of a poll: the waiting calls of the client sessions begin, and their packets are
 //! posted.
 ghost use Rattle.std.specs.Prelude.{◌≡◌, IfOk};
+ghost use Rattle.memory_count.specs.Faults.{HasCause};
 ghost use Rattle.rpc_laws.specs.PollOrder.{PostsAll, Serves};
 ghost use Rattle.rpc_laws.specs.Posting.{next_begun, next_posted};
 ghost use Rattle.rpc_laws.specs.Steps.{NotesAll};
@@ -9,12 +10,12 @@ ghost use Rattle.poll_steps.specs.Steps.{IsStep, has_next};
 
 use crate::facts::fact_at;
 use crate::resting::rests;
+use memory_count::{Memory, NoMemory};
 use node_rules::{next_begun, next_posted};
 use node_tables::apply;
-use rpc_base::{Fact, NoMemory};
+use rpc_base::Fact;
 use rpc_laws::Lists;
 use rule_facts::{is_next_begun, is_next_posted};
-use std::alloc::Global;
 
 // Whether a call of client session `i` begins next.
 fn begins(lists: &Lists, i: usize) -> bool
@@ -32,14 +33,15 @@ fn posts(lists: &Lists, i: usize) -> bool
 
 // The waiting calls of client session `i` begin, as many as there are free slots.
 fn begin_calls(
-    alloc: Global,
+    memory: &mut Memory,
     lists: &mut Lists,
     clock: u64,
     i: usize,
     facts: &[Fact],
 ) -> Result<Option<usize>, NoMemory>
-    ensures { IfOk result (IsStep (NotesAll (next_begun i)) (at_clock clock lists.old) facts.now
-        (at_clock clock lists.new)) }
+    ensures step { IfOk result (IsStep (NotesAll (next_begun i)) (at_clock clock lists.old)
+        facts.now (at_clock clock lists.new)) }
+    ensures cause { HasCause memory.old memory.new result }
 {
     let mut count = 0;
     'calls: while begins(lists, i) {
@@ -50,7 +52,7 @@ fn begin_calls(
         if !is_next_begun(lists, i, fact) {
             return Ok(None);
         }
-        apply(alloc, lists, clock, fact)?;
+        apply(memory, lists, clock, fact)?;
         count += 1;
     }
     Ok(Some(count))
@@ -58,14 +60,15 @@ fn begin_calls(
 
 // The packets of client session `i` are posted, as many as there are free credits.
 fn post_packets(
-    alloc: Global,
+    memory: &mut Memory,
     lists: &mut Lists,
     clock: u64,
     i: usize,
     facts: &[Fact],
 ) -> Result<Option<usize>, NoMemory>
-    ensures { IfOk result (IsStep (NotesAll (next_posted i)) (at_clock clock lists.old) facts.now
-        (at_clock clock lists.new)) }
+    ensures step { IfOk result (IsStep (NotesAll (next_posted i)) (at_clock clock lists.old)
+        facts.now (at_clock clock lists.new)) }
+    ensures cause { HasCause memory.old memory.new result }
 {
     let mut count = 0;
     'packets: while posts(lists, i) {
@@ -76,7 +79,7 @@ fn post_packets(
         if !is_next_posted(lists, i, fact) {
             return Ok(None);
         }
-        apply(alloc, lists, clock, fact)?;
+        apply(memory, lists, clock, fact)?;
         count += 1;
     }
     Ok(Some(count))
@@ -84,22 +87,23 @@ fn post_packets(
 
 // Both, of one session.
 fn serve(
-    alloc: Global,
+    memory: &mut Memory,
     lists: &mut Lists,
     clock: u64,
     i: usize,
     facts: &[Fact],
 ) -> Result<Option<usize>, NoMemory>
-    ensures { IfOk result (IsStep (Serves i) (at_clock clock lists.old) facts.now
+    ensures step { IfOk result (IsStep (Serves i) (at_clock clock lists.old) facts.now
         (at_clock clock lists.new)) }
+    ensures cause { HasCause memory.old memory.new result }
 {
     if rests(lists, i) {
         return Ok(Some(0));
     }
-    let Some(begun) = begin_calls(alloc, lists, clock, i, facts)? else {
+    let Some(begun) = begin_calls(memory, lists, clock, i, facts)? else {
         return Ok(None);
     };
-    let Some(posted) = post_packets(alloc, lists, clock, i, &facts[begun..])? else {
+    let Some(posted) = post_packets(memory, lists, clock, i, &facts[begun..])? else {
         return Ok(None);
     };
     Ok(Some(begun + posted))
@@ -111,18 +115,19 @@ fn serve(
 /// lists as these facts do; where the answer is `None`, or memory is wanting, what they hold isn't
 /// told.
 pub fn post_all(
-    alloc: Global,
+    memory: &mut Memory,
     lists: &mut Lists,
     clock: u64,
     facts: &[Fact],
 ) -> Result<Option<usize>, NoMemory>
-    ensures { IfOk result (IsStep PostsAll (at_clock clock lists.old) facts.now
+    ensures step { IfOk result (IsStep PostsAll (at_clock clock lists.old) facts.now
         (at_clock clock lists.new)) }
+    ensures cause { HasCause memory.old memory.new result }
 {
     let sessions = lists.clients.len();
     let mut count = 0;
     'sessions: for i in 0..sessions {
-        let Some(more) = serve(alloc, lists, clock, i, &facts[count..])? else {
+        let Some(more) = serve(memory, lists, clock, i, &facts[count..])? else {
             return Ok(None);
         };
         count += more;

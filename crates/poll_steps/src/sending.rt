@@ -1,5 +1,6 @@
 //! The sixth step of a poll: packets of the queue are sent.
 ghost use Rattle.std.specs.Prelude.{◌≡◌, ◌∷◌, [], ◌↔◌, IfOk, IsTrue, drop};
+ghost use Rattle.memory_count.specs.Faults.{HasCause};
 ghost use Rattle.rpc_laws.specs.NodeLists.{after};
 ghost use Rattle.rpc_laws.specs.PollOrder.{Sends};
 ghost use Rattle.node_rules.specs.SingleFacts.{at_clock};
@@ -7,10 +8,10 @@ ghost use Rattle.poll_steps.specs.Steps.{AreSteps, Stops, begins_with, is_sent};
 
 use crate::facts::fact_at;
 use crate::packets::is_sent as is_sent_as_queued;
+use memory_count::{Memory, NoMemory};
 use node_tables::{apply, is_due};
-use rpc_base::{Event, Fact, NoMemory};
+use rpc_base::{Event, Fact};
 use rpc_laws::Lists;
-use std::alloc::Global;
 
 fn is_sent(event: &Event) -> bool
     ensures { result ≡ is_sent event.now }
@@ -49,13 +50,14 @@ fn is_next_sent(lists: &Lists, clock: u64, fact: &Fact) -> bool
 /// to there isn't that. Changes the lists as these facts do; where the answer is `None`, or memory
 /// is wanting, what they hold isn't told.
 pub fn send_packets(
-    alloc: Global,
+    memory: &mut Memory,
     lists: &mut Lists,
     clock: u64,
     facts: &[Fact],
 ) -> Result<Option<usize>, NoMemory>
-    ensures { IfOk result (AreSteps Sends (Stops is_sent) (at_clock clock lists.old) facts.now
+    ensures step { IfOk result (AreSteps Sends (Stops is_sent) (at_clock clock lists.old) facts.now
         (at_clock clock lists.new)) }
+    ensures cause { HasCause memory.old memory.new result }
 {
     let mut count = 0;
     'packets: while sent_at(facts, count) {
@@ -63,7 +65,7 @@ pub fn send_packets(
         if !is_next_sent(lists, clock, fact) {
             return Ok(None);
         }
-        apply(alloc, lists, clock, fact)?;
+        apply(memory, lists, clock, fact)?;
         count += 1;
     }
     Ok(Some(count))

@@ -5,14 +5,14 @@ use Rattle.rule_facts.specs.Speaking.{Answer}
 use Rattle.poll_steps.proofs.HearLemmas.{answers-none, answers-some}
 use Rattle.poll_steps.proofs.hearing.answer_one.Goals as goal
 
-pub returns-in_default : goal.returns-in_default
-returns-in_default c =
+pub returns-in_default-clause-step : goal.returns-in_default-clause-step
+returns-in_default-clause-step c =
     answers-none c.args.clock c.args.lists.now c.args.peer c.args.head.now c.args.facts.now
     (at_clock c.args.clock c.args.lists.now)
     (c.in_ok-told.ensures.only (ap is_some c.in_default.is))
 
-pub returns : goal.returns
-returns c =
+pub returns-clause-step : goal.returns-clause-step
+returns-clause-step c =
     let s = c.args.lists.now in
     let peer = c.args.peer in
     let h = c.args.head.now in

@@ -1,4 +1,4 @@
-use Rattle.std.proofs.Common.{◌-◌, length}
+use Rattle.std.proofs.Common.{◌≡◌, ◌-◌, length}
 use Rattle.rpc_laws.specs.ControlSteps.{Hears}
 use Rattle.node_rules.specs.SingleFacts.{at_clock}
 use Rattle.poll_steps.proofs.ChainLemmas.{Leads}
@@ -8,8 +8,9 @@ use Rattle.poll_steps.proofs.hearing.hear_all.Given as goal
 
 abbrev pub invariant-packets : goal.invariant-packets
 invariant-packets l =
-    Leads Hears (Anyhow InboxEmpty) (at_clock l.clock l.initial.lists) l.facts l.count
-    (at_clock l.clock l.lists)
+    (Leads Hears (Anyhow InboxEmpty) (at_clock l.clock l.initial.lists) l.facts l.count
+    (at_clock l.clock l.lists))
+    × (l.memory ≡ l.initial.memory)
 
 abbrev pub decreases-packets : goal.decreases-packets
 decreases-packets l = length l.facts - l.count
