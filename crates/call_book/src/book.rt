@@ -1,5 +1,6 @@
 //! The book of sessions and calls.
 ghost use Rattle.std.specs.Prelude.{ℕ, ◌≡◌, ◌++◌, ◌∷◌, [], ◌↔◌, List, IsTrue, OnOk, IfOk};
+ghost use Rattle.memory_count.specs.Faults.{HasCause};
 ghost use Rattle.rpc_laws.specs.Endpoints.{Endpoint, life_at, Lived};
 ghost use Rattle.rpc_base.specs.declared.fact.Fact.{Fact};
 ghost use Rattle.lawful_history.specs.Told.{is_own};
@@ -15,7 +16,8 @@ use crate::entries::{
 use crate::requests::{Beginning, Requests};
 use crate::shelf::Shelf;
 use crate::telling::{ask_told, connected_told, opened_told, paired_told, server_told};
-use rpc_base::{Event, Fact, NoMemory, NodeId, Octets, Who};
+use memory_count::{Memory, NoMemory};
+use rpc_base::{Event, Fact, NodeId, Octets, Who};
 use std::alloc::Global;
 
 /// What the facts so far tell of sessions and calls, each by the newest that tells of it.
@@ -121,14 +123,15 @@ impl Book {
     // The answer that the handler of a call gives by a fact of a node in a life.
     fn answered(
         &self,
-        alloc: Global,
+        memory: &mut Memory,
         node: u8,
         life: u32,
         fact: &Fact,
     ) -> Result<Option<(NodeCall, Answer)>, NoMemory>
-        ensures { IfOk result (λ told. (n : Endpoint) (c : ℕ) → answers_at n c told
+        ensures answers { IfOk result (λ told. (n : Endpoint) (c : ℕ) → answers_at n c told
             ≡ answer_in self.now (record { node = node; life = life }) n c
             fact.now.event fact.now.first fact.now.second) }
+        ensures cause { HasCause memory.old memory.new result }
     {
         let Event::Ran {
             session,
@@ -147,15 +150,16 @@ impl Book {
         if !asks_this(Some(ask), call.session, req_type, fact.first.bytes()) {
             return Ok(None);
         }
-        let bytes = Octets::copy(alloc, fact.second.bytes())?;
+        let bytes = Octets::from(memory.copied(fact.second.bytes())?);
         let room = ask.room;
         Ok(Some((call, Answer { room, bytes })))
     }
 
     // Enters what a fact tells before which its node has this life.
-    fn enter(&mut self, alloc: Global, fact: &Fact, life: u32) -> Result<(), NoMemory>
-        ensures { OnOk result ((past : List Lived) → Tells self.old past
+    fn enter(&mut self, memory: &mut Memory, fact: &Fact, life: u32) -> Result<(), NoMemory>
+        ensures entered { OnOk result ((past : List Lived) → Tells self.old past
             → Tells self.new (record { life = life; fact = fact.now } ∷ past)) }
+        ensures cause { HasCause memory.old memory.new result }
     {
         let Who::Node(node) = fact.who else {
             return Ok(());
@@ -163,27 +167,30 @@ impl Book {
         let node = node.0;
         let event = &fact.event;
         let began = self.began(node, life, event);
-        let answered = self.answered(alloc, node, life, fact)?;
-        let ask = ask_told(alloc, event, fact.first.bytes())?;
-        self.servers.note(node, life, server_told(event))?;
-        self.paired.note(node, life, paired_told(event))?;
-        self.opened.note(node, life, opened_told(event))?;
-        self.connected.note(node, life, connected_told(event))?;
-        self.asks.note(node, life, ask)?;
-        self.calls.note(node, life, began)?;
+        let answered = self.answered(memory, node, life, fact)?;
+        let ask = ask_told(memory, event, fact.first.bytes())?;
+        self.servers.note(memory, node, life, server_told(event))?;
+        self.paired.note(memory, node, life, paired_told(event))?;
+        self.opened.note(memory, node, life, opened_told(event))?;
+        self.connected
+            .note(memory, node, life, connected_told(event))?;
+        self.asks.note(memory, node, life, ask)?;
+        self.calls.note(memory, node, life, began)?;
         if let Some((call, answer)) = answered {
-            self.answers.put(call.node, call.life, call.call, answer)?;
+            self.answers
+                .put(memory, call.node, call.life, call.call, answer)?;
         }
         Ok(())
     }
 
     /// Takes note of the next fact of a history, before which its node has this life. `NoMemory`
-    /// comes only where there is no memory for what it tells; the book is of no use then.
-    pub fn note(&mut self, alloc: Global, fact: &Fact, life: u32) -> Result<(), NoMemory>
-        ensures { OnOk result ((h : List Fact) → life ≡ life_at fact.now.who (so_far h)
+    /// comes only where memory for what it tells was refused; the book is of no use then.
+    pub fn note(&mut self, memory: &mut Memory, fact: &Fact, life: u32) -> Result<(), NoMemory>
+        ensures noted { OnOk result ((h : List Fact) → life ≡ life_at fact.now.who (so_far h)
             → Tells self.old (so_far h) → Tells self.new (so_far (h ++ fact.now ∷ []))) }
+        ensures cause { HasCause memory.old memory.new result }
     {
-        self.enter(alloc, fact, life)
+        self.enter(memory, fact, life)
     }
 
     // Whether an event of a node in a life is of a call.

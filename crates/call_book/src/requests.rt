@@ -1,11 +1,12 @@
 //! The calls of endpoints, by session and request.
 ghost use Rattle.std.specs.Prelude.{ℕ, ◌≡◌, List, [], OnOk, OnErr};
+ghost use Rattle.memory_count.specs.Faults.{HasCause};
 ghost use Rattle.rpc_laws.specs.Endpoints.{Endpoint};
 ghost use Rattle.call_book.specs.Requests.{call_kept, NotesCall};
 ghost use Rattle.call_book.specs.Requests as told;
 
-use rpc_base::NoMemory;
-use std::alloc::Global;
+use memory_count::{Memory, NoMemory};
+use std::alloc::{AllocError, Global};
 use std::collections::HashMap;
 use std::marker::Model;
 
@@ -54,16 +55,26 @@ impl Requests {
     }
 
     /// Puts the call that begins at a node in a life, where one does. `NoMemory` comes only where
-    /// there is no memory for one more, and then nothing changed.
-    pub fn note(&mut self, node: u8, life: u32, began: Option<Beginning>) -> Result<(), NoMemory>
+    /// memory for one more was refused, and then nothing changed.
+    pub fn note(
+        &mut self,
+        memory: &mut Memory,
+        node: u8,
+        life: u32,
+        began: Option<Beginning>,
+    ) -> Result<(), NoMemory>
         ensures noted { OnOk result
             (NotesCall (record { node = node; life = life }) began self.old self.new) }
         ensures unchanged { OnErr result (self.new ≡ self.old) }
+        ensures cause { HasCause memory.old memory.new result }
     {
-        if let Some(began) = began {
-            self.calls
-                .insert((node, life, began.session, began.request), began.call)?;
-        }
-        Ok(())
+        let Some(began) = began else {
+            return Ok(());
+        };
+        let key = (node, life, began.session, began.request);
+        let Err(failed) = self.calls.insert(key, began.call) else {
+            return Ok(());
+        };
+        memory.of(Err(AllocError::from(failed)))
     }
 }

@@ -1,11 +1,12 @@
 //! Values by the number of a thing of an endpoint.
 ghost use Rattle.std.specs.Prelude.{ℕ, ◌≡◌, List, [], OnOk, OnErr};
 ghost use Rattle.std.specs.Option.{option_copied};
+ghost use Rattle.memory_count.specs.Faults.{HasCause};
 ghost use Rattle.rpc_laws.specs.Endpoints.{Endpoint};
 ghost use Rattle.call_book.specs.Shelf.{kept, Notes, Puts};
 
-use rpc_base::NoMemory;
-use std::alloc::Global;
+use memory_count::{Memory, NoMemory};
+use std::alloc::{AllocError, Global};
 use std::collections::HashMap;
 use std::marker::Model;
 
@@ -40,25 +41,42 @@ impl<V: Drop> Shelf<V> {
     }
 
     /// Puts a value for a number, in place of the one that it had. `NoMemory` comes only where
-    /// there is no memory for one more, and then nothing changed.
-    pub fn put(&mut self, node: u8, life: u32, number: u64, value: V) -> Result<(), NoMemory>
+    /// memory for one more was refused, and then nothing changed.
+    pub fn put(
+        &mut self,
+        memory: &mut Memory,
+        node: u8,
+        life: u32,
+        number: u64,
+        value: V,
+    ) -> Result<(), NoMemory>
         ensures put { OnOk result
             (Puts (record { node = node; life = life }) number value self.old self.new) }
         ensures unchanged { OnErr result (self.new ≡ self.old) }
+        ensures cause { HasCause memory.old memory.new result }
     {
-        self.values.insert((node, life, number), value)?;
-        Ok(())
+        match self.values.insert((node, life, number), value) {
+            Ok(_) => Ok(()),
+            Err(failed) => memory.of(Err(AllocError::from(failed))),
+        }
     }
 
     /// Puts what is told of a number of a node in a life, where something is. `NoMemory` comes only
-    /// where there is no memory for one more, and then nothing changed.
-    pub fn note(&mut self, node: u8, life: u32, told: Option<(u64, V)>) -> Result<(), NoMemory>
+    /// where memory for one more was refused, and then nothing changed.
+    pub fn note(
+        &mut self,
+        memory: &mut Memory,
+        node: u8,
+        life: u32,
+        told: Option<(u64, V)>,
+    ) -> Result<(), NoMemory>
         ensures noted { OnOk result
             (Notes (record { node = node; life = life }) told self.old self.new) }
         ensures unchanged { OnErr result (self.new ≡ self.old) }
+        ensures cause { HasCause memory.old memory.new result }
     {
         if let Some((number, value)) = told {
-            self.put(node, life, number, value)?;
+            self.put(memory, node, life, number, value)?;
         }
         Ok(())
     }

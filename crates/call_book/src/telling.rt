@@ -1,12 +1,13 @@
 //! What an event tells of a session or a call.
 ghost use Rattle.std.specs.Prelude.{ℕ, ◌≡◌, IfOk};
+ghost use Rattle.memory_count.specs.Faults.{HasCause};
 ghost use Rattle.lawful_history.specs.Told.{ask_event, connected_by, opened_by, paired_by};
 ghost use Rattle.lawful_history.specs.Told.{server_by};
 ghost use Rattle.call_book.specs.Shelf.{told_at};
 
 use crate::entries::{Ask, End, Joining};
-use rpc_base::{Event, NoMemory, Octets};
-use std::alloc::Global;
+use memory_count::{Memory, NoMemory};
+use rpc_base::{Event, Octets};
 
 /// Which server session was made, and for which client session.
 pub fn server_told(event: &Event) -> Option<(u64, End)>
@@ -89,10 +90,16 @@ pub fn connected_told(event: &Event) -> Option<(u64, Joining)>
     Some((u64::from(session.0), joining))
 }
 
-/// Which call was asked, and what it asks. `NoMemory` comes only where there is no memory for its
-/// bytes.
-pub fn ask_told(alloc: Global, event: &Event, first: &[u8]) -> Result<Option<(u64, Ask)>, NoMemory>
-    ensures { IfOk result (λ told. (c : ℕ) → told_at c told ≡ ask_event c event.now first.now) }
+/// Which call was asked, and what it asks. `NoMemory` comes only where memory for its bytes was
+/// refused.
+pub fn ask_told(
+    memory: &mut Memory,
+    event: &Event,
+    first: &[u8],
+) -> Result<Option<(u64, Ask)>, NoMemory>
+    ensures told { IfOk result (λ told. (c : ℕ)
+        → told_at c told ≡ ask_event c event.now first.now) }
+    ensures cause { HasCause memory.old memory.new result }
 {
     let Event::Asked {
         call,
@@ -103,7 +110,7 @@ pub fn ask_told(alloc: Global, event: &Event, first: &[u8]) -> Result<Option<(u6
     else {
         return Ok(None);
     };
-    let bytes = Octets::copy(alloc, first)?;
+    let bytes = Octets::from(memory.copied(first)?);
     let ask = Ask {
         session: session.0,
         req_type: *req_type,

@@ -1,6 +1,6 @@
 -- The numbers of a fact of a history fit 64 bits; the bytes of a fact stand in its line where they
 -- are read.
-use Rattle.std.proofs.Common.{◌≡◌, ℕ, ◌≤◌, List, [], ◌∷◌, Some, refl, sym, ap, arith}
+use Rattle.std.proofs.Common.{◌≡◌, ℕ, List, [], ◌∷◌, Some, sym, ap, arith}
 use Rattle.rpc_base.specs.declared.event.Event.{Event}
 use Rattle.rpc_base.specs.declared.event.Event.TheVariants.{Made, Opened, PairedClient}
 use Rattle.rpc_base.specs.declared.event.Event.TheVariants.{PairedServer, NconnectRing}

@@ -1,5 +1,5 @@
 -- The line of a fact is read as that fact.
-use Rattle.std.proofs.Common.{◌≡◌, ℕ, ◌≤◌, ◌<◌, false, true, true≢false, List, [], ◌∷◌, ◌++◌}
+use Rattle.std.proofs.Common.{◌≡◌, ℕ, false, true, true≢false, List, [], ◌∷◌, ◌++◌}
 use Rattle.std.proofs.Common.{Option}
 use Rattle.std.proofs.Common.{Some, None, refl, sym, ap, ◌∙◌, subst, arith, codes, decimal, ne_eqb}
 use Rattle.std.proofs.Common.{append_assoc, ◌==◌}
@@ -13,7 +13,7 @@ use Rattle.rpc_base.specs.declared.fact.Fact.{Fact}
 use Rattle.rpc_base.specs.declared.fact.Who.{Who}
 use Rattle.rpc_base.specs.declared.fact.Who.TheVariants.{Node, Net}
 use Rattle.report_text.proofs.EventWords.{event_words, words-text, words-words}
-use Rattle.report_text.proofs.LineWords.{AllWords, IsWord, free, free-joined, joined, same, split}
+use Rattle.report_text.proofs.LineWords.{IsWord, free, free-joined, joined, same, split}
 use Rattle.report_text.proofs.WordsBack.{number-other, number-word}
 use Rattle.report_text.specs.declared.shape.Tail.{Tail}
 use Rattle.report_text.specs.declared.shape.Tail.TheVariants.{Nothing, First, Both}

@@ -3,7 +3,7 @@ use Rattle.std.proofs.Common.{◌≡◌, ℕ, ◌-◌, ◌<◌, ◌≤◌, List,
 use Rattle.std.proofs.Common.{drop, Option, Some, None, Err, refl, sym}
 use Rattle.std.specs.Option.{ok_or}
 use Rattle.script_grammar.specs.declared.bad.BadWhy.TheVariants.{Hex}
-use Rattle.script_grammar.specs.Ask.{hex_byte, hex_bytes}
+use Rattle.script_grammar.specs.Ask.{hex_byte}
 use Rattle.script_grammar.proofs.AskLemmas.{reads_on, hex_more, hex_wrong, hex_odd, hex_end}
 
 none-of : (said : Option (List ℕ)) → ok_or said Hex ≡ Err Hex → None ≡ said

@@ -1,11 +1,10 @@
 -- A line falls into the words of its fact.
-use Rattle.std.proofs.Common.{◌≡◌, ℕ, Bool, true, false, not, ◌&&◌, ◌==◌, List, [], ◌∷◌, ◌++◌, Some}
-use Rattle.std.proofs.Common.{None, refl, sym, ap, ◌∙◌, subst, eq-eqb}
+use Rattle.std.proofs.Common.{◌≡◌, ℕ, Bool, true, not, ◌==◌, List, [], ◌∷◌, ◌++◌}
+use Rattle.std.proofs.Common.{refl, ap, ◌∙◌, eq-eqb}
 use Rattle.std.specs.List.{slice_split}
 use Rattle.std.proofs.lemmas.Bool.{and_parts}
 use Rattle.rpc_base.proofs.BasicLemmas.{not-true}
 use Rattle.report_text.proofs.LineWords.{AllWords, free, joined}
-use Rattle.report_reader.specs.Words.{words_of}
 
 abbrev blank : ℕ → Bool
 blank b = b == 32

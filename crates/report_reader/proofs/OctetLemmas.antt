@@ -1,6 +1,6 @@
 -- Bytes in hexadecimal digits are read back.
-use Rattle.std.proofs.Common.{◌≡◌, ℕ, ◌+◌, ◌*◌, ◌/◌, ◌%◌, ◌<◌, ◌≤◌, ◌==◌, false, cond, nat_lt}
-use Rattle.std.proofs.Common.{List, [], ◌∷◌, ◌++◌, Some, refl, sym, ap, ◌∙◌, arith, tests, codes}
+use Rattle.std.proofs.Common.{◌≡◌, ℕ, ◌+◌, ◌*◌, ◌/◌, ◌%◌, ◌<◌, false}
+use Rattle.std.proofs.Common.{List, [], ◌∷◌, Some, refl, ap, arith, tests, codes}
 use Rattle.std.proofs.Common.{flat_map, ne_eqb}
 use Rattle.std.proofs.lemmas.Bool.Decides.{nat_tests}
 use Rattle.report_text.specs.Names.{hex_digit as digit_text, byte_text, bytes_text}

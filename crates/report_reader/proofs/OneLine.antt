@@ -3,10 +3,8 @@ use Rattle.std.proofs.Common.{◌≡◌, ◌==◌, ℕ, suc, ◌+◌, ◌⊎◌,
 use Rattle.std.proofs.Common.{sym, ap, ◌∙◌, subst, arith, Option, Some, None}
 use Rattle.std.specs.List.{position}
 use Rattle.rpc_base.specs.declared.fact.Fact.{Fact}
-use Rattle.report_text.specs.Told.{IsTold}
-use Rattle.report_reader.specs.Lines.{AreLines, BadBelow, Below, below, beyond, bare_line, end_line}
+use Rattle.report_reader.specs.Lines.{AreLines, BadBelow, Below, below, beyond, end_line}
 use Rattle.report_reader.specs.Lines.{FirstUnspelled, head, head_line, IsNoFacts, missing, other, parts_of}
-use Rattle.report_reader.specs.Ranges.{InRange}
 use Rattle.report_reader.specs.Reading.{IsLineOf}
 use Rattle.report_reader.proofs.FactLemmas.{line-no-end}
 use Rattle.report_reader.proofs.ReportLemmas.{feed-at, no-feed}

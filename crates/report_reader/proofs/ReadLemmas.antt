@@ -1,10 +1,8 @@
 -- What was read of a line, by what its words tell.
-use Rattle.std.proofs.Common.{◌≡◌, ℕ, List, ◌∷◌, Some, None, sym, ◌∙◌, subst}
+use Rattle.std.proofs.Common.{◌≡◌, ℕ, List, Some, None, subst}
 use Rattle.rpc_base.specs.declared.fact.Fact.{Fact}
 use Rattle.report_reader.specs.Lines.{bare_line}
-use Rattle.report_text.specs.Told.{IsTold}
 use Rattle.report_reader.specs.Facts.{fact_in, Reads}
-use Rattle.report_reader.specs.Ranges.{InRange}
 use Rattle.report_reader.specs.Words.{words_of}
 use Rattle.report_reader.proofs.FactLemmas.{fact-told, line-back}
 

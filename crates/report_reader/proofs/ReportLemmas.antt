@@ -3,7 +3,7 @@ use Rattle.std.proofs.Common.{◌≡◌, ◌==◌, ℕ, ◌+◌, ◌⊎◌, inl,
 use Rattle.std.proofs.Common.{sym, ap}
 use Rattle.std.proofs.Common.{◌∙◌, subst, append_assoc, arith}
 use Rattle.std.proofs.lemmas.List.{append_cancel_left, append_cancel_right, length-append}
-use Rattle.std.proofs.Common.{Bool, true, false, ◌-◌, ◌≤◌, take, drop, take_all, length-drop, codes}
+use Rattle.std.proofs.Common.{true, false, ◌-◌, ◌≤◌, take, drop, take_all, length-drop, codes}
 use Rattle.std.proofs.Common.{decimal, nat_eq, true≢false, Some, None}
 use Rattle.std.specs.Prelude.{IfOk}
 use Rattle.std.proofs.lemmas.Fmt.{decimal_digit}

@@ -1,5 +1,5 @@
 -- The words of the line of an event tell the event.
-use Rattle.std.proofs.Common.{◌≡◌, ℕ, ◌≤◌, List, ◌∷◌, Some, refl, arith}
+use Rattle.std.proofs.Common.{◌≡◌, ℕ, List, ◌∷◌, Some, refl, arith}
 use Rattle.rpc_base.specs.declared.event.Event.{Event}
 use Rattle.rpc_base.specs.declared.event.Event.TheVariants.{Made, Opened, PairedClient}
 use Rattle.rpc_base.specs.declared.event.Event.TheVariants.{PairedServer, NconnectRing}

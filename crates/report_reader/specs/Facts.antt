@@ -1,5 +1,5 @@
 -- The fact that the words of a line tell, its bytes with it; and what a line says.
-use Rattle.std.specs.Prelude.{◌≡◌, ℕ, ◌+◌, List, [], ◌++◌, codes, Option, Some, None, IfSome}
+use Rattle.std.specs.Prelude.{◌≡◌, ℕ, ◌+◌, List, [], codes, Option, Some, IfSome}
 use Rattle.std.specs.Prelude.{IfNone}
 use Rattle.std.specs.Prelude.{if◌then◌else◌}
 use Rattle.rpc_base.specs.declared.event.Event.{Event}

@@ -1,6 +1,6 @@
 //! The reader of lines.
 ghost use Rattle.std.specs.Prelude.{◌≡◌, ◌<◌, ◌≤◌, [], ◌∷◌, ◌++◌, true, false, codes, Some, IfOk};
-ghost use Rattle.memory_count.specs.Faults.{HasRisen};
+ghost use Rattle.memory_count.specs.Faults.{HasCause};
 ghost use Rattle.report_reader.specs.Lines.{bare_line};
 ghost use Rattle.report_text.specs.Shape.{tail_of};
 ghost use Rattle.report_text.specs.Text.{text};
@@ -12,9 +12,9 @@ use crate::octets::{Shown, first_in, second_in};
 use crate::telling::event_in;
 use crate::text::Text;
 use crate::words::{is_word, word_at};
+use memory_count::{Memory, NoMemory};
 use report_text::print_facts;
-use rpc_base::{Event, Fact, NoMemory, NodeId, Who};
-use std::alloc::Global;
+use rpc_base::{Event, Fact, NodeId, Who};
 use std::slice;
 
 // Where it happened.
@@ -91,8 +91,9 @@ fn shown_by(event: &Event) -> Shown
 
 // The fact that the words of a line tell, if they do. The line may be no line of that fact.
 #[tactic(auto, unfolding(crate::specs::Facts::fact_in))]
-fn fact_in(alloc: Global, line: &[u8]) -> Result<Option<Fact>, NoMemory>
-    ensures { IfOk result (λ o. o ≡ fact_in (words_of line.now)) }
+fn fact_in(memory: &mut Memory, line: &[u8]) -> Result<Option<Fact>, NoMemory>
+    ensures value { IfOk result (λ o. o ≡ fact_in (words_of line.now)) }
+    ensures cause { HasCause memory.old memory.new result }
 {
     let Some(who) = who_in(line) else {
         return Ok(None);
@@ -101,10 +102,10 @@ fn fact_in(alloc: Global, line: &[u8]) -> Result<Option<Fact>, NoMemory>
         return Ok(None);
     };
     let shown = shown_by(&event);
-    let Some(first) = first_in(alloc, shown, line)? else {
+    let Some(first) = first_in(memory, shown, line)? else {
         return Ok(None);
     };
-    let Some(second) = second_in(alloc, shown, line)? else {
+    let Some(second) = second_in(memory, shown, line)? else {
         return Ok(None);
     };
     Ok(Some(Fact {
@@ -116,47 +117,54 @@ fn fact_in(alloc: Global, line: &[u8]) -> Result<Option<Fact>, NoMemory>
 }
 
 // The report whose one fact has this line.
-fn report_around(alloc: Global, line: &[u8]) -> Result<Vec<u8>, NoMemory>
-    ensures { IfOk result (λ v. v.items
+fn report_around(memory: &mut Memory, line: &[u8]) -> Result<Vec<u8>, NoMemory>
+    ensures bytes { IfOk result (λ v. v.items
         ≡ codes "erpc-report 1\n" ++ line.now ++ codes "\nend 1\n") }
+    ensures cause { HasCause memory.old memory.new result }
 {
-    let mut bytes = Vec::from_slice(alloc, b"erpc-report 1\n")?;
-    bytes.extend_from_slice(line)?;
-    bytes.extend_from_slice(b"\nend 1\n")?;
+    let mut bytes = memory.copied(b"erpc-report 1\n")?;
+    memory.of(bytes.extend_from_slice(line))?;
+    memory.of(bytes.extend_from_slice(b"\nend 1\n"))?;
     Ok(bytes)
 }
 
 // The report of one fact.
-fn report_of(alloc: Global, fact: &Fact) -> Result<Text, NoMemory>
-    ensures { IfOk result (λ t. t.bytes.items ≡ text (fact.now ∷ [])) }
+fn report_of(memory: &mut Memory, fact: &Fact) -> Result<Text, NoMemory>
+    ensures bytes { IfOk result (λ t. t.bytes.items ≡ text (fact.now ∷ [])) }
+    ensures cause { HasCause memory.old memory.new result }
 {
-    let mut text = Text::new(alloc);
+    let mut text = Text::new(memory.alloc());
     match print_facts(slice::from_ref(fact), &mut text) {
         Ok(()) => Ok(text),
-        Err(_) => Err(NoMemory),
+        Err(_) => {
+            memory.add(text.memory());
+            Err(NoMemory)
+        }
     }
 }
 
 // Whether a line is that of a fact: whether the report of this fact alone is the one with this
 // line.
-fn is_line(alloc: Global, fact: &Fact, line: &[u8]) -> Result<bool, NoMemory>
+fn is_line(memory: &mut Memory, fact: &Fact, line: &[u8]) -> Result<bool, NoMemory>
     ensures yes { IfOk result (λ same. same ≡ true → bare_line fact.now ≡ line.now) }
     ensures no { IfOk result (λ same. same ≡ false → bare_line fact.now ≡ line.now → ⊥) }
+    ensures cause { HasCause memory.old memory.new result }
 {
-    let text = report_of(alloc, fact)?;
-    let around = report_around(alloc, line)?;
+    let text = report_of(memory, fact)?;
+    let around = report_around(memory, line)?;
     Ok(is_word(text.bytes(), around.as_slice()))
 }
 
 /// Reads a line of a report, which has no line feed: the fact whose line it is, or None where it is
-/// the line of no fact. `NoMemory` comes only where there is no memory for the bytes of the line.
-pub fn read_line(alloc: Global, line: &[u8]) -> Result<Option<Fact>, NoMemory>
-    ensures { IfOk result (Reads line.now) }
+/// the line of no fact. `NoMemory` comes only where memory for the bytes of the line was refused.
+pub fn read_line(memory: &mut Memory, line: &[u8]) -> Result<Option<Fact>, NoMemory>
+    ensures reads { IfOk result (Reads line.now) }
+    ensures cause { HasCause memory.old memory.new result }
 {
-    let Some(fact) = fact_in(alloc, line)? else {
+    let Some(fact) = fact_in(memory, line)? else {
         return Ok(None);
     };
-    if is_line(alloc, &fact, line)? {
+    if is_line(memory, &fact, line)? {
         Ok(Some(fact))
     } else {
         Ok(None)

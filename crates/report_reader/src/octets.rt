@@ -1,13 +1,14 @@
 //! The bytes that words write in hexadecimal digits.
 ghost use Rattle.std.specs.Prelude.{◌≡◌, ◌*◌, ◌<◌, ◌≤◌, ◌+◌, length, Some, IfSome, IfOk, IfNone};
 ghost use Rattle.std.specs.Prelude.{None};
+ghost use Rattle.memory_count.specs.Faults.{HasCause};
 ghost use Rattle.script_grammar.specs.Ask.{hex_digit, hex_byte, hex_bytes};
 ghost use Rattle.report_reader.specs.Facts.{first_in, octets_at, octets_named, second_in};
 ghost use Rattle.report_reader.specs.Words.{words_of};
 
 use crate::words::{is_word, word_at};
-use rpc_base::{NoMemory, Octets};
-use std::alloc::Global;
+use memory_count::{Memory, NoMemory};
+use rpc_base::Octets;
 
 /// Which words of a line have its bytes, by their places. Word 0 is where it happened.
 #[derive(Clone, Copy)]
@@ -41,14 +42,15 @@ fn hex_byte(high: u8, low: u8) -> Option<u8>
 }
 
 // The bytes that pairs of digits write; None where a digit is none, or stands alone.
-fn hex_bytes(alloc: Global, word: &[u8]) -> Result<Option<Octets>, NoMemory>
-    ensures { IfOk result (λ o. o ≡ hex_bytes word.now) }
+fn hex_bytes(memory: &mut Memory, word: &[u8]) -> Result<Option<Octets>, NoMemory>
+    ensures value { IfOk result (λ o. o ≡ hex_bytes word.now) }
+    ensures cause { HasCause memory.old memory.new result }
 {
-    let mut bytes = Vec::with_capacity(alloc, word.len() / 2)?;
+    let mut bytes = memory.list(word.len() / 2)?;
     let mut rest = word;
     while let [high, low, after @ ..] = rest {
         match hex_byte(*high, *low) {
-            Some(byte) => bytes.push(byte)?,
+            Some(byte) => memory.push(&mut bytes, byte)?,
             None => return Ok(None),
         }
         rest = after;
@@ -61,34 +63,39 @@ fn hex_bytes(alloc: Global, word: &[u8]) -> Result<Option<Octets>, NoMemory>
 
 // The bytes that a word writes; a dash is none.
 #[tactic(auto, unfolding(crate::specs::Facts::octets_named))]
-fn octets_named(alloc: Global, word: &[u8]) -> Result<Option<Octets>, NoMemory>
-    ensures { IfOk result (λ o. o ≡ octets_named word.now) }
+fn octets_named(memory: &mut Memory, word: &[u8]) -> Result<Option<Octets>, NoMemory>
+    ensures value { IfOk result (λ o. o ≡ octets_named word.now) }
+    ensures cause { HasCause memory.old memory.new result }
 {
     if is_word(word, b"-") {
-        return Ok(Some(Octets::from(Vec::new(alloc))));
+        return Ok(Some(Octets::from(Vec::new(memory.alloc()))));
     }
-    hex_bytes(alloc, word)
+    hex_bytes(memory, word)
 }
 
-/// The first bytes of a line with these words.
+/// The first bytes of a line with these words. `NoMemory` comes only where memory for them was
+/// refused.
 #[tactic(auto, unfolding(crate::specs::Facts::first_in))]
-pub fn first_in(alloc: Global, shown: Shown, line: &[u8]) -> Result<Option<Octets>, NoMemory>
-    ensures { IfOk result (λ o. o ≡ first_in shown (words_of line.now)) }
+pub fn first_in(memory: &mut Memory, shown: Shown, line: &[u8]) -> Result<Option<Octets>, NoMemory>
+    ensures value { IfOk result (λ o. o ≡ first_in shown (words_of line.now)) }
+    ensures cause { HasCause memory.old memory.new result }
 {
     match shown {
-        Shown::NoWord => Ok(Some(Octets::from(Vec::new(alloc)))),
-        Shown::OneWord(place) => octets_named(alloc, word_at(line, place)),
-        Shown::TwoWords(place, _) => octets_named(alloc, word_at(line, place)),
+        Shown::NoWord => Ok(Some(Octets::from(Vec::new(memory.alloc())))),
+        Shown::OneWord(place) => octets_named(memory, word_at(line, place)),
+        Shown::TwoWords(place, _) => octets_named(memory, word_at(line, place)),
     }
 }
 
-/// The second bytes of a line with these words.
+/// The second bytes of a line with these words. `NoMemory` comes only where memory for them was
+/// refused.
 #[tactic(auto, unfolding(crate::specs::Facts::second_in))]
-pub fn second_in(alloc: Global, shown: Shown, line: &[u8]) -> Result<Option<Octets>, NoMemory>
-    ensures { IfOk result (λ o. o ≡ second_in shown (words_of line.now)) }
+pub fn second_in(memory: &mut Memory, shown: Shown, line: &[u8]) -> Result<Option<Octets>, NoMemory>
+    ensures value { IfOk result (λ o. o ≡ second_in shown (words_of line.now)) }
+    ensures cause { HasCause memory.old memory.new result }
 {
     match shown {
-        Shown::NoWord | Shown::OneWord(_) => Ok(Some(Octets::from(Vec::new(alloc)))),
-        Shown::TwoWords(_, place) => octets_named(alloc, word_at(line, place)),
+        Shown::NoWord | Shown::OneWord(_) => Ok(Some(Octets::from(Vec::new(memory.alloc())))),
+        Shown::TwoWords(_, place) => octets_named(memory, word_at(line, place)),
     }
 }

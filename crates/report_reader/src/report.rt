@@ -2,6 +2,7 @@
 ghost use Rattle.std.specs.Prelude.{◌≡◌, ◌<◌, ◌==◌, ◌∷◌, [], length, Some};
 ghost use Rattle.std.specs.Prelude.{true, false, ◌^◌, IfOk, IfSome, IfNone};
 ghost use Rattle.std.specs.List.{position};
+ghost use Rattle.memory_count.specs.Faults.{HasCause};
 ghost use Rattle.report_reader.specs.declared.report.Reading.TheVariants.{Bad};
 ghost use Rattle.report_reader.specs.Lines.{end_line, head_line, parts_of};
 ghost use Rattle.report_reader.specs.Reading.{Ends, IsReading, IsReadingBelow, ReadsNext};
@@ -10,8 +11,8 @@ use crate::line::read_line;
 use crate::ranges::in_range;
 use crate::words::is_word;
 use itoa::Buffer;
-use rpc_base::{Fact, Listed, NoMemory};
-use std::alloc::Global;
+use memory_count::{Memory, NoMemory};
+use rpc_base::{Fact, Listed};
 
 /// Ends a line.
 const LINE_FEED: u8 = b'\n';
@@ -66,11 +67,13 @@ pub fn is_end(line: &[u8], facts: u64) -> bool
     is_word(&line[END.len()..], count)
 }
 
-/// Reads a line below the first one as a fact. `None` comes exactly where it is that of no fact.
-pub fn read_fact(alloc: Global, line: &[u8]) -> Result<Option<Fact>, NoMemory>
-    ensures { IfOk result (ReadsNext line.now) }
+/// Reads a line below the first one as a fact. `None` comes exactly where it is that of no fact,
+/// and `NoMemory` only where memory for the bytes of the line was refused.
+pub fn read_fact(memory: &mut Memory, line: &[u8]) -> Result<Option<Fact>, NoMemory>
+    ensures reads { IfOk result (ReadsNext line.now) }
+    ensures cause { HasCause memory.old memory.new result }
 {
-    let fact = read_line(alloc, line)?;
+    let fact = read_line(memory, line)?;
     if let Some(fact) = &fact {
         in_range(fact);
     }
@@ -78,9 +81,9 @@ pub fn read_fact(alloc: Global, line: &[u8]) -> Result<Option<Fact>, NoMemory>
 }
 
 // What was read where a line of no fact comes after these facts, and then this text.
-fn ended(facts: Listed<Fact>, line: &[u8], after: &[u8]) -> Reading
-    requires { length facts < 2 ^ 63 }
-    ensures { Ends line.now after.now facts result }
+fn ended(facts: Vec<Fact>, line: &[u8], after: &[u8]) -> Reading
+    requires { length facts.items < 2 ^ 63 }
+    ensures { Ends line.now after.now facts.items result }
 {
     let count = facts.len() as u64;
     if !is_end(line, count) {
@@ -89,21 +92,22 @@ fn ended(facts: Listed<Fact>, line: &[u8], after: &[u8]) -> Reading
     if !after.is_empty() {
         return Reading::Bad(count + 3);
     }
-    Reading::Whole(facts)
+    Reading::Whole(Listed::from(facts))
 }
 
 // Reads the lines below the first one.
-fn read_facts(alloc: Global, text: &[u8]) -> Result<Reading, NoMemory>
+fn read_facts(memory: &mut Memory, text: &[u8]) -> Result<Reading, NoMemory>
     requires { length text.now < 2 ^ 63 }
-    ensures { IfOk result (IsReadingBelow text.now) }
+    ensures reads { IfOk result (IsReadingBelow text.now) }
+    ensures cause { HasCause memory.old memory.new result }
 {
     let mut text = text;
-    let mut facts = Listed::new(alloc);
+    let mut facts = Vec::new(memory.alloc());
     while let Some((line, after)) = next_line(text) {
-        let Some(fact) = read_fact(alloc, line)? else {
+        let Some(fact) = read_fact(memory, line)? else {
             return Ok(ended(facts, line, after));
         };
-        facts.push(fact)?;
+        memory.push(&mut facts, fact)?;
         text = after;
     }
     Ok(Reading::Bad(facts.len() as u64 + 2))
@@ -127,13 +131,14 @@ pub fn below_head(bytes: &[u8]) -> Option<&[u8]>
 }
 
 /// Reads a report: the facts that it is the report of, or the first line that isn't spelled as one
-/// of a report. `NoMemory` comes only where there is no memory for the facts or a line of them.
-pub fn read_report(alloc: Global, bytes: &[u8]) -> Result<Reading, NoMemory>
+/// of a report. `NoMemory` comes only where memory for the facts or a line of them was refused.
+pub fn read_report(memory: &mut Memory, bytes: &[u8]) -> Result<Reading, NoMemory>
     requires { length bytes.now < 2 ^ 63 }
-    ensures { IfOk result (IsReading bytes.now) }
+    ensures reads { IfOk result (IsReading bytes.now) }
+    ensures cause { HasCause memory.old memory.new result }
 {
     let Some(text) = below_head(bytes) else {
         return Ok(Reading::Bad(1));
     };
-    read_facts(alloc, text)
+    read_facts(memory, text)
 }

@@ -4,6 +4,7 @@ ghost use Rattle.std.specs.Io.KnownBytes.{Appends, Keeps};
 ghost use Rattle.memory_count.specs.Faults.{HasCause};
 ghost use Rattle.rpc_outside.specs.Writing.{Written};
 
+use memory_count::Memory;
 use rpc_outside::{Failed, Sink};
 use std::alloc::Global;
 
@@ -11,18 +12,26 @@ use std::alloc::Global;
 #[derive(Drop)]
 pub struct Text {
     bytes: Vec<u8>,
-    faults: u64,
+    memory: Memory,
 }
 
 impl Text {
     /// Nothing was written yet.
     pub fn new(alloc: Global) -> Text
         ensures bytes { result.bytes.items ≡ [] }
+        ensures memory { result.memory ≡ 0 }
     {
         Text {
             bytes: Vec::new(alloc),
-            faults: 0,
+            memory: Memory::new(alloc),
         }
+    }
+
+    /// Its memory, which tells how often it was refused.
+    pub fn memory(&self) -> &Memory
+        ensures { result.now ≡ self.now.memory }
+    {
+        &self.memory
     }
 
     /// Lends what was written.
@@ -34,7 +43,7 @@ impl Text {
 }
 
 impl Sink for Text {
-    ghost page = { λ t. record { written = Some t.bytes.items; faults = t.faults } };
+    ghost page = { λ t. record { written = Some t.bytes.items; faults = t.memory } };
 
     /// Takes the whole piece, or fails where there is no memory for it.
     fn write(&mut self, piece: &[u8]) -> Result<usize, Failed>
@@ -44,14 +53,11 @@ impl Sink for Text {
             (Some self.new.bytes.items) (take n piece.now)) }
         ensures kept { OnErr result (Keeps (Some self.old.bytes.items)
             (Some self.new.bytes.items)) }
-        ensures cause { HasCause self.old.faults self.new.faults result }
+        ensures cause { HasCause self.old.memory self.new.memory result }
     {
-        match self.bytes.extend_from_slice(piece) {
+        match self.memory.of(self.bytes.extend_from_slice(piece)) {
             Ok(()) => Ok(piece.len()),
-            Err(_) => {
-                self.faults = self.faults.saturating_add(1);
-                Err(Failed)
-            }
+            Err(_) => Err(Failed),
         }
     }
 }

@@ -5,7 +5,8 @@ use Rattle.report_reader.proofs.octets.hex_bytes.Given as goal
 
 abbrev pub invariant-loop-rest : goal.invariant-loop-rest
 invariant-loop-rest l =
-    option_map (λ after. l.bytes.items ++ after) (hex_bytes l.rest) ≡ hex_bytes l.word
+    (option_map (λ after. l.bytes.items ++ after) (hex_bytes l.rest) ≡ hex_bytes l.word)
+    × (l.memory ≡ l.initial.memory)
 
 abbrev pub decreases-loop-rest : goal.decreases-loop-rest
 decreases-loop-rest l = length l.rest

@@ -1,4 +1,4 @@
-use Rattle.std.proofs.Common.{List, ℕ, ◌∷◌, ◌≡◌, ap, inl, inr, refl, sym, ◌∙◌}
+use Rattle.std.proofs.Common.{List, ℕ, ◌∷◌, ap, inl, inr, refl, sym, ◌∙◌}
 use Rattle.report_reader.specs.Lines.{parts_of}
 use Rattle.report_reader.proofs.ReportLemmas.{without-head, word-other, word-same}
 use Rattle.report_reader.proofs.report.below_head.Goals as goal

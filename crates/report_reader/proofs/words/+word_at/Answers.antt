@@ -1,4 +1,4 @@
-use Rattle.std.proofs.Common.{rules, tests, sym, ◌∙◌}
+use Rattle.std.proofs.Common.{rules, tests, ◌∙◌}
 use Rattle.report_reader.proofs.WordLemmas.{first-whole, later-whole, first-cut, later-cut}
 use Rattle.report_reader.proofs.words.+word_at.Goals as goal
 

@@ -1,4 +1,4 @@
-use Rattle.std.proofs.Common.{◌≡◌, ℕ, List, sym, ap, ◌∙◌, subst}
+use Rattle.std.proofs.Common.{ℕ, List, ap, ◌∙◌}
 use Rattle.lawful_history.specs.Told.{is_own}
 use Rattle.call_book.proofs.NextLemmas.{calls-net, calls-node}
 use Rattle.call_book.specs.SoFar.{so_far}

@@ -4,10 +4,10 @@ use Rattle.call_book.proofs.OrLemmas.{put-at}
 use Rattle.call_book.specs.Requests.{call_kept}
 use Rattle.call_book.proofs.requests.Requests.note.Goals as goal
 
-pub returns-in_ok-insert-clause-noted : goal.returns-in_ok-insert-clause-noted
-returns-in_ok-insert-clause-noted c = λ m s r.
+pub returns-in_default-insert-clause-noted : goal.returns-in_default-insert-clause-noted
+returns-in_default-insert-clause-noted c = λ m s r.
     let k = c.began.inside in
     rw (← c.self.view_is, c.in-Some.is, ← c.began.view_is)
-    (c.in_ok-insert.ensures.updates.0 (m.node, m.life, s, r)
+    (c.in_default-insert.ensures.updates.0 (m.node, m.life, s, r)
     ∙ put-at (is_endpoint (record { node = c.args.node; life = c.args.life }) m) (k.session == s) (k.request == r)
     k.call (call_kept c.self.inside.calls.entries m s r))
