@@ -1,18 +1,20 @@
 -- What is found of a history, a fact later, and the verdict on it.
-use Rattle.std.proofs.Common.{◌≡◌, ℕ, ◌+◌, ◌<◌, ◌≤◌, Bool, true, false, List, [], ◌∷◌, ◌++◌, length, take, refl, sym}
-use Rattle.std.proofs.Common.{ap, ◌∙◌, subst, arith, length-append, append-nil}
+use Rattle.std.proofs.Common.{◌≡◌, ℕ, ◌+◌, ◌≤◌, Bool, true, false, List, [], ◌∷◌, ◌++◌, length, take, refl, sym}
+use Rattle.std.proofs.Common.{ap, subst, arith, length-append}
 use Rattle.std.proofs.lemmas.Bool.{ltb-false, ltb-true}
 use Rattle.std.proofs.lemmas.List.{take-append-le, take_all}
 use Rattle.std.specs.Prelude.{nat_lt}
 use Rattle.front_laws.specs.Whole.{IsWhole}
-use Rattle.history_audit.proofs.FairLemmas.{fair-lawful, fair-none}
+use Rattle.history_audit.proofs.FairLemmas.{fair-lawful, fair-none, wrong-unlawful}
 use Rattle.history_audit.specs.Audit.{FailsAt, FirstUnlawful, FrontsLawful, IsLawfulReport}
 use Rattle.history_audit.specs.Audit.{unended, unlawful}
-use Rattle.history_audit.specs.Auditing.{Finds, FrontsBefore, HasRead}
-use Rattle.history_audit.specs.declared.auditor.Auditor.{Auditor}
+use Rattle.history_audit.specs.Auditing.{Finds, FrontsBefore, IsFault}
 use Rattle.history_audit.specs.declared.auditor.Finding.TheVariants.{Doomed, Fair, Unlawful}
+use Rattle.history_audit.specs.declared.fault.Fault.TheVariants as fault
+use Rattle.history_audit.specs.declared.fault.Wrong.{Wrong}
 use Rattle.history_audit.specs.declared.tables.Tables.{Tables}
-use Rattle.history_audit.specs.Tables.{HaveNoted, IsDoomed, IsFair}
+use Rattle.history_audit.specs.Tables.{HaveNoted, IsFair}
+use Rattle.history_audit.specs.Wrong.{IsWrong}
 use Rattle.lawful_history.specs.Lawful.{Lawful}
 use Rattle.report_reader.specs.Lines.{IsReportOf}
 use Rattle.rpc_base.specs.declared.fact.Fact.{Fact}
@@ -42,13 +44,14 @@ fronts-all g before last n le whole = by (nat_lt n (length g)) refl
         subst Lawful (sym same) (last (subst IsWhole same whole))
 
 -- the shortest front that isn't lawful
-pub first-whole : (g : List Fact) → IsDoomed g → FrontsBefore g → IsWhole g → FirstUnlawful g (length g)
-first-whole g doomed before whole =
+pub first-whole : (g : List Fact) (w : Wrong) → IsWrong w g → FrontsBefore g → IsWhole g
+    → FirstUnlawful g (length g)
+first-whole g w broken before whole =
     let all : take (length g) g ≡ g = take_all (length g) g (omega arith) in
     record {
       within = omega arith;
       whole = subst IsWhole (sym all) whole;
-      unlawful = λ l. doomed [] (subst Lawful (all ∙ sym (append-nil g)) l);
+      unlawful = λ l. wrong-unlawful w g broken (subst Lawful all l);
       first = before;
     }
 
@@ -74,18 +77,26 @@ finds-fair t h f judged fronts = (
   fronts-all (h ++ f ∷ []) (before-next h f fronts) (fair-lawful (h ++ f ∷ []) judged.1),
 )
 
-pub finds-whole : (t : Tables) (g : List Fact) (facts : ℕ) → facts ≡ length g → IsDoomed g → FrontsBefore g
-    → IsWhole g → Finds t (Unlawful (facts + 1)) g
-finds-whole t g facts counted doomed before whole =
-    (length g, ap (λ (n : ℕ). n + 1) counted, first-whole g doomed before whole)
+pub finds-whole : (t : Tables) (g : List Fact) (facts : ℕ) (w : Wrong) → facts ≡ length g → IsWrong w g
+    → FrontsBefore g → IsWhole g → Finds t (Unlawful (facts + 1) w) g
+finds-whole t g facts w counted broken before whole =
+    let all : take (length g) g ≡ g = take_all (length g) g (omega arith) in (
+      length g,
+      ap (λ (n : ℕ). n + 1) counted,
+      first-whole g w broken before whole,
+      subst (IsWrong w) (sym all) broken,
+    )
 
-pub finds-doomed : (t : Tables) (g : List Fact) → IsDoomed g → FrontsBefore g → (IsWhole g → ⊥)
-    → Finds t Doomed g
-finds-doomed t g doomed before busy = (doomed, fronts-all g before (λ whole. absurd (busy whole)), busy)
+pub finds-doomed : (t : Tables) (g : List Fact) (w : Wrong) → IsWrong w g → FrontsBefore g → (IsWhole g → ⊥)
+    → Finds t (Doomed w) g
+finds-doomed t g w broken before busy =
+    (broken, fronts-all g before (λ whole. absurd (busy whole)), busy)
 
-pub finds-first : (t u : Tables) (h : List Fact) (f : Fact) (line : ℕ) → Finds t (Unlawful line) h
-    → Finds u (Unlawful line) (h ++ f ∷ [])
-finds-first t u h f line found = (found.0, found.1, first-next h f found.0 found.2)
+pub finds-first : (t u : Tables) (h : List Fact) (f : Fact) (line : ℕ) (w : Wrong)
+    → Finds t (Unlawful line w) h → Finds u (Unlawful line w) (h ++ f ∷ [])
+finds-first t u h f line w found =
+    let same = front-stays h f found.0 found.2.within in
+    (found.0, found.1, first-next h f found.0 found.2, subst (IsWrong w) (sym same) found.3)
 
 -- the verdicts
 pub verdict-lawful : (bytes : List ℕ) (h : List Fact) (facts : ℕ) → IsReportOf bytes h → facts ≡ length h
@@ -103,10 +114,20 @@ pub verdict-unended : (bytes : List ℕ) (h : List Fact) (facts : ℕ) → IsRep
 verdict-unended bytes h facts is counted fronts busy =
     subst (λ (n : ℕ). FailsAt bytes (n + 2)) (sym counted) (unended h is fronts busy)
 
-pub verdict-first : (bytes : List ℕ) (t : Tables) (h : List Fact) (line : ℕ) → IsReportOf bytes h
-    → Finds t (Unlawful line) h → FailsAt bytes line
-verdict-first bytes t h line is found =
+pub verdict-first : (bytes : List ℕ) (t : Tables) (h : List Fact) (line : ℕ) (w : Wrong) → IsReportOf bytes h
+    → Finds t (Unlawful line w) h → FailsAt bytes line
+verdict-first bytes t h line w is found =
     subst (λ (n : ℕ). FailsAt bytes n) (sym found.1) (unlawful h found.0 is found.2)
+
+-- the faults
+pub fault-first : (bytes : List ℕ) (t : Tables) (h : List Fact) (line : ℕ) (w : Wrong) → IsReportOf bytes h
+    → Finds t (Unlawful line w) h → IsFault bytes (fault.Unlawful w)
+fault-first bytes t h line w is found =
+    record { history = h; facts = found.0; report = is; first = found.2; wrong = found.3 }
+
+pub fault-unended : (bytes : List ℕ) (h : List Fact) → IsReportOf bytes h → FrontsLawful h (length h)
+    → IsFault bytes fault.Unended
+fault-unended bytes h is fronts = record { history = h; report = is; fronts = fronts }
 
 -- before any fact
 pub finds-none : (t : Tables) → HaveNoted t [] → Finds t Fair []

@@ -1,19 +1,21 @@
 -- Whether a history is fair so far, a fact later, and when none that goes on so is lawful.
 use Rattle.std.proofs.Common.{◌≡◌, ℕ, ◌+◌, Bool, true, false, cond, List, [], ◌∷◌, ◌++◌, refl, sym, ap, ◌∙◌, subst}
-use Rattle.std.proofs.Common.{true≢false, append_assoc, eq-eqb}
+use Rattle.std.proofs.Common.{true≢false, append_assoc, append-nil, eq-eqb, None, Option, Some}
 use Rattle.std.proofs.lemmas.Bool.{eqb-false, eqb-true}
 use Rattle.std.specs.Prelude.{◌↔◌}
-use Rattle.call_book.specs.SoFar.{CallsTold}
 use Rattle.end_laws.proofs.ListLemmas.{all-append}
 use Rattle.front_laws.specs.Whole.{is_open, IsWhole, open_after}
 use Rattle.history_audit.proofs.LifeLemmas.{far-life, runs-life}
 use Rattle.history_audit.proofs.NodesLemmas.{grows, stays-net, stays-other}
 use Rattle.history_audit.proofs.PollLemmas.{open-snoc}
 use Rattle.history_audit.specs.Lives.{TellsNextLife}
+use Rattle.history_audit.specs.declared.fault.Wrong.{Wrong}
+use Rattle.history_audit.specs.declared.fault.Wrong.TheVariants as wrong
+use Rattle.history_audit.specs.declared.fault.Wrong.TheVariants.{Call, Ring, Run}
 use Rattle.history_audit.specs.declared.tables.Tables.{Tables}
-use Rattle.history_audit.specs.Tables.{HaveNoted, IsClaimed, IsDoomed, IsFair, IsJudged, RunsAt, RunsOutside}
-use Rattle.one_history.specs.NetFacts.{AllOfNet}
-use Rattle.ring_laws.specs.CalmRing.{MessagesFit}
+use Rattle.history_audit.specs.Judged.{IsJudged}
+use Rattle.history_audit.specs.Tables.{HaveNoted, IsClaimed, IsFair, RunsAt, RunsOutside}
+use Rattle.history_audit.specs.Wrong.{IsBroken, IsWrong}
 use Rattle.lawful_history.proofs.CheckedLemmas.{lawful-checked}
 use Rattle.lawful_history.proofs.FrontLemmas.{all-front, each-front, open-own, runs-front}
 use Rattle.lawful_history.specs.Checked.{Checked}
@@ -42,18 +44,29 @@ lawful-runs g x l n shut =
     runs-front n (facts_of n g) (facts_of n x) (subst (Runs n) (facts-append n g x) (l.nodes n))
     (sym (open-own n false g) ∙ shut)
 
-lawful-at : (g x : List Fact) (who : Who) → Lawful (g ++ x) → RunsAt who g
-lawful-at g x (Node n) l = lawful-runs g x l n
-lawful-at g x Net l = tt
+-- a lawful history breaks no claim
+broken-not : (w : Wrong) (g : List Fact) → IsBroken w g → IsClaimed g → ((n : ℕ) → RunsOutside n g) → ⊥
+broken-not wrong.Net g broken k runs = broken k.net
+broken-not Call g broken k runs = broken k.calls
+broken-not Ring g broken k runs = broken k.fits
+broken-not (Run n) g broken k runs = broken (runs n)
 
-pub doomed-claims : (g : List Fact) → (IsClaimed g → ⊥) → IsDoomed g
-doomed-claims g denied x l = denied (lawful-claims g x l)
+pub wrong-unlawful : (w : Wrong) (h : List Fact) → IsWrong w h → Lawful h → ⊥
+wrong-unlawful w h b l =
+    let all : Lawful (b.front ++ b.rest) = subst Lawful b.whole l in
+    broken-not w b.front b.broken (lawful-claims b.front b.rest all) (lawful-runs b.front b.rest all)
 
-pub doomed-run : (g : List Fact) (who : Who) → (RunsAt who g → ⊥) → IsDoomed g
-doomed-run g who denied x l = denied (lawful-at g x who l)
+pub wrong-here : (w : Wrong) (g : List Fact) → IsBroken w g → IsWrong w g
+wrong-here w g broken =
+    record { front = g; rest = []; whole = sym (append-nil g); broken = broken }
 
-pub doomed-on : (h : List Fact) (f : Fact) → IsDoomed h → IsDoomed (h ++ f ∷ [])
-doomed-on h f d x l = d (f ∷ x) (subst Lawful (append_assoc h (f ∷ []) x) l)
+pub wrong-on : (w : Wrong) (h : List Fact) (f : Fact) → IsWrong w h → IsWrong w (h ++ f ∷ [])
+wrong-on w h f b = record {
+  front = b.front;
+  rest = b.rest ++ f ∷ [];
+  whole = ap (λ (z : List Fact). z ++ f ∷ []) b.whole ∙ append_assoc b.front b.rest (f ∷ []);
+  broken = b.broken;
+}
 
 -- a fair history is lawful where no node is in the midst of a poll
 pub fair-lawful : (g : List Fact) → IsFair g → IsWhole g → Lawful g
@@ -107,27 +120,11 @@ module _ (h : List Fact) (f : Fact) (runs : (n : ℕ) → RunsOutside n h) where
 pub told-next : (h : List Fact) (f : Fact) → AllTold h → IsTold f → AllTold (h ++ f ∷ [])
 told-next h f all is = all-append IsTold h (f ∷ []) all (is, tt)
 
--- what is claimed, by what is claimed of the next fact
+-- what isn't so where its test fails
+pub denied : {A : Type 0} (b : Bool) → (b ≡ true) ↔ A → b ≡ false → A → ⊥
+denied b is e a = true≢false (sym (is.1 a) ∙ e)
+
 module _ (g : List Fact) where
-  pub claims-net : (b : Bool) → (b ≡ true) ↔ AllOfNet g → b ≡ false → (false ≡ true) ↔ IsClaimed g
-  claims-net b net e = (
-    λ t. absurd (true≢false (sym t)),
-    λ k. absurd (true≢false (sym (net.1 k.net) ∙ e)),
-  )
-
-  pub claims-own : (b : Bool) → (b ≡ true) ↔ CallsTold g → b ≡ false → (false ≡ true) ↔ IsClaimed g
-  claims-own b own e = (
-    λ t. absurd (true≢false (sym t)),
-    λ k. absurd (true≢false (sym (own.1 k.calls) ∙ e)),
-  )
-
-  pub claims-fit : (a b c : Bool) → (a ≡ true) ↔ AllOfNet g → a ≡ true → (b ≡ true) ↔ CallsTold g → b ≡ true
-      → (c ≡ true) ↔ MessagesFit g → (c ≡ true) ↔ IsClaimed g
-  claims-fit a b c net e own f fit = (
-    λ t. record { net = net.0 e; calls = own.0 f; fits = fit.0 t },
-    λ k. fit.1 k.fits,
-  )
-
   -- a node that is in the midst of a poll, and one that isn't
   pub runs-busy : (n : ℕ) → is_open n false g ≡ true → (true ≡ true) ↔ RunsOutside n g
   runs-busy n busy = ((λ t shut. absurd (true≢false (sym busy ∙ shut))), (λ r. refl))
@@ -144,8 +141,10 @@ fair-none = record {
   told = tt;
 }
 
-pub judged-fair : (b : Bool) (t : Tables) (g : List Fact) → b ≡ true → IsJudged b t g → HaveNoted t g × IsFair g
-judged-fair b t g e j = subst (λ (c : Bool). IsJudged c t g) e j
+pub judged-fair : (o : Option Wrong) (t : Tables) (g : List Fact) → o ≡ None → IsJudged o t g
+    → HaveNoted t g × IsFair g
+judged-fair o t g e j = subst (λ (c : Option Wrong). IsJudged c t g) e j
 
-pub judged-doomed : (b : Bool) (t : Tables) (g : List Fact) → b ≡ false → IsJudged b t g → IsDoomed g
-judged-doomed b t g e j = subst (λ (c : Bool). IsJudged c t g) e j
+pub judged-wrong : (o : Option Wrong) (t : Tables) (g : List Fact) (w : Wrong) → o ≡ Some w → IsJudged o t g
+    → IsWrong w g
+judged-wrong o t g w e j = subst (λ (c : Option Wrong). IsJudged c t g) e j

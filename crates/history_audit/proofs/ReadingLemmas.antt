@@ -7,12 +7,12 @@ use Rattle.history_audit.specs.Auditing.{HasRead}
 use Rattle.history_audit.specs.declared.auditor.Auditor.{Auditor}
 use Rattle.history_audit.specs.declared.report.Audited.{Audited}
 use Rattle.history_audit.specs.declared.report.Audited.TheVariants.{Bad, Report}
-use Rattle.history_audit.specs.Reading.{HasBelow, HasReport, IsAudited, IsAuditedBelow, IsAuditing}
+use Rattle.history_audit.specs.Reading.{IsAudited, IsAuditedBelow, IsAuditing}
 use Rattle.history_audit.specs.Reading.{IsEnd}
 use Rattle.report_reader.proofs.ReportLemmas.{read-all, read-end, read-more, read-none, with-head}
 use Rattle.report_reader.specs.declared.report.Reading.TheVariants as reading
 use Rattle.report_reader.specs.Lines.{BadBelow, IsNoFacts, head_line, parts_of}
-use Rattle.report_reader.specs.Reading.{IsLineOf, IsReading, IsReadingBelow}
+use Rattle.report_reader.specs.Reading.{IsLineOf}
 use Rattle.report_text.specs.Told.{IsTold}
 use Rattle.rpc_base.specs.declared.fact.Fact.{Fact}
 

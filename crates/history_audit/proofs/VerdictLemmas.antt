@@ -12,7 +12,6 @@ use Rattle.history_audit.specs.declared.verdict.Verdict.TheVariants as verdict
 use Rattle.history_audit.specs.Laws.{NoReportIsBoth, OneLineFails, ReportsTell}
 use Rattle.std.proofs.lemmas.Bool.{ltb-false, ltb-true}
 use Rattle.std.specs.Prelude.{nat_lt}
-use Rattle.report_reader.specs.Lines.{IsReportOf}
 use Rattle.report_reader.proofs.OneLine.{one-unspelled}
 use Rattle.lawful_history.proofs.FrontLemmas.{lawful-front}
 use Rattle.lawful_history.specs.Lawful.{Lawful}

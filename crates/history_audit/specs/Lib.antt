@@ -1,9 +1,11 @@
 pub mod Audit
 pub mod Auditing
 pub mod Calm
+pub mod Judged
 pub mod Laws
 pub mod Lives
 pub mod Nodes
 pub mod OpenPolls
 pub mod Reading
 pub mod Tables
+pub mod Wrong

@@ -1,5 +1,5 @@
 -- What the tables have of the facts so far, and which histories are fair so far.
-use Rattle.std.specs.Prelude.{ℕ, ◌≡◌, Bool, true, false, List, ◌++◌}
+use Rattle.std.specs.Prelude.{ℕ, ◌≡◌, false, List}
 use Rattle.call_book.specs.SoFar.{CallsTold, so_far}
 use Rattle.call_book.specs.Tells.{Tells}
 use Rattle.front_laws.specs.Whole.{is_open}
@@ -7,7 +7,6 @@ use Rattle.history_audit.specs.Calm.{IsRough}
 use Rattle.history_audit.specs.declared.tables.Tables.{Tables}
 use Rattle.history_audit.specs.Lives.{AreLives}
 use Rattle.history_audit.specs.Nodes.{KeepsEach}
-use Rattle.lawful_history.specs.Lawful.{Lawful}
 use Rattle.one_history.specs.NetFacts.{AllOfNet}
 use Rattle.report_text.specs.Told.{AllTold}
 use Rattle.ring_laws.specs.CalmRing.{MessagesFit}
@@ -42,12 +41,3 @@ pub record IsFair (h : List Fact) : Type 0 where
   pub runs : (n : ℕ) → RunsOutside n h
   pub claimed : IsClaimed h
   pub told : AllTold h
-
--- no history that begins with these facts is lawful
-abbrev pub IsDoomed : List Fact → Type 0
-IsDoomed h = (x : List Fact) → Lawful (h ++ x) → ⊥
-
--- whether the history is fair still, which the tables have then; otherwise it is doomed
-abbrev pub IsJudged : Bool → Tables → List Fact → Type 0
-IsJudged true t h = HaveNoted t h × IsFair h
-IsJudged false t h = IsDoomed h

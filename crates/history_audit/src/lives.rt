@@ -1,15 +1,17 @@
 //! The life of each node.
-ghost use Rattle.std.specs.Prelude.{◌≡◌, ◌++◌, ◌∷◌, [], List, IfOk, MatchOption, slice_set, vec_len};
+ghost use Rattle.std.specs.Prelude.{◌≡◌, ◌++◌, ◌∷◌, [], List, IfOk, MatchOption, slice_set};
+ghost use Rattle.std.specs.Prelude.{vec_len};
 ghost use Rattle.call_book.specs.SoFar.{so_far};
 ghost use Rattle.history_audit.specs.declared.numbers.TheConstants.{NODES};
 ghost use Rattle.history_audit.specs.Lives.{AreLives, begun_life, TellsNextLife};
+ghost use Rattle.memory_count.specs.Faults.{HasCause};
 ghost use Rattle.rpc_base.specs.declared.fact.Fact.{Fact};
 ghost use Rattle.rpc_laws.specs.Endpoints.{life_at};
 
 use crate::numbers::NODES;
+use memory_count::{Memory, NoMemory};
 use packet_header::FIRST_LIFE;
-use rpc_base::{Event, Fact, NoMemory, Who};
-use std::alloc::Global;
+use rpc_base::{Event, Fact, Who};
 
 /// The life of each node after the facts so far, by its number.
 #[derive(Drop)]
@@ -29,12 +31,15 @@ fn begun_life(event: &Event) -> Option<u32>
 }
 
 impl Lives {
-    /// Before any fact. `NoMemory` comes only where there is no memory for the lives.
-    pub fn new(alloc: Global) -> Result<Lives, NoMemory>
-        ensures { IfOk result (λ l. AreLives l.lives.items []) }
+    /// Before any fact. `NoMemory` comes only where memory for the lives was refused.
+    pub fn new(memory: &mut Memory) -> Result<Lives, NoMemory>
+        ensures none { IfOk result (λ l. AreLives l.lives.items []) }
+        ensures cause { HasCause memory.old memory.new result }
     {
-        let lives = Vec::from_elem(alloc, FIRST_LIFE, NODES)?;
-        Ok(Lives { lives })
+        match Vec::from_elem(memory.alloc(), FIRST_LIFE, NODES) {
+            Ok(lives) => Ok(Lives { lives }),
+            Err(refused) => memory.of(Err(refused)),
+        }
     }
 
     /// The life of the node whose fact is next, 0 of the network.

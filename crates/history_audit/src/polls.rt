@@ -3,11 +3,13 @@ ghost use Rattle.std.specs.Prelude.{ℕ, ◌≡◌, ◌==◌, ◌||◌, ◌&&◌
 ghost use Rattle.std.specs.Prelude.{List, OnOk, IfSome, IfNone, IsTrue, false};
 ghost use Rattle.front_laws.specs.Whole.{IsWhole, is_open};
 ghost use Rattle.history_audit.specs.OpenPolls.{AreOpen, is_among};
+ghost use Rattle.memory_count.specs.Faults.{HasCause};
 ghost use Rattle.rpc_base.specs.declared.fact.Fact.{Fact};
 ghost use Rattle.rpc_base.specs.declared.fact.Who.TheVariants.{Node, Net};
 
+use memory_count::{Memory, NoMemory};
 use node_audit::{ends_poll, is_polls};
-use rpc_base::{Fact, NoMemory, NodeId, Who};
+use rpc_base::{Fact, NodeId, Who};
 use std::alloc::Global;
 
 /// The nodes that are in the midst of a poll, after the facts so far.
@@ -35,12 +37,13 @@ fn is_among(node: u8, nodes: &[u8]) -> bool
 }
 
 // One more node.
-fn open(nodes: &mut Vec<u8>, node: u8) -> Result<(), NoMemory>
-    ensures { OnOk result ((n : ℕ) → is_among n nodes.new.items
+fn open(memory: &mut Memory, nodes: &mut Vec<u8>, node: u8) -> Result<(), NoMemory>
+    ensures more { OnOk result ((n : ℕ) → is_among n nodes.new.items
         ≡ (node == n || is_among n nodes.old.items)) }
+    ensures cause { HasCause memory.old memory.new result }
 {
     if !is_among(node, nodes.as_slice()) {
-        nodes.push(node)?;
+        memory.push(nodes, node)?;
     }
     Ok(())
 }
@@ -63,17 +66,18 @@ impl OpenPolls {
         }
     }
 
-    /// Takes note of the next fact. `NoMemory` comes only where there is no memory for one more
-    /// node.
-    pub fn note(&mut self, fact: &Fact) -> Result<(), NoMemory>
-        ensures { OnOk result ((h : List Fact) → AreOpen self.old.nodes.items h
+    /// Takes note of the next fact. `NoMemory` comes only where memory for one more node was
+    /// refused.
+    pub fn note(&mut self, memory: &mut Memory, fact: &Fact) -> Result<(), NoMemory>
+        ensures noted { OnOk result ((h : List Fact) → AreOpen self.old.nodes.items h
             → AreOpen self.new.nodes.items (h ++ fact.now ∷ [])) }
+        ensures cause { HasCause memory.old memory.new result }
     {
         let Some(node) = node_of(fact) else {
             return Ok(());
         };
         if is_polls(&fact.event) {
-            open(&mut self.nodes, node)?;
+            open(memory, &mut self.nodes, node)?;
         } else if ends_poll(&fact.event) {
             shut(&mut self.nodes, node);
         }

@@ -1,17 +1,18 @@
-//! The audit of a report. It is read once, a line at a time, and no fact is kept but by the auditor.
+//! The audit of a report. It is read once, a line at a time, and no fact is kept but by the
+//! auditor.
 ghost use Rattle.std.specs.Prelude.{ℕ, ◌≡◌, ◌+◌, ◌<◌, ◌^◌, ◌↔◌, List, IfOk, length};
-ghost use Rattle.history_audit.specs.Auditing.{IsNoReport, IsVerdict};
+ghost use Rattle.history_audit.specs.Auditing.{IsFault, IsNoReport, IsVerdict};
 ghost use Rattle.history_audit.specs.declared.fault.Fault.{Fault};
 ghost use Rattle.history_audit.specs.declared.verdict.Verdict.{Verdict};
 ghost use Rattle.history_audit.specs.Reading.{IsAudited, IsAuditedBelow, IsEnd};
+ghost use Rattle.memory_count.specs.Faults.{HasCause};
 ghost use Rattle.rpc_base.specs.declared.fact.Fact.{Fact};
 
 use crate::auditor::Auditor;
 use crate::fault::Fault;
 use crate::verdict::Verdict;
+use memory_count::{Memory, NoMemory};
 use report_reader::{below_head, is_end, next_line, read_fact};
-use rpc_base::NoMemory;
-use std::alloc::Global;
 
 /// What is known of bytes once they are read.
 #[derive(Drop)]
@@ -41,52 +42,60 @@ fn ended(auditor: Auditor, line: &[u8], after: &[u8]) -> Audited
 }
 
 // Reads the lines below the first one.
-fn audited_below(alloc: Global, text: &[u8]) -> Result<Audited, NoMemory>
+fn audited_below(memory: &mut Memory, text: &[u8]) -> Result<Audited, NoMemory>
     requires { length text.now < 2 ^ 63 }
-    ensures { IfOk result (IsAuditedBelow text.now) }
+    ensures audited { IfOk result (IsAuditedBelow text.now) }
+    ensures cause { HasCause memory.old memory.new result }
 {
     let mut text = text;
-    let mut auditor = Auditor::new(alloc)?;
+    let mut auditor = Auditor::new(memory)?;
     while let Some((line, after)) = next_line(text) {
-        let Some(fact) = read_fact(alloc, line)? else {
+        let Some(fact) = read_fact(memory, line)? else {
             return Ok(ended(auditor, line, after));
         };
-        auditor.note(alloc, &fact)?;
+        auditor.note(memory, &fact)?;
         text = after;
     }
     Ok(Audited::Bad(auditor.facts() + 2))
 }
 
 // Reads bytes.
-fn judged(alloc: Global, bytes: &[u8]) -> Result<Audited, NoMemory>
+fn judged(memory: &mut Memory, bytes: &[u8]) -> Result<Audited, NoMemory>
     requires { length bytes.now < 2 ^ 63 }
-    ensures { IfOk result (IsAudited bytes.now) }
+    ensures audited { IfOk result (IsAudited bytes.now) }
+    ensures cause { HasCause memory.old memory.new result }
 {
     let Some(text) = below_head(bytes) else {
         return Ok(Audited::Bad(1));
     };
-    audited_below(alloc, text)
+    audited_below(memory, text)
 }
 
 /// Says whether bytes are the report of a lawful history, and if not at which line they fail.
-/// `NoMemory` comes only where there is no memory for what is kept of the facts, or for a line.
-pub fn audit(alloc: Global, bytes: &[u8]) -> Result<Verdict, NoMemory>
+/// `NoMemory` comes only where memory for what is kept of the facts, or for a line, was refused.
+pub fn audit(memory: &mut Memory, bytes: &[u8]) -> Result<Verdict, NoMemory>
     ensures verdict { IfOk result (IsVerdict bytes.now) }
     ensures only { (v : Verdict) → IsVerdict bytes.now v → IfOk result (λ told. told ≡ v) }
+    ensures cause { HasCause memory.old memory.new result }
 {
-    match judged(alloc, bytes)? {
+    match judged(memory, bytes)? {
         Audited::Report(auditor) => Ok(auditor.verdict()),
         Audited::Bad(line) => Ok(Verdict::Unlawful { line }),
     }
 }
 
 /// Why bytes fail to be the report of a lawful history, for a user to read: `Unspelled` exactly
-/// where they are the report of no history; of the other faults no clause tells which it is.
-/// `NoMemory` comes only where there is no memory for what is kept of the facts, or for a line.
-pub fn fault_of(alloc: Global, bytes: &[u8]) -> Result<Fault, NoMemory>
-    ensures { IfOk result (λ fault. (fault ≡ Fault.Unspelled) ↔ IsNoReport bytes.now) }
+/// where they are the report of no history; `Unlawful` where some front, at whose end no node is in
+/// the midst of a poll, isn't lawful, with a claim that some first facts of the shortest of these
+/// break; and `Unended` where each such front is lawful, which it says of the report of a lawful
+/// history too.
+/// `NoMemory` comes only where memory for what is kept of the facts, or for a line, was refused.
+pub fn fault_of(memory: &mut Memory, bytes: &[u8]) -> Result<Fault, NoMemory>
+    ensures fault { IfOk result (IsFault bytes.now) }
+    ensures unspelled { IfOk result (λ fault. (fault ≡ Fault.Unspelled) ↔ IsNoReport bytes.now) }
+    ensures cause { HasCause memory.old memory.new result }
 {
-    match judged(alloc, bytes)? {
+    match judged(memory, bytes)? {
         Audited::Report(auditor) => Ok(auditor.fault()),
         Audited::Bad(_) => Ok(Fault::Unspelled),
     }

@@ -1,9 +1,11 @@
 //! What is kept of the facts so far, and whether the next one goes on lawfully.
-ghost use Rattle.std.specs.Prelude.{◌≡◌, ◌++◌, ◌∷◌, [], ◌↔◌, List, IsTrue, IfOk};
+ghost use Rattle.std.specs.Prelude.{◌≡◌, ◌++◌, ◌∷◌, [], ◌↔◌, List, IsTrue, IfOk, MatchOption};
+ghost use Rattle.history_audit.specs.Judged.{IsJudged};
 ghost use Rattle.history_audit.specs.OpenPolls.{AreOpen};
 ghost use Rattle.history_audit.specs.Nodes.{KeepsEach};
-ghost use Rattle.history_audit.specs.Tables.{HaveNoted, IsClaimed, IsFair, IsJudged, RunsAt};
-ghost use Rattle.history_audit.specs.Tables.{RunsOutside};
+ghost use Rattle.history_audit.specs.Tables.{HaveNoted, IsClaimed, IsFair, RunsAt, RunsOutside};
+ghost use Rattle.history_audit.specs.Wrong.{IsBroken};
+ghost use Rattle.memory_count.specs.Faults.{HasCause};
 ghost use Rattle.report_text.specs.Told.{IsTold};
 ghost use Rattle.rpc_base.specs.declared.fact.Fact.{Fact};
 
@@ -14,8 +16,8 @@ use crate::net::keeps_net;
 use crate::nodes::Nodes;
 use crate::polls::OpenPolls;
 use call_book::Book;
-use rpc_base::{Fact, NoMemory, NodeId, Who};
-use std::alloc::Global;
+use memory_count::{Memory, NoMemory};
+use rpc_base::{Fact, NodeId, Who};
 
 /// What is kept of the facts so far, to judge the next one by.
 #[derive(Drop)]
@@ -24,63 +26,42 @@ pub struct Tables {
     lives: Lives,
     rough: Roughness,
     book: Book,
-    wrong: Option<Wrong>,
-}
-
-// What is wrong where the facts of a fact's node are no run.
-fn broken_run(who: Who) -> Wrong {
-    match who {
-        Who::Node(node) => Wrong::Run(node),
-        Who::Net => Wrong::Net,
-    }
 }
 
 impl Tables {
-    /// Before any fact. `NoMemory` comes only where there is no memory for the nodes.
-    pub fn new(alloc: Global) -> Result<Tables, NoMemory>
-        ensures { IfOk result (λ t. HaveNoted t []) }
+    /// Before any fact. `NoMemory` comes only where memory for the nodes was refused.
+    pub fn new(memory: &mut Memory) -> Result<Tables, NoMemory>
+        ensures none { IfOk result (λ t. HaveNoted t []) }
+        ensures cause { HasCause memory.old memory.new result }
     {
-        let nodes = Nodes::new(alloc)?;
-        let lives = Lives::new(alloc)?;
+        let nodes = Nodes::new(memory)?;
+        let lives = Lives::new(memory)?;
         Ok(Tables {
             nodes,
             lives,
             rough: Roughness::new(),
-            book: Book::new(alloc),
-            wrong: None,
+            book: Book::new(memory.alloc()),
         })
     }
 
-    // Whether what is claimed at each fact is claimed still, where the next fact is this one.
-    fn keeps_claims(&self, fact: &Fact) -> bool
+    // Which claim is broken, where the next fact is this one; `None` where what is claimed at each
+    // fact is claimed still.
+    fn broken_claim(&self, fact: &Fact) -> Option<Wrong>
         ensures { (h : List Fact) → HaveNoted self.now h → IsClaimed h
-            → IsTrue result ↔ IsClaimed (h ++ fact.now ∷ []) }
+            → MatchOption result (IsClaimed (h ++ fact.now ∷ []))
+            (λ wrong. IsBroken wrong (h ++ fact.now ∷ [])) }
     {
         if !keeps_net(fact) {
-            return false;
+            return Some(Wrong::Net);
         }
         let life = self.lives.at(fact.who);
         if !self.book.keeps_own(fact, life) {
-            return false;
+            return Some(Wrong::Call);
         }
-        self.rough.keeps_fit(fact)
-    }
-
-    // Which claim this fact breaks, where it keeps not all of them.
-    fn broken_claim(&self, fact: &Fact) -> Wrong {
-        if !keeps_net(fact) {
-            return Wrong::Net;
+        if !self.rough.keeps_fit(fact) {
+            return Some(Wrong::Ring);
         }
-        if !self.book.keeps_own(fact, self.lives.at(fact.who)) {
-            return Wrong::Call;
-        }
-        Wrong::Ring
-    }
-
-    /// Why no history that begins with the facts so far is lawful; `None` where `note` didn't say
-    /// so.
-    pub fn wrong(&self) -> Option<Wrong> {
-        self.wrong
+        None
     }
 
     // Whether a node has noted its Made and a run, if it isn't in the midst of a poll.
@@ -94,38 +75,50 @@ impl Tables {
         self.nodes.is_run(node)
     }
 
-    // So it is asked of the node of the last fact.
-    fn keeps_run(&self, who: Who, polls: &OpenPolls) -> bool
+    // So it is asked of the node of the last fact: which run is broken, where one is.
+    fn broken_run(&self, who: Who, polls: &OpenPolls) -> Option<Wrong>
         ensures { (h : List Fact) → KeepsEach self.now.nodes.nodes h
-            → AreOpen polls.now.nodes.items h → IsTrue result ↔ RunsAt who h }
+            → AreOpen polls.now.nodes.items h
+            → MatchOption result (RunsAt who h) (λ wrong. IsBroken wrong h) }
     {
         match who {
-            Who::Node(node) => self.runs_outside(node, polls),
-            Who::Net => true,
+            Who::Node(node) => {
+                if self.runs_outside(node, polls) {
+                    None
+                } else {
+                    Some(Wrong::Run(node))
+                }
+            }
+            Who::Net => None,
         }
     }
 
     /// Takes note of the next fact of a history that is fair so far; the polls that are open are
-    /// those behind it. Whether the history is fair still: otherwise the tables are of no use any
-    /// more. `NoMemory` comes only where there is no memory for what the fact changes.
-    pub fn note(&mut self, alloc: Global, fact: &Fact, polls: &OpenPolls) -> Result<bool, NoMemory>
-        ensures { IfOk result (λ fair. (h : List Fact) → IsTold fact.now → HaveNoted self.old h
-            → AreOpen polls.now.nodes.items (h ++ fact.now ∷ []) → IsFair h
-            → IsJudged fair self.new (h ++ fact.now ∷ [])) }
+    /// those behind it. `None` where the history is fair still; otherwise the claim that it breaks,
+    /// and the tables are of no use any more. `NoMemory` comes only where memory for what the fact
+    /// changes was refused.
+    pub fn note(
+        &mut self,
+        memory: &mut Memory,
+        fact: &Fact,
+        polls: &OpenPolls,
+    ) -> Result<Option<Wrong>, NoMemory>
+        ensures judged { IfOk result (λ wrong. (h : List Fact) → IsTold fact.now
+            → HaveNoted self.old h → AreOpen polls.now.nodes.items (h ++ fact.now ∷ []) → IsFair h
+            → IsJudged wrong self.new (h ++ fact.now ∷ [])) }
+        ensures cause { HasCause memory.old memory.new result }
     {
-        if !self.keeps_claims(fact) {
-            self.wrong = Some(self.broken_claim(fact));
-            return Ok(false);
+        if let Some(wrong) = self.broken_claim(fact) {
+            return Ok(Some(wrong));
         }
-        self.nodes.note(alloc, fact)?;
-        if !self.keeps_run(fact.who, polls) {
-            self.wrong = Some(broken_run(fact.who));
-            return Ok(false);
+        self.nodes.note(memory, fact)?;
+        if let Some(wrong) = self.broken_run(fact.who, polls) {
+            return Ok(Some(wrong));
         }
         let life = self.lives.at(fact.who);
-        self.book.note(alloc, fact, life)?;
+        self.book.note(memory, fact, life)?;
         self.lives.note(fact);
         self.rough.note(fact);
-        Ok(true)
+        Ok(None)
     }
 }

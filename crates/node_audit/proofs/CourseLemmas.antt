@@ -1,8 +1,7 @@
 -- The course of a node, a fact later.
 use Rattle.std.proofs.Common.{◌≡◌, ◌≤◌, ◌+◌, ◌==◌, ℕ, Bool, true, false, List, [], ◌∷◌, ◌++◌, arith}
 use Rattle.std.proofs.Common.{refl, sym, ap, ◌∙◌, subst, append-nil, append_assoc, true≢false, eq-eqb, eqb-true}
-use Rattle.std.specs.Prelude.{◌↔◌, count_by, Result, Ok, Err, IfOk}
-use Rattle.rpc_base.specs.declared.event.Event.{Event}
+use Rattle.std.specs.Prelude.{◌↔◌, Result, Ok, Err, IfOk}
 use Rattle.rpc_base.specs.declared.event.Event.TheVariants.{Made, Restarted}
 use Rattle.rpc_base.specs.declared.fact.Fact.{Fact}
 use Rattle.rpc_laws.specs.declared.tables.Timed.{Timed}
@@ -15,21 +14,20 @@ use Rattle.rpc_laws.specs.Service.{plain_serving}
 use Rattle.rpc_laws.specs.Steps.{Chain, none}
 use Rattle.rpc_laws.specs.UsualLimits.{with_ring}
 use Rattle.rpc_outside.specs.PlainAnswer.{plain_mode}
-use Rattle.node_laws.specs.NodeRun.{Group, LifeRun, lives_on, NodeRun, restarts}
+use Rattle.node_laws.specs.NodeRun.{Group, LifeRun, lives_on, restarts}
 use Rattle.front_laws.specs.Laws.{NoneBegins}
 use Rattle.front_laws.specs.Whole.{ends_open}
 use Rattle.front_laws.proofs.CutLemmas.{open-append}
 use Rattle.front_laws.proofs.GroupLemmas.{run-shut}
 use Rattle.front_laws.proofs.RunFronts.{answers-front, count-front}
 use Rattle.front_laws.proofs.ToldLemmas.{chain-shut}
-use Rattle.world_laws.specs.NodeFacts.{IsRun, nowhere, Runs, runs}
+use Rattle.world_laws.specs.NodeFacts.{nowhere, Runs, runs}
 use Rattle.node_audit.specs.declared.course.Course.{Course}
-use Rattle.node_audit.specs.declared.groups.Groups.{Groups}
 use Rattle.node_audit.specs.Course.{IsBroken, IsGoing, KeepsCourse, LeadsTo, RunsFrom}
-use Rattle.node_audit.specs.Groups.{GoesOn, IsNew, KeepsGroups, left, NoGroups}
+use Rattle.node_audit.specs.Groups.{GoesOn, IsNew, KeepsGroups, left}
 use Rattle.node_audit.specs.Handled.{IsHandled, KeepsHandled}
 use Rattle.node_audit.proofs.GroupsLemmas.{new-next}
-use Rattle.node_audit.proofs.LifeLemmas.{chain-quiet, ended, life-stays, quiet-append, run-of, within}
+use Rattle.node_audit.proofs.LifeLemmas.{ended, life-stays, quiet-append, run-of, within}
 
 -- at its beginning nothing was handled
 nothing-handled : IsHandled []

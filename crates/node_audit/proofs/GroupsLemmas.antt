@@ -4,13 +4,11 @@ use Rattle.std.proofs.Common.{Option, Some, None, refl, sym, ap, ◌∙◌, subs
 use Rattle.std.proofs.Common.{arith, ne_eqb}
 use Rattle.std.specs.Prelude.{Result, Ok, Err, IfOk}
 use Rattle.std.proofs.lemmas.Bool.{and_parts}
-use Rattle.std.specs.List.{AllByRecursion}
 use Rattle.rpc_base.specs.declared.event.Event.{Event}
 use Rattle.rpc_base.specs.declared.event.Event.TheVariants.{Polled, Restarted}
 use Rattle.rpc_base.proofs.BasicLemmas.{not-true}
 use Rattle.rpc_base.specs.declared.fact.Fact.{Fact}
 use Rattle.rpc_laws.specs.declared.tables.Timed.{Timed}
-use Rattle.rpc_laws.specs.Endpoints.{begins_life}
 use Rattle.rpc_laws.specs.Facts.{plain}
 use Rattle.rpc_laws.specs.NodeLists.{after, new_lists, new_node}
 use Rattle.rpc_laws.specs.declared.tables.Lists.{Lists}
@@ -18,23 +16,21 @@ use Rattle.rpc_laws.specs.PollOrder.{Poll}
 use Rattle.rpc_laws.specs.Steps.{Chain, more, none}
 use Rattle.rpc_laws.specs.UsualLimits.{with_ring}
 use Rattle.rpc_outside.specs.PlainAnswer.{plain_mode}
-use Rattle.rpc_outside.specs.declared.service.Mode.{Mode}
 use Rattle.node_laws.specs.NodeRun.{Group, polls as is_poll}
 use Rattle.node_laws.specs.Valid.{Valid}
 use Rattle.node_laws.proofs.ValidLemmas.{valid_new}
-use Rattle.front_laws.specs.Laws.{IsOneGroup, NoneBegins}
-use Rattle.front_laws.specs.Told.{left_at, left_by, told_clock}
+use Rattle.front_laws.specs.Laws.{IsOneGroup}
 use Rattle.front_laws.specs.Whole.{ends_open, ends_poll, is_polls, open_after}
 use Rattle.front_laws.proofs.CutLemmas.{chain-valid, cut, early, late, open-append, two-ways, TwoWays}
 use Rattle.front_laws.proofs.GroupLemmas.{one-group, one-quiet}
-use Rattle.front_laws.proofs.PollFacts.{AllPolls, poll-ending}
-use Rattle.front_laws.proofs.ToldLemmas.{alone as kind_alone, chain-shut, chain-told, group-kind, IsQuiet}
+use Rattle.front_laws.proofs.PollFacts.{poll-ending}
+use Rattle.front_laws.proofs.ToldLemmas.{alone as kind_alone, chain-shut, chain-told, group-kind}
 use Rattle.front_laws.proofs.ToldLemmas.{Kind, poll as kind_poll, two as kind_two}
-use Rattle.node_rules.specs.SingleFacts.{at_clock, BeginsPolls, IsGroup}
+use Rattle.node_rules.specs.SingleFacts.{at_clock, IsGroup}
 use Rattle.node_audit.specs.declared.groups.Groups.{Groups}
 use Rattle.node_audit.specs.Groups.{alone as is_alone, begins, ends as is_over, EndsPoll, GoesOn, InPoll}
 use Rattle.poll_steps.specs.Polling.{IsPoll}
-use Rattle.node_audit.specs.Groups.{IsNew, KeepsGroups, left, no_poll, NoGroups, NotesAlone}
+use Rattle.node_audit.specs.Groups.{IsNew, KeepsGroups, left, no_poll, NotesAlone}
 
 -- a list that ends with a fact, in two parts
 pub last-parts : (f : Fact) (x a b : List Fact) → x ++ f ∷ [] ≡ a ++ b

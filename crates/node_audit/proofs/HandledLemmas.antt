@@ -1,8 +1,8 @@
 -- What was handled in a life, a fact later.
 use Rattle.std.proofs.Common.{◌≡◌, ℕ, ◌+◌, ◌%◌, ◌^◌, ◌==◌, ◌&&◌, Bool, true, false, cond, List, [], ◌∷◌, ◌++◌}
 use Rattle.std.proofs.Common.{refl, sym, ap, ◌∙◌, subst, arith, true≢false}
-use Rattle.std.specs.Prelude.{◌↔◌, sum_by, length, Result, Ok, Err, IfOk}
-use Rattle.std.proofs.Math.Nat.{mod-add-mod, mod-mod}
+use Rattle.std.specs.Prelude.{◌↔◌, sum_by, Result, Ok, Err, IfOk}
+use Rattle.std.proofs.Math.Nat.{mod-add-mod}
 use Rattle.std.proofs.lemmas.Bool.{and_parts, eqb-true}
 use Rattle.std.proofs.lemmas.List.Sums.{sum_by-append, sum_by-cons}
 use Rattle.rpc_base.specs.declared.event.Event.{Event}
@@ -10,10 +10,10 @@ use Rattle.rpc_base.specs.declared.event.Event.TheVariants.{Ran, Restarted}
 use Rattle.rpc_base.specs.declared.fact.Fact.{Fact}
 use Rattle.rpc_laws.specs.Service.{answer_with, Answers, AnswersAt, plain_serving, runs_inline}
 use Rattle.rpc_laws.specs.Service.{served_after, served_after_all, Serving}
-use Rattle.rpc_outside.specs.PlainAnswer.{added, background_answer, plain_answer, plain_mode, steady_answer, tally}
+use Rattle.rpc_outside.specs.PlainAnswer.{added, plain_answer, plain_mode}
 use Rattle.rpc_outside.specs.PlainAnswer.{total_of, total_with}
 use Rattle.rpc_outside.specs.Served.{Served}
-use Rattle.node_audit.specs.Handled.{IsHandled, KeepsHandled, total_after}
+use Rattle.node_audit.specs.Handled.{IsHandled, total_after}
 use Rattle.node_audit.specs.Worked.{WorkedOnce}
 
 -- the answers of the facts so far and of one more

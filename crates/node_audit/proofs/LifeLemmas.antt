@@ -1,17 +1,15 @@
 -- The lives of a run, cut where one begins.
-use Rattle.std.proofs.Common.{◌≡◌, ◌≤◌, ◌+◌, ℕ, Bool, true, false, cond, List, [], ◌∷◌, ◌++◌, arith}
-use Rattle.std.proofs.Common.{refl, sym, ap, ◌∙◌, subst, append-nil, append_assoc, true≢false}
-use Rattle.std.specs.List.{AllByRecursion}
+use Rattle.std.proofs.Common.{◌≡◌, ◌+◌, ℕ, true, false, List, [], ◌∷◌, ◌++◌}
+use Rattle.std.proofs.Common.{refl, sym, ap, ◌∙◌, subst, append-nil, true≢false}
 use Rattle.rpc_base.specs.declared.event.Event.{Event}
 use Rattle.rpc_base.specs.declared.event.Event.TheVariants.{Made, Polled, Restarted}
 use Rattle.rpc_base.specs.declared.fact.Fact.{Fact}
 use Rattle.rpc_base.specs.declared.limits.Limits.{Limits}
 use Rattle.rpc_laws.specs.declared.tables.Timed.{Timed}
-use Rattle.rpc_laws.specs.AtMostOnce.{works_request}
 use Rattle.rpc_laws.specs.Endpoints.{begins_life}
 use Rattle.rpc_laws.specs.Facts.{plain}
 use Rattle.rpc_laws.specs.Lives.{first_life}
-use Rattle.rpc_laws.specs.NodeLists.{after, new_lists, new_node}
+use Rattle.rpc_laws.specs.NodeLists.{after, new_node}
 use Rattle.rpc_laws.specs.Service.{plain_serving, Serving}
 use Rattle.rpc_laws.specs.Steps.{Chain, more, none}
 use Rattle.rpc_laws.specs.UsualLimits.{with_ring}
@@ -19,10 +17,10 @@ use Rattle.rpc_outside.specs.declared.service.Mode.{Mode}
 use Rattle.node_laws.specs.NodeRun.{Group, LifeRun, lives_on, NodeRun, restarts}
 use Rattle.front_laws.specs.Laws.{NoneBegins}
 use Rattle.front_laws.specs.Told.{left_at, left_by, told_clock}
-use Rattle.front_laws.specs.Whole.{ends_open, ends_poll, is_polls}
+use Rattle.front_laws.specs.Whole.{ends_poll, is_polls}
 use Rattle.front_laws.proofs.CutLemmas.{early, late, two-ways, TwoWays}
 use Rattle.front_laws.proofs.PollFacts.{AllPolls, poll-ending}
-use Rattle.front_laws.proofs.ToldLemmas.{alone, group-kind, IsQuiet, Kind, life-told, poll, two}
+use Rattle.front_laws.proofs.ToldLemmas.{alone, group-kind, Kind, life-told, poll, two}
 use Rattle.world_laws.specs.NodeFacts.{made_ring, nowhere, Runs, runs}
 
 -- no life begins in the facts of one

@@ -1,14 +1,15 @@
 //! Whether an answer is the plain service's: "The plain service" of docs/PROTOCOL.md.
 ghost use Rattle.std.specs.Prelude.{◌≡◌, ◌↔◌, IfOk, IsTrue, length, reverse};
 ghost use Rattle.byteorder.specs.Endian.{big_number};
+ghost use Rattle.memory_count.specs.Faults.{HasCause};
 ghost use Rattle.rpc_laws.specs.Service.{answer_with};
 ghost use Rattle.rpc_outside.specs.PlainAnswer.{added, counted, fill, steady_answer, tally};
 ghost use Rattle.rpc_outside.specs.PlainAnswer.{total_with};
 ghost use Rattle.node_audit.specs.Steady.{steady_kind};
 
 use byteorder::{BigEndian, ByteOrder};
-use rpc_base::{MOST_MESSAGE_BYTES, NoMemory};
-use std::alloc::Global;
+use memory_count::{Memory, NoMemory};
+use rpc_base::MOST_MESSAGE_BYTES;
 
 /// The types of the event loop.
 const ECHO: u8 = 1;
@@ -29,18 +30,20 @@ const FILL_BYTES: usize = 4;
 const IN_BACKGROUND: u8 = 128;
 
 // The request's own bytes from the last to the first.
-fn reversed(alloc: Global, ask: &[u8]) -> Result<Vec<u8>, NoMemory>
-    ensures { IfOk result (λ back. back.items ≡ reverse ask.now) }
+fn reversed(memory: &mut Memory, ask: &[u8]) -> Result<Vec<u8>, NoMemory>
+    ensures back { IfOk result (λ back. back.items ≡ reverse ask.now) }
+    ensures cause { HasCause memory.old memory.new result }
 {
-    let mut back = Vec::from_slice(alloc, ask)?;
+    let mut back = memory.copied(ask)?;
     back.as_mut_slice().reverse();
     Ok(back)
 }
 
-fn is_reversed(alloc: Global, ask: &[u8], answer: &[u8]) -> Result<bool, NoMemory>
-    ensures { IfOk result (λ b. IsTrue b ↔ (answer.now ≡ reverse ask.now)) }
+fn is_reversed(memory: &mut Memory, ask: &[u8], answer: &[u8]) -> Result<bool, NoMemory>
+    ensures answer { IfOk result (λ b. IsTrue b ↔ (answer.now ≡ reverse ask.now)) }
+    ensures cause { HasCause memory.old memory.new result }
 {
-    let back = reversed(alloc, ask)?;
+    let back = reversed(memory, ask)?;
     Ok(answer == back.as_slice())
 }
 
@@ -85,14 +88,15 @@ fn is_fill(ask: &[u8], answer: &[u8]) -> bool
 }
 
 // Echo, reverse or fill.
-fn is_steady(alloc: Global, kind: u8, ask: &[u8], answer: &[u8]) -> Result<bool, NoMemory>
-    ensures { IfOk result (λ b. IsTrue b ↔ (answer.now ≡ steady_answer kind ask.now)) }
+fn is_steady(memory: &mut Memory, kind: u8, ask: &[u8], answer: &[u8]) -> Result<bool, NoMemory>
+    ensures answer { IfOk result (λ b. IsTrue b ↔ (answer.now ≡ steady_answer kind ask.now)) }
+    ensures cause { HasCause memory.old memory.new result }
 {
     if kind == ECHO {
         return Ok(answer == ask);
     }
     if kind == REVERSE {
-        return is_reversed(alloc, ask, answer);
+        return is_reversed(memory, ask, answer);
     }
     if kind == FILL {
         return Ok(is_fill(ask, answer));
@@ -150,18 +154,20 @@ fn is_tally(total: u64, ask: &[u8], answer: &[u8]) -> bool
 }
 
 /// Whether an answer to a request of this type is the plain service's, where the tallies before it
-/// add up to this total.
+/// add up to this total. `NoMemory` comes only where memory to compare it was refused.
 pub fn is_answer(
-    alloc: Global,
+    memory: &mut Memory,
     total: u64,
     req_type: u8,
     ask: &[u8],
     answer: &[u8],
 ) -> Result<bool, NoMemory>
-    ensures { IfOk result (λ b. IsTrue b ↔ (answer.now ≡ answer_with total req_type ask.now)) }
+    ensures answer { IfOk result (λ b. IsTrue b
+        ↔ (answer.now ≡ answer_with total req_type ask.now)) }
+    ensures cause { HasCause memory.old memory.new result }
 {
     if req_type == TALLY {
         return Ok(is_tally(total, ask, answer));
     }
-    is_steady(alloc, steady_kind(req_type), ask, answer)
+    is_steady(memory, steady_kind(req_type), ask, answer)
 }

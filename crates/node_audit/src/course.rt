@@ -1,6 +1,7 @@
 //! A node from its making on, life after life.
 ghost use Rattle.std.specs.Prelude.{ℕ, ◌≡◌, ◌++◌, ◌∷◌, [], List, IfOk, IfSome, IfNone, IsTrue};
 ghost use Rattle.std.specs.Prelude.{◌+◌, ◌↔◌, ◌==◌, true, false};
+ghost use Rattle.memory_count.specs.Faults.{HasCause};
 ghost use Rattle.rpc_base.specs.declared.event.Event.TheVariants.{Made, Restarted};
 ghost use Rattle.rpc_base.specs.declared.fact.Fact.{Fact};
 ghost use Rattle.rpc_laws.specs.Endpoints.{begins_life};
@@ -10,8 +11,9 @@ ghost use Rattle.node_audit.specs.Course.{Begins, IsGoing};
 
 use crate::groups::Groups;
 use crate::handled::Handled;
+use memory_count::{Memory, NoMemory};
 use packet_header::{FIRST_LIFE, Life};
-use rpc_base::{Event, Fact, NoMemory, NodeId, Who};
+use rpc_base::{Event, Fact, NodeId, Who};
 use std::alloc::Global;
 
 /// How far a node has come: its groups, and what was handled, in its present life.
@@ -61,24 +63,26 @@ fn made_ring(fact: &Fact, me: NodeId) -> Option<u32>
 
 impl Course {
     /// That of a node whose first fact is this one. `None` comes exactly where that isn't its
-    /// making, and `NoMemory` only where there is no memory for its lists.
-    pub fn begin(alloc: Global, me: NodeId, fact: &Fact) -> Result<Option<Course>, NoMemory>
-        ensures { IfOk result (Begins me (fact.now ∷ [])) }
+    /// making, and `NoMemory` only where memory for its lists was refused.
+    pub fn begin(memory: &mut Memory, me: NodeId, fact: &Fact) -> Result<Option<Course>, NoMemory>
+        ensures begins { IfOk result (Begins me (fact.now ∷ [])) }
+        ensures cause { HasCause memory.old memory.new result }
     {
         let Some(ring) = made_ring(fact, me) else {
             return Ok(None);
         };
         Ok(Some(Course {
-            groups: Groups::new(alloc, me, Life(FIRST_LIFE), ring)?,
-            handled: Handled::new(alloc),
+            groups: Groups::new(memory, me, Life(FIRST_LIFE), ring)?,
+            handled: Handled::new(memory.alloc()),
         }))
     }
 
     // Takes note of a fact at which a life with this number begins.
-    fn restart(&mut self, alloc: Global, fact: &Fact, next: u32) -> Result<bool, NoMemory>
+    fn restart(&mut self, memory: &mut Memory, fact: &Fact, next: u32) -> Result<bool, NoMemory>
         requires { fact.now.event ≡ Restarted next }
-        ensures { IfOk result (λ b. (me : ℕ) (g : List Fact) → IsGoing true self.old me g
+        ensures goes { IfOk result (λ b. (me : ℕ) (g : List Fact) → IsGoing true self.old me g
             → IsGoing b self.new me (g ++ fact.now ∷ [])) }
+        ensures cause { HasCause memory.old memory.new result }
     {
         if !self.groups.is_shut() {
             return Ok(false);
@@ -87,34 +91,36 @@ impl Course {
         if !is_restart(fact, me, life) {
             return Ok(false);
         }
-        let groups = Groups::new(alloc, me, Life(next), ring)?;
+        let groups = Groups::new(memory, me, Life(next), ring)?;
         self.groups = groups;
-        self.handled.restart(alloc);
+        self.handled.restart(memory.alloc());
         Ok(true)
     }
 
     // Takes note of a fact of the present life.
-    fn go_on(&mut self, alloc: Global, fact: &Fact) -> Result<bool, NoMemory>
+    fn go_on(&mut self, memory: &mut Memory, fact: &Fact) -> Result<bool, NoMemory>
         requires { begins_life fact.now.event ≡ false }
-        ensures { IfOk result (λ b. (me : ℕ) (g : List Fact) → IsGoing true self.old me g
+        ensures goes { IfOk result (λ b. (me : ℕ) (g : List Fact) → IsGoing true self.old me g
             → IsGoing b self.new me (g ++ fact.now ∷ [])) }
+        ensures cause { HasCause memory.old memory.new result }
     {
-        if !self.handled.keeps(alloc, fact)? {
+        if !self.handled.keeps(memory, fact)? {
             return Ok(false);
         }
-        self.handled.note(fact)?;
-        self.groups.note(alloc, fact)
+        self.handled.note(memory, fact)?;
+        self.groups.note(memory, fact)
     }
 
     /// Takes note of the next fact: whether the facts so far are a run, and maybe the beginning of
-    /// a poll, still. `NoMemory` comes only where there is no memory for what they leave.
-    pub fn note(&mut self, alloc: Global, fact: &Fact) -> Result<bool, NoMemory>
-        ensures { IfOk result (λ b. (me : ℕ) (g : List Fact) → IsGoing true self.old me g
+    /// a poll, still. `NoMemory` comes only where memory for what they leave was refused.
+    pub fn note(&mut self, memory: &mut Memory, fact: &Fact) -> Result<bool, NoMemory>
+        ensures goes { IfOk result (λ b. (me : ℕ) (g : List Fact) → IsGoing true self.old me g
             → IsGoing b self.new me (g ++ fact.now ∷ [])) }
+        ensures cause { HasCause memory.old memory.new result }
     {
         match fact.event {
-            Event::Restarted { life } => self.restart(alloc, fact, life),
-            _ => self.go_on(alloc, fact),
+            Event::Restarted { life } => self.restart(memory, fact, life),
+            _ => self.go_on(memory, fact),
         }
     }
 }

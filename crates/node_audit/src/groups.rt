@@ -2,6 +2,7 @@
 ghost use Rattle.std.specs.Prelude.{ℕ, ◌≡◌, ◌++◌, ◌∷◌, [], List, IfOk, OnOk, IsTrue, IsFalse};
 ghost use Rattle.std.specs.Prelude.{◌↔◌, ◌==◌, ◌&&◌, not, true, length};
 ghost use Rattle.front_laws.specs.Whole.{ends_poll, is_polls};
+ghost use Rattle.memory_count.specs.Faults.{HasCause};
 ghost use Rattle.rpc_base.specs.declared.fact.Fact.{Fact};
 ghost use Rattle.rpc_laws.specs.Lives.{no_lives};
 ghost use Rattle.rpc_laws.specs.NodeLists.{new_lists, no_counts};
@@ -9,13 +10,13 @@ ghost use Rattle.rpc_laws.specs.UsualLimits.{with_ring};
 ghost use Rattle.node_audit.specs.Groups.{EndsPoll, GoesOn, IsNew, NotesAlone};
 
 use crate::kinds::{ends_poll, is_polls};
+use memory_count::{Memory, NoMemory};
 use node_rules::is_group;
 use node_tables::apply;
 use packet_header::Life;
 use poll_steps::poll;
-use rpc_base::{Event, Fact, Listed, NoMemory, NodeId, Octets, PEERS};
+use rpc_base::{Event, Fact, Listed, NodeId, Octets, PEERS};
 use rpc_laws::{Counted, Jobs, Lists};
-use std::alloc::Global;
 use std::mem;
 
 /// How many jobs a node of a script takes that aren't finished.
@@ -32,22 +33,35 @@ pub struct Groups {
     pending: Listed<Fact>,
 }
 
-fn copy(alloc: Global, fact: &Fact) -> Result<Fact, NoMemory>
-    ensures { IfOk result (λ other. other ≡ fact.now) }
+fn copied(memory: &mut Memory, fact: &Fact) -> Result<Fact, NoMemory>
+    ensures copy { IfOk result (λ other. other ≡ fact.now) }
+    ensures cause { HasCause memory.old memory.new result }
 {
     Ok(Fact {
         who: fact.who,
         event: fact.event,
-        first: Octets::copy(alloc, fact.first.bytes())?,
-        second: Octets::copy(alloc, fact.second.bytes())?,
+        first: Octets::from(memory.copied(fact.first.bytes())?),
+        second: Octets::from(memory.copied(fact.second.bytes())?),
     })
 }
 
-fn no_lives(alloc: Global) -> Result<Listed<Life>, NoMemory>
-    ensures { IfOk result (λ lives. lives ≡ no_lives) }
+// A fact is kept behind others.
+fn keep(memory: &mut Memory, facts: &mut Listed<Fact>, fact: &Fact) -> Result<(), NoMemory>
+    ensures kept { OnOk result (facts.new ≡ facts.old ++ fact.now ∷ []) }
+    ensures cause { HasCause memory.old memory.new result }
 {
-    let lives = Vec::from_elem(alloc, Life(0), PEERS)?;
-    Ok(Listed::from(lives))
+    let copy = copied(memory, fact)?;
+    memory.of(facts.push(copy))
+}
+
+fn no_lives(memory: &mut Memory) -> Result<Listed<Life>, NoMemory>
+    ensures lives { IfOk result (λ lives. lives ≡ no_lives) }
+    ensures cause { HasCause memory.old memory.new result }
+{
+    match Vec::from_elem(memory.alloc(), Life(0), PEERS) {
+        Ok(lives) => Ok(Listed::from(lives)),
+        Err(refused) => memory.of(Err(refused)),
+    }
 }
 
 fn no_counts() -> Counted
@@ -62,9 +76,12 @@ fn no_counts() -> Counted
 }
 
 // The lists of a node of a script as it is made or restarted.
-fn new_lists(alloc: Global, me: NodeId, life: Life, ring: u32) -> Result<Lists, NoMemory>
-    ensures { IfOk result (λ lists. lists ≡ new_lists me life (with_ring ring)) }
+fn new_lists(memory: &mut Memory, me: NodeId, life: Life, ring: u32) -> Result<Lists, NoMemory>
+    ensures lists { IfOk result (λ lists. lists ≡ new_lists me life (with_ring ring)) }
+    ensures cause { HasCause memory.old memory.new result }
 {
+    let known = no_lives(memory)?;
+    let alloc = memory.alloc();
     Ok(Lists {
         me,
         life,
@@ -72,7 +89,7 @@ fn new_lists(alloc: Global, me: NodeId, life: Life, ring: u32) -> Result<Lists, 
         timeout: USUAL_TIMEOUT,
         asked: 0,
         server_numbers: 0,
-        known: no_lives(alloc)?,
+        known,
         counts: no_counts(),
         ring: Listed::new(alloc),
         inbox: Listed::new(alloc),
@@ -90,14 +107,15 @@ fn new_lists(alloc: Global, me: NodeId, life: Life, ring: u32) -> Result<Lists, 
 
 impl Groups {
     /// A node of a script as it is made or restarted, with a ring of so many places. `NoMemory`
-    /// comes only where there is no memory for its lists.
-    pub fn new(alloc: Global, me: NodeId, life: Life, ring: u32) -> Result<Groups, NoMemory>
-        ensures { IfOk result (λ groups. IsNew groups me life ring) }
+    /// comes only where memory for its lists was refused.
+    pub fn new(memory: &mut Memory, me: NodeId, life: Life, ring: u32) -> Result<Groups, NoMemory>
+        ensures new { IfOk result (λ groups. IsNew groups me life ring) }
+        ensures cause { HasCause memory.old memory.new result }
     {
         Ok(Groups {
-            lists: new_lists(alloc, me, life, ring)?,
+            lists: new_lists(memory, me, life, ring)?,
             clock: 0,
-            pending: Listed::new(alloc),
+            pending: Listed::new(memory.alloc()),
         })
     }
 
@@ -124,22 +142,24 @@ impl Groups {
     }
 
     // Whether a fact outside of a poll is a group of its own.
-    fn note_alone(&mut self, alloc: Global, fact: &Fact) -> Result<bool, NoMemory>
-        ensures { IfOk result (NotesAlone self.old fact.now self.new) }
+    fn note_alone(&mut self, memory: &mut Memory, fact: &Fact) -> Result<bool, NoMemory>
+        ensures alone { IfOk result (NotesAlone self.old fact.now self.new) }
+        ensures cause { HasCause memory.old memory.new result }
     {
-        if !is_group(&self.lists, fact)? {
+        if !is_group(&self.lists, fact) {
             return Ok(false);
         }
-        apply(alloc, &mut self.lists, self.clock, fact)?;
+        apply(memory, &mut self.lists, self.clock, fact)?;
         Ok(true)
     }
 
     // Whether the facts of the open poll are one.
-    fn end_poll(&mut self, alloc: Global) -> Result<bool, NoMemory>
-        ensures { IfOk result (EndsPoll self.old self.new) }
+    fn end_poll(&mut self, memory: &mut Memory) -> Result<bool, NoMemory>
+        ensures ends { IfOk result (EndsPoll self.old self.new) }
+        ensures cause { HasCause memory.old memory.new result }
     {
-        let facts = mem::replace(&mut self.pending, Listed::new(alloc));
-        let Some(now) = poll(alloc, &mut self.lists, self.clock, facts.as_slice())? else {
+        let facts = mem::replace(&mut self.pending, Listed::new(memory.alloc()));
+        let Some(now) = poll(memory, &mut self.lists, self.clock, facts.as_slice())? else {
             return Ok(false);
         };
         self.clock = now;
@@ -147,19 +167,20 @@ impl Groups {
     }
 
     /// Takes note of the next fact of the life: whether the facts so far are groups, and maybe the
-    /// beginning of a poll, still. `NoMemory` comes only where there is no memory for what they
-    /// leave.
-    pub fn note(&mut self, alloc: Global, fact: &Fact) -> Result<bool, NoMemory>
-        ensures { IfOk result (λ b. (me life ring : ℕ) (x : List Fact)
+    /// beginning of a poll, still. `NoMemory` comes only where memory for what they leave was
+    /// refused.
+    pub fn note(&mut self, memory: &mut Memory, fact: &Fact) -> Result<bool, NoMemory>
+        ensures goes { IfOk result (λ b. (me life ring : ℕ) (x : List Fact)
             → GoesOn true self.old me life ring x
             → GoesOn b self.new me life ring (x ++ fact.now ∷ [])) }
+        ensures cause { HasCause memory.old memory.new result }
     {
         if self.is_alone(&fact.event) {
-            return self.note_alone(alloc, fact);
+            return self.note_alone(memory, fact);
         }
-        self.pending.push(copy(alloc, fact)?)?;
+        keep(memory, &mut self.pending, fact)?;
         if ends_poll(&fact.event) {
-            return self.end_poll(alloc);
+            return self.end_poll(memory);
         }
         Ok(true)
     }

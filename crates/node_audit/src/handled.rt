@@ -1,5 +1,6 @@
 //! What was handled in a life of a node: the jobs that were worked, and the tallies.
 ghost use Rattle.std.specs.Prelude.{◌≡◌, ◌++◌, ◌∷◌, [], ◌↔◌, List, IsTrue, IfOk, OnOk};
+ghost use Rattle.memory_count.specs.Faults.{HasCause};
 ghost use Rattle.rpc_base.specs.declared.fact.Fact.{Fact};
 ghost use Rattle.rpc_laws.specs.Service.{plain_serving, AnswersAt};
 ghost use Rattle.rpc_outside.specs.PlainAnswer.{total_of};
@@ -8,7 +9,8 @@ ghost use Rattle.node_audit.specs.Handled.{IsHandled, KeepsHandled, total_after}
 
 use crate::answers::{is_answer, total_with};
 use crate::worked::WorkedJobs;
-use rpc_base::{Event, Fact, NoMemory};
+use memory_count::{Memory, NoMemory};
+use rpc_base::{Event, Fact};
 use std::alloc::Global;
 
 /// The jobs that were worked, and the total of the tallies modulo 2^64.
@@ -30,15 +32,16 @@ fn total_after(total: u64, fact: &Fact) -> u64
 }
 
 // Whether the answer that a fact tells, where it tells one, is the plain service's.
-fn has_answer(alloc: Global, total: u64, fact: &Fact) -> Result<bool, NoMemory>
-    ensures { IfOk result (λ b. (served : Served) → total ≡ total_of served
+fn has_answer(memory: &mut Memory, total: u64, fact: &Fact) -> Result<bool, NoMemory>
+    ensures answer { IfOk result (λ b. (served : Served) → total ≡ total_of served
         → IsTrue b ↔ AnswersAt plain_serving served fact.now.event fact.now.first
         fact.now.second) }
+    ensures cause { HasCause memory.old memory.new result }
 {
     match fact.event {
         Event::Ran { req_type, .. } => {
             is_answer(
-                alloc,
+                memory,
                 total,
                 req_type,
                 fact.first.bytes(),
@@ -69,23 +72,25 @@ impl Handled {
     }
 
     /// Whether no job is worked twice and each answer is the plain service's still, where the next
-    /// fact of the life is this one. `NoMemory` comes only where there is no memory to compare an
-    /// answer.
-    pub fn keeps(&self, alloc: Global, fact: &Fact) -> Result<bool, NoMemory>
-        ensures { IfOk result (λ b. (x : List Fact) → KeepsHandled self.now x → IsHandled x
+    /// fact of the life is this one. `NoMemory` comes only where memory to compare an answer was
+    /// refused.
+    pub fn keeps(&self, memory: &mut Memory, fact: &Fact) -> Result<bool, NoMemory>
+        ensures keeps { IfOk result (λ b. (x : List Fact) → KeepsHandled self.now x → IsHandled x
             → IsTrue b ↔ IsHandled (x ++ fact.now ∷ [])) }
+        ensures cause { HasCause memory.old memory.new result }
     {
-        let answered = has_answer(alloc, self.total, fact)?;
+        let answered = has_answer(memory, self.total, fact)?;
         Ok(self.worked.keeps_once(fact) && answered)
     }
 
-    /// Takes note of the next fact of the life. `NoMemory` comes only where there is no memory for
-    /// one more job.
-    pub fn note(&mut self, fact: &Fact) -> Result<(), NoMemory>
-        ensures { OnOk result ((x : List Fact) → KeepsHandled self.old x
+    /// Takes note of the next fact of the life. `NoMemory` comes only where memory for one more job
+    /// was refused.
+    pub fn note(&mut self, memory: &mut Memory, fact: &Fact) -> Result<(), NoMemory>
+        ensures noted { OnOk result ((x : List Fact) → KeepsHandled self.old x
             → KeepsHandled self.new (x ++ fact.now ∷ [])) }
+        ensures cause { HasCause memory.old memory.new result }
     {
-        self.worked.note(fact)?;
+        self.worked.note(memory, fact)?;
         self.total = total_after(self.total, fact);
         Ok(())
     }

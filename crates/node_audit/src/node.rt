@@ -1,5 +1,6 @@
 //! Whether the facts of one node are its making and then a run.
 ghost use Rattle.std.specs.Prelude.{ℕ, ◌≡◌, ◌++◌, ◌∷◌, [], ◌↔◌, false, List, IfOk, OnOk, IsTrue};
+ghost use Rattle.memory_count.specs.Faults.{HasCause};
 ghost use Rattle.rpc_base.specs.declared.fact.Fact.{Fact};
 ghost use Rattle.front_laws.specs.Whole.{ends_open};
 ghost use Rattle.world_laws.specs.NodeFacts.{Runs};
@@ -7,8 +8,8 @@ ghost use Rattle.node_audit.specs.Course.{KeepsCourse};
 ghost use Rattle.node_audit.specs.Kept.{Keeps, StandsAt};
 
 use crate::course::Course;
-use rpc_base::{Fact, NoMemory, NodeId};
-use std::alloc::Global;
+use memory_count::{Memory, NoMemory};
+use rpc_base::{Fact, NodeId};
 use std::mem;
 
 /// How far a node has come.
@@ -29,21 +30,23 @@ pub struct NodeAudit {
     state: State,
 }
 
-fn after_first(alloc: Global, node: NodeId, fact: &Fact) -> Result<State, NoMemory>
-    ensures { IfOk result (λ new. StandsAt new node (fact.now ∷ [])) }
+fn after_first(memory: &mut Memory, node: NodeId, fact: &Fact) -> Result<State, NoMemory>
+    ensures stands { IfOk result (λ new. StandsAt new node (fact.now ∷ [])) }
+    ensures cause { HasCause memory.old memory.new result }
 {
-    match Course::begin(alloc, node, fact)? {
+    match Course::begin(memory, node, fact)? {
         Some(course) => Ok(State::Goes(course)),
         None => Ok(State::Broken),
     }
 }
 
-fn after_next(alloc: Global, course: Course, fact: &Fact) -> Result<State, NoMemory>
-    ensures { IfOk result (λ new. (n : ℕ) (g : List Fact) → KeepsCourse course n g
+fn after_next(memory: &mut Memory, course: Course, fact: &Fact) -> Result<State, NoMemory>
+    ensures stands { IfOk result (λ new. (n : ℕ) (g : List Fact) → KeepsCourse course n g
         → StandsAt new n (g ++ fact.now ∷ [])) }
+    ensures cause { HasCause memory.old memory.new result }
 {
     let mut course = course;
-    if course.note(alloc, fact)? {
+    if course.note(memory, fact)? {
         Ok(State::Goes(course))
     } else {
         Ok(State::Broken)
@@ -51,13 +54,14 @@ fn after_next(alloc: Global, course: Course, fact: &Fact) -> Result<State, NoMem
 }
 
 // What the next fact makes of a state.
-fn after(alloc: Global, node: NodeId, state: State, fact: &Fact) -> Result<State, NoMemory>
-    ensures { IfOk result (λ new. (g : List Fact) → StandsAt state node g
+fn after(memory: &mut Memory, node: NodeId, state: State, fact: &Fact) -> Result<State, NoMemory>
+    ensures stands { IfOk result (λ new. (g : List Fact) → StandsAt state node g
         → StandsAt new node (g ++ fact.now ∷ [])) }
+    ensures cause { HasCause memory.old memory.new result }
 {
     match state {
-        State::Unmade => after_first(alloc, node, fact),
-        State::Goes(course) => after_next(alloc, course, fact),
+        State::Unmade => after_first(memory, node, fact),
+        State::Goes(course) => after_next(memory, course, fact),
         State::Broken => Ok(State::Broken),
     }
 }
@@ -73,14 +77,15 @@ impl NodeAudit {
         }
     }
 
-    /// Takes note of the next fact of the node. `NoMemory` comes only where there is no memory for
-    /// what it leaves; the audit is of no use then.
-    pub fn note(&mut self, alloc: Global, fact: &Fact) -> Result<(), NoMemory>
-        ensures { OnOk result ((n : ℕ) (g : List Fact) → Keeps self.old n g
+    /// Takes note of the next fact of the node. `NoMemory` comes only where memory for what it
+    /// leaves was refused; the audit is of no use then.
+    pub fn note(&mut self, memory: &mut Memory, fact: &Fact) -> Result<(), NoMemory>
+        ensures noted { OnOk result ((n : ℕ) (g : List Fact) → Keeps self.old n g
             → Keeps self.new n (g ++ fact.now ∷ [])) }
+        ensures cause { HasCause memory.old memory.new result }
     {
         let state = mem::replace(&mut self.state, State::Broken);
-        self.state = after(alloc, self.node, state, fact)?;
+        self.state = after(memory, self.node, state, fact)?;
         Ok(())
     }
 

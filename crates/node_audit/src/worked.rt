@@ -1,10 +1,12 @@
 //! Whether each background job of a life of a node is worked once.
 ghost use Rattle.std.specs.Prelude.{◌≡◌, ◌++◌, ◌∷◌, [], ◌↔◌, List, IsTrue, OnOk, OnErr};
+ghost use Rattle.memory_count.specs.Faults.{HasCause};
 ghost use Rattle.node_audit.specs.Worked.{AreWorked, is_new, WorkedOnce};
 ghost use Rattle.rpc_base.specs.declared.fact.Fact.{Fact};
 
-use rpc_base::{Event, Fact, NoMemory};
-use std::alloc::Global;
+use memory_count::{Memory, NoMemory};
+use rpc_base::{Event, Fact};
+use std::alloc::{AllocError, Global};
 use std::collections::HashSet;
 
 /// The jobs that were worked in a life of a node so far, each by its session and request.
@@ -43,16 +45,20 @@ impl WorkedJobs {
         self.is_new(&fact.event)
     }
 
-    /// Takes note of the next fact of the life. `NoMemory` comes only where there is no memory for
-    /// one more job, and then nothing changed.
-    pub fn note(&mut self, fact: &Fact) -> Result<(), NoMemory>
+    /// Takes note of the next fact of the life. `NoMemory` comes only where memory for one more job
+    /// was refused, and then nothing changed.
+    pub fn note(&mut self, memory: &mut Memory, fact: &Fact) -> Result<(), NoMemory>
         ensures noted { OnOk result ((g : List Fact) → AreWorked self.old.jobs.keys g
             → AreWorked self.new.jobs.keys (g ++ fact.now ∷ [])) }
         ensures unchanged { OnErr result (self.new.jobs.keys ≡ self.old.jobs.keys) }
+        ensures cause { HasCause memory.old memory.new result }
     {
-        if let Event::Worked { session, request } = &fact.event {
-            self.jobs.insert((session.0, request.get()))?;
+        let Event::Worked { session, request } = &fact.event else {
+            return Ok(());
+        };
+        match self.jobs.insert((session.0, request.get())) {
+            Ok(_) => Ok(()),
+            Err(failed) => memory.of(Err(AllocError::from(failed))),
         }
-        Ok(())
     }
 }

@@ -1,6 +1,5 @@
 use Rattle.std.proofs.Common.{ap, inl, inr, refl, sym, ◌∙◌, ℕ, ◌+◌}
 use Rattle.poll_steps.proofs.HearLemmas.{no-items, some-items}
-use Rattle.rpc_base.specs.declared.fact.Fact.{Fact}
 use Rattle.report_reader.specs.Lines.{end_line}
 use Rattle.history_audit.proofs.report.ended.Goals as goal
 

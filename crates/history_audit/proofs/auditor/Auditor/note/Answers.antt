@@ -4,14 +4,14 @@ use Rattle.history_audit.specs.OpenPolls.{AreOpen}
 use Rattle.history_audit.specs.declared.polls.OpenPolls.{OpenPolls}
 use Rattle.history_audit.proofs.auditor.Auditor.note.Goals as goal
 
-pub returns : goal.returns
-returns c = λ h told read.
+pub returns-clause-noted : goal.returns-clause-noted
+returns-clause-noted c = λ h told read.
     let f = c.args.fact.now in
     let g = h ++ f ∷ [] in
-    let busy = c.in_ok-note.ensures h read.polls in
+    let busy = c.in_ok-note.ensures.noted h read.polls in
     let counted = ap (λ (n : ℕ). n + 1) read.counted ∙ sym (longer h f) in
     record {
-      polls = subst (λ (p : OpenPolls). AreOpen p.nodes.items g) (sym c.in_ok-self.ensures.polls) busy;
-      counted = c.in_ok-self.ensures.facts ∙ counted;
-      finds = c.in_ok-self.ensures.finds h told busy counted read.finds;
+      polls = subst (λ (p : OpenPolls). AreOpen p.nodes.items g) (sym c.in_ok-find.ensures.polls) busy;
+      counted = c.in_ok-find.ensures.facts ∙ counted;
+      finds = c.in_ok-find.ensures.finds h told busy counted read.finds;
     }

@@ -17,5 +17,5 @@ returns-in-Doomed c = λ bytes h is read.
 pub returns-in-Unlawful : goal.returns-in-Unlawful
 returns-in-Unlawful c = λ bytes h is read.
     let t = c.args.self.now.tables in
-    verdict-first bytes t h c.in-Unlawful.line is
+    verdict-first bytes t h c.in-Unlawful.line _ is
     (subst (λ (x : Finding). Finds t x h) c.in-Unlawful.is read.finds)

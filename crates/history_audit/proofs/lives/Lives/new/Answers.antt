@@ -1,5 +1,5 @@
 use Rattle.history_audit.proofs.LivesLemmas.{lives-none}
 use Rattle.history_audit.proofs.lives.Lives.new.Goals as goal
 
-pub returns : goal.returns
-returns c = lives-none c.in_ok-lives.lives.items (c.in_ok-lives.ensures.items_if_clones_equal (λ y e. e))
+pub returns-in-Ok-clause-none : goal.returns-in-Ok-clause-none
+returns-in-Ok-clause-none c = lives-none c.in-Ok.lives.items (c.in-Ok.ensures.items_if_clones_equal (λ y e. e))

@@ -2,8 +2,8 @@ use Rattle.std.proofs.Common.{refl, ◌∙◌}
 use Rattle.node_audit.proofs.GroupsLemmas.{ends-by, ends-none}
 use Rattle.node_audit.proofs.groups.Groups.end_poll.Goals as goal
 
-pub returns-in_default : goal.returns-in_default
-returns-in_default c =
+pub returns-in_default-clause-ends : goal.returns-in_default-clause-ends
+returns-in_default-clause-ends c =
     ends-none c.args.self.now
     (record {
       lists = c.poll.new.lists;
@@ -11,10 +11,10 @@ returns-in_default c =
       pending = c.replace-facts.new.dest;
     })
     c.as_slice.result.now c.poll.new.lists c.in_ok-now.field-0
-    (c.as_slice.ensures ∙ c.replace-facts.ensures.value) c.in_ok-now.ensures c.in_default.is
+    (c.as_slice.ensures ∙ c.replace-facts.ensures.value) c.in_ok-now.ensures.poll c.in_default.is
 
-pub returns : goal.returns
-returns c =
+pub returns-clause-ends : goal.returns-clause-ends
+returns-clause-ends c =
     ends-by c.args.self.now
     (record {
       lists = c.poll.new.lists;
@@ -22,4 +22,4 @@ returns c =
       pending = c.replace-facts.new.dest;
     })
     c.as_slice.result.now c.in_ok-now.field-0 c.in-Some.now (c.as_slice.ensures ∙ c.replace-facts.ensures.value)
-    c.in_ok-now.ensures c.in-Some.is refl (c.replace-facts.ensures.after ∙ c.new.ensures)
+    c.in_ok-now.ensures.poll c.in-Some.is refl (c.replace-facts.ensures.after ∙ c.new.ensures)
