@@ -2,11 +2,11 @@
 //! stands beside them; others have a line that no report has, or lack one.
 #![tactic(auto)]
 
+use memory_count::{Memory, NoMemory};
 use picture_svg::{Layout, Svg};
 use report_reader::{Reading, read_report};
-use rpc_base::{Fact, NoMemory};
+use rpc_base::Fact;
 use sequence_picture::draw;
-use std::alloc::Global;
 use std::rt::Files;
 use std::{fs, io};
 
@@ -46,15 +46,15 @@ fn no_memory(_lack: NoMemory) -> io::Error {
 }
 
 // The picture of a history.
-fn picture_of(alloc: Global, facts: &[Fact]) -> io::Result<String> {
-    let drawn = draw(alloc, facts).map_err(no_memory)?;
-    let layout = Layout::new(alloc, facts).map_err(no_memory)?;
+fn picture_of(memory: &mut Memory, facts: &[Fact]) -> io::Result<String> {
+    let drawn = draw(memory, facts).map_err(no_memory)?;
+    let layout = Layout::new(memory, facts).map_err(no_memory)?;
     let svg = Svg {
         facts,
         drawn: drawn.as_slice(),
         layout: &layout,
     };
-    Ok(format!(in alloc; "{svg}")?)
+    Ok(format!(in memory.alloc(); "{svg}")?)
 }
 
 // Whether the picture of a report of the folder is the one beside it.
@@ -62,9 +62,10 @@ fn is_drawn<H: Files + AllocGlobal + Copy + Drop>(rt: H, name: &str) -> io::Resu
     let alloc = rt.alloc();
     let report = fs::read(&rt, format!(in alloc; "{name}.report")?.as_str())?;
     let wanted = fs::read_to_string(&rt, format!(in alloc; "{name}.svg")?.as_str())?;
-    match read_report(alloc, report.as_slice()).map_err(no_memory)? {
+    let memory = &mut Memory::new(alloc);
+    match read_report(memory, report.as_slice()).map_err(no_memory)? {
         Reading::Whole(facts) => {
-            let picture = picture_of(alloc, facts.as_slice())?;
+            let picture = picture_of(memory, facts.as_slice())?;
             Ok(picture.as_str() == wanted.as_str())
         }
         Reading::Bad(_) => Ok(false),
@@ -72,16 +73,16 @@ fn is_drawn<H: Files + AllocGlobal + Copy + Drop>(rt: H, name: &str) -> io::Resu
 }
 
 // Whether a text is a report of so many facts.
-fn is_whole(alloc: Global, text: &str, count: usize) -> io::Result<bool> {
-    match read_report(alloc, text.as_bytes()).map_err(no_memory)? {
+fn is_whole(memory: &mut Memory, text: &str, count: usize) -> io::Result<bool> {
+    match read_report(memory, text.as_bytes()).map_err(no_memory)? {
         Reading::Whole(facts) => Ok(facts.len() == count),
         Reading::Bad(_) => Ok(false),
     }
 }
 
 // Whether this line of a text is the first that no report has.
-fn is_bad(alloc: Global, text: &str, line: u64) -> io::Result<bool> {
-    match read_report(alloc, text.as_bytes()).map_err(no_memory)? {
+fn is_bad(memory: &mut Memory, text: &str, line: u64) -> io::Result<bool> {
+    match read_report(memory, text.as_bytes()).map_err(no_memory)? {
         Reading::Whole(_) => Ok(false),
         Reading::Bad(bad) => Ok(bad == line),
     }
@@ -96,15 +97,15 @@ fn tell(rt: &impl Print, name: &str, outcome: io::Result<bool>) -> io::Result<()
 }
 
 fn main(rt: HostRuntime) -> io::Result<()> {
-    let alloc = rt.alloc();
+    let memory = &mut Memory::new(rt.alloc());
     for name in PICTURES {
         tell(&rt, name, is_drawn(rt, name))?;
     }
     for (text, count) in WHOLE {
-        tell(&rt, "a whole report", is_whole(alloc, text, count))?;
+        tell(&rt, "a whole report", is_whole(memory, text, count))?;
     }
     for (text, line) in BAD {
-        tell(&rt, "a bad line", is_bad(alloc, text, line))?;
+        tell(&rt, "a bad line", is_bad(memory, text, line))?;
     }
     Ok(())
 }

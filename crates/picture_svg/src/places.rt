@@ -1,7 +1,9 @@
 //! Where on the page facts and nodes stand, in pixels.
-use rpc_base::{Event, Fact, NoMemory, NodeId, Who};
+ghost use Rattle.memory_count.specs.Faults.{HasCause};
+
+use memory_count::{Memory, NoMemory};
+use rpc_base::{Event, Fact, NodeId, Who};
 use sequence_picture::is_marked;
-use std::alloc::Global;
 
 /// From the left edge to the first lane, and from the last lane to the right edge.
 const MARGIN: u32 = 310;
@@ -66,15 +68,17 @@ fn lanes_of(fact: &Fact) -> u32 {
 impl Layout {
     /// Lays the facts of a history out. `NoMemory` comes only where there is no memory for a place
     /// of each.
-    pub fn new(alloc: Global, facts: &[Fact]) -> Result<Layout, NoMemory> {
-        let mut tops = Vec::with_capacity(alloc, facts.len())?;
+    pub fn new(memory: &mut Memory, facts: &[Fact]) -> Result<Layout, NoMemory>
+        ensures cause { HasCause memory.old memory.new result }
+    {
+        let mut tops = memory.list(facts.len())?;
         let mut bottom = TOP;
         let mut lanes: u32 = 1;
         for fact in facts {
             if let Event::Ticked { .. } = &fact.event {
                 bottom = bottom.saturating_add(TIME_ROOM);
             }
-            tops.push(bottom)?;
+            memory.push(&mut tops, bottom)?;
             bottom = bottom.saturating_add(height(fact));
             lanes = lanes.max(lanes_of(fact));
         }

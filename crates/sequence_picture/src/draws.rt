@@ -1,5 +1,6 @@
 //! From a history to what its picture shows.
 ghost use Rattle.std.specs.Prelude.{◌≡◌, ◌<◌, ◌++◌, length, map, IfOk, OnOk};
+ghost use Rattle.memory_count.specs.Faults.{HasCause};
 ghost use Rattle.rpc_base.specs.declared.event.Event.{Event};
 ghost use Rattle.sequence_picture.specs.Copies.{AllJoin};
 ghost use Rattle.sequence_picture.specs.Drawing.{carried_end, drawing, flying, things_at};
@@ -9,8 +10,8 @@ use crate::arrival::arrives_at;
 use crate::marks::is_marked;
 use crate::things::{Drawn, End, Track};
 use crate::tracks::follow;
-use rpc_base::{Event, Fact, Listed, NoMemory, Who};
-use std::alloc::Global;
+use memory_count::{Memory, NoMemory};
+use rpc_base::{Event, Fact, Listed, Who};
 
 // How a copy of the datagram that was sent at `sent` ends where the fact at `place` carries it.
 fn carried_end(facts: &[Fact], sent: usize, place: usize) -> End
@@ -26,6 +27,7 @@ fn carried_end(facts: &[Fact], sent: usize, place: usize) -> End
 
 // Draws the carried copy, if there is one.
 fn show_carried(
+    memory: &mut Memory,
     facts: &[Fact],
     place: usize,
     copy: u32,
@@ -33,37 +35,42 @@ fn show_carried(
     drawn: &mut Listed<Drawn>,
 ) -> Result<(), NoMemory>
     requires { place < length facts.now }
-    ensures { OnOk result (drawn.new ≡ drawn.old
+    ensures drawn { OnOk result (drawn.new ≡ drawn.old
         ++ things_of_net facts.now place (Event.Carried copy) tracks.now) }
+    ensures cause { HasCause memory.old memory.new result }
 {
     let copy = copy as usize;
     if copy < tracks.len() {
         let track = *tracks.at(copy);
-        drawn.push(Drawn::Copy(track, carried_end(facts, track.sent, place)))?;
+        let end = carried_end(facts, track.sent, place);
+        memory.of(drawn.push(Drawn::Copy(track, end)))?;
     }
     Ok(())
 }
 
 // Draws the lost copy, if there is one.
 fn show_lost(
+    memory: &mut Memory,
     facts: &[Fact],
     place: usize,
     copy: u32,
     tracks: &Listed<Track>,
     drawn: &mut Listed<Drawn>,
 ) -> Result<(), NoMemory>
-    ensures { OnOk result (drawn.new ≡ drawn.old
+    ensures drawn { OnOk result (drawn.new ≡ drawn.old
         ++ things_of_net facts.now place (Event.Lost copy) tracks.now) }
+    ensures cause { HasCause memory.old memory.new result }
 {
     let copy = copy as usize;
     if copy < tracks.len() {
-        drawn.push(Drawn::Copy(*tracks.at(copy), End::Lost(place)))?;
+        memory.of(drawn.push(Drawn::Copy(*tracks.at(copy), End::Lost(place))))?;
     }
     Ok(())
 }
 
 // Draws what a fact of the network shows.
 fn show_net(
+    memory: &mut Memory,
     facts: &[Fact],
     place: usize,
     event: &Event,
@@ -71,33 +78,41 @@ fn show_net(
     drawn: &mut Listed<Drawn>,
 ) -> Result<(), NoMemory>
     requires { place < length facts.now }
-    ensures { OnOk result (drawn.new ≡ drawn.old
+    ensures drawn { OnOk result (drawn.new ≡ drawn.old
         ++ things_of_net facts.now place event.now tracks.now) }
+    ensures cause { HasCause memory.old memory.new result }
 {
     if let Event::Carried { copy } = event {
-        return show_carried(facts, place, *copy, tracks, drawn);
+        return show_carried(memory, facts, place, *copy, tracks, drawn);
     }
     if let Event::Lost { copy } = event {
-        return show_lost(facts, place, *copy, tracks, drawn);
+        return show_lost(memory, facts, place, *copy, tracks, drawn);
     }
     if let Event::Ticked { .. } = event {
-        drawn.push(Drawn::Mark(place))?;
+        memory.of(drawn.push(Drawn::Mark(place)))?;
     }
     Ok(())
 }
 
 // Draws what a fact of a node shows.
-fn show_node(place: usize, event: &Event, drawn: &mut Listed<Drawn>) -> Result<(), NoMemory>
-    ensures { OnOk result (drawn.new ≡ drawn.old ++ things_of_node place event.now) }
+fn show_node(
+    memory: &mut Memory,
+    place: usize,
+    event: &Event,
+    drawn: &mut Listed<Drawn>,
+) -> Result<(), NoMemory>
+    ensures drawn { OnOk result (drawn.new ≡ drawn.old ++ things_of_node place event.now) }
+    ensures cause { HasCause memory.old memory.new result }
 {
     if is_marked(event) {
-        drawn.push(Drawn::Mark(place))?;
+        memory.of(drawn.push(Drawn::Mark(place)))?;
     }
     Ok(())
 }
 
 // Draws what the fact at this place shows.
 fn show(
+    memory: &mut Memory,
     facts: &[Fact],
     place: usize,
     fact: &Fact,
@@ -105,36 +120,43 @@ fn show(
     drawn: &mut Listed<Drawn>,
 ) -> Result<(), NoMemory>
     requires { place < length facts.now }
-    ensures { OnOk result (drawn.new ≡ drawn.old ++ things_at facts.now place fact.now tracks.now) }
+    ensures drawn { OnOk result (drawn.new ≡ drawn.old ++ things_at facts.now place fact.now tracks.now) }
+    ensures cause { HasCause memory.old memory.new result }
 {
     match fact.who {
-        Who::Node(_) => show_node(place, &fact.event, drawn),
-        Who::Net => show_net(facts, place, &fact.event, tracks, drawn),
+        Who::Node(_) => show_node(memory, place, &fact.event, drawn),
+        Who::Net => show_net(memory, facts, place, &fact.event, tracks, drawn),
     }
 }
 
 // Draws what is in flight at the end.
-fn show_flying(tracks: &[Track], drawn: &mut Listed<Drawn>) -> Result<(), NoMemory>
-    ensures { OnOk result (drawn.new ≡ drawn.old ++ map flying tracks.now) }
+fn show_flying(
+    memory: &mut Memory,
+    tracks: &[Track],
+    drawn: &mut Listed<Drawn>,
+) -> Result<(), NoMemory>
+    ensures drawn { OnOk result (drawn.new ≡ drawn.old ++ map flying tracks.now) }
+    ensures cause { HasCause memory.old memory.new result }
 {
     for track in tracks {
-        drawn.push(Drawn::Copy(*track, End::Flying))?;
+        memory.of(drawn.push(Drawn::Copy(*track, End::Flying)))?;
     }
     Ok(())
 }
 
 /// What the picture of a history shows, in the order of its facts, and last what is in flight at
 /// its end. `NoMemory` comes only where there is no memory for it.
-pub fn draw(alloc: Global, facts: &[Fact]) -> Result<Listed<Drawn>, NoMemory>
+pub fn draw(memory: &mut Memory, facts: &[Fact]) -> Result<Listed<Drawn>, NoMemory>
     ensures drawn { IfOk result (λ drawn. drawn ≡ drawing facts.now) }
     ensures joins { IfOk result (AllJoin facts.now) }
+    ensures cause { HasCause memory.old memory.new result }
 {
-    let mut tracks = Listed::new(alloc);
-    let mut drawn = Listed::new(alloc);
+    let mut tracks = Listed::new(memory.alloc());
+    let mut drawn = Listed::new(memory.alloc());
     for (place, fact) in facts.iter().enumerate() {
-        show(facts, place, fact, &tracks, &mut drawn)?;
-        follow(place, fact, &mut tracks)?;
+        show(memory, facts, place, fact, &tracks, &mut drawn)?;
+        follow(memory, place, fact, &mut tracks)?;
     }
-    show_flying(tracks.as_slice(), &mut drawn)?;
+    show_flying(memory, tracks.as_slice(), &mut drawn)?;
     Ok(drawn)
 }

@@ -10,8 +10,8 @@ pub returns-clause-joins : goal.returns-clause-joins
 returns-clause-joins c =
     let all : c.loop-place.place ≡ length c.args.facts.now = omega arith in
     let whole = draw-end c.args.facts.now c.loop-place.place c.loop-place.tracks c.loop-place.drawn
-    all c.loop-place.invariant in
+    all c.loop-place.invariant.0 in
     let is : c.show_flying.new.drawn ≡ drawing c.args.facts.now =
-    c.in_ok-show_flying.ensures
+    c.in_ok-show_flying.ensures.drawn
     ∙ (ap (λ (ts : List Track). c.loop-place.drawn ++ map flying ts) c.as_slice.ensures ∙ whole) in
     subst (AllJoin c.args.facts.now) (sym is) (drawing-joins c.args.facts.now)

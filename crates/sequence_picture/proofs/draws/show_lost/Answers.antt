@@ -2,7 +2,7 @@ use Rattle.sequence_picture.specs.Drawing.{lost}
 use Rattle.sequence_picture.proofs.DrawLemmas.{nothing-more}
 use Rattle.sequence_picture.proofs.draws.show_lost.Goals as goal
 
-pub returns-else-copy-len : goal.returns-else-copy-len
-returns-else-copy-len c =
+pub returns-else-copy-len-clause-drawn : goal.returns-else-copy-len-clause-drawn
+returns-else-copy-len-clause-drawn c =
     nothing-more (lost c.args.place) c.args.tracks.now c.len.result c.args.copy c.args.drawn.now
     c.len.ensures c.if-copy-len.false
