@@ -21,7 +21,7 @@ pub enum AuditLine {
 fn write_lone<K: Sink>(sink: &mut K, word: Word, number: u64) -> Result<(), Failed>
     ensures { Prints (K.page sink.old) (K.page sink.new) result (lone_text word number) }
 {
-    write_counts(sink, &[Count { word, number }])
+    write_counts(sink, &[Count::of(word, number)])
 }
 
 /// Writes the line of an audit: `lawful FACTS`, `unlawful LINE` or `toolong`. It takes no memory.

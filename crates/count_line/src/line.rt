@@ -1,5 +1,5 @@
 //! A line of counts.
-ghost use Rattle.std.specs.Prelude.{◌++◌, codes};
+ghost use Rattle.std.specs.Prelude.{◌≡◌, ◌++◌, codes};
 ghost use Rattle.std.specs.Fmt.{decimal};
 ghost use Rattle.count_line.specs.Line.{counts_text, line_text, word_text};
 ghost use Rattle.rpc_outside.specs.Writing.{Prints};
@@ -13,6 +13,15 @@ use rpc_outside::{Failed, Sink, write_all};
 pub struct Count {
     pub word: Word,
     pub number: u64,
+}
+
+impl Count {
+    /// A word, and the count behind it.
+    pub fn of(word: Word, number: u64) -> Count
+        ensures { result ≡ record { word = word; number = number } }
+    {
+        Count { word, number }
+    }
 }
 
 fn write_word<K: Sink>(sink: &mut K, word: &Word) -> Result<(), Failed>

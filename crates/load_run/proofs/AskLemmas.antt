@@ -3,14 +3,14 @@ use Rattle.std.proofs.Common.{◌≡◌, ◌⊎◌, inl, inr, ℕ, suc, ◌+◌,
 use Rattle.std.proofs.Common.{List, [], ◌++◌, ltb, le-ltb, refl, sym, subst, ◌∙◌, arith}
 use Rattle.std.specs.Prelude.{Err}
 use Rattle.rpc_outside.specs.Recording.{Log}
-use Rattle.endpoint_node.specs.Asks.{IsAskedAs, refusal_of}
-use Rattle.endpoint_node.specs.Lacks.{lacks_for}
-use Rattle.endpoint_node.specs.declared.node.calls.AskError.{AskError}
-use Rattle.endpoint_node.specs.declared.node.calls.AskError.TheVariants.{NoMemory}
-use Rattle.endpoint_node.specs.declared.node.calls.Refused.{Refused}
-use Rattle.endpoint_node.specs.Notes.{Makes}
-use Rattle.endpoint_node.specs.Seen.{asking}
-use Rattle.endpoint_node.proofs.NoteEnds.{makes-as, makes-join}
+use Rattle.node_steps.specs.Asks.{IsAskedAs, refusal_of}
+use Rattle.node_steps.specs.Lacks.{lacks_for}
+use Rattle.node_steps.specs.declared.refusals.AskError.{AskError}
+use Rattle.node_steps.specs.declared.refusals.AskError.TheVariants.{NoMemory}
+use Rattle.node_steps.specs.declared.refusals.Refused.{Refused}
+use Rattle.node_steps.specs.Notes.{Makes}
+use Rattle.node_steps.specs.Seen.{asking}
+use Rattle.node_steps.proofs.NoteEnds.{makes-as, makes-join}
 use Rattle.load_plan.specs.Calls.{Calls, asked_bytes, room_of}
 use Rattle.load_run.specs.Loading.{AsksCalls, AsksNext, Keeps, LoadsSoFar, Passes, pending_in}
 use Rattle.load_run.proofs.PassLemmas.{passes-none, passes-then}

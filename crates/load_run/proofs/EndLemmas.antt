@@ -3,7 +3,8 @@ use Rattle.std.proofs.Common.{◌≡◌, ◌≢◌, ◌⊎◌, ℕ, suc, ◌+◌
 use Rattle.std.proofs.Common.{refl, sym, subst, ◌∙◌, inl, inr, arith}
 use Rattle.std.specs.Prelude.{◌==◌, ◌&&◌}
 use Rattle.std.proofs.lemmas.Bool.{eq-eqb, eqb-true}
-use Rattle.load_run.specs.Loading.{Answers, HasLoaded, LoadsOn, LoadsSoFar, LoadsTurns, TurnsEnd}
+use Rattle.load_run.specs.Loading.{Answers, HasLoadedOnce, LoadsOn, LoadsSoFar, LoadsTurns}
+use Rattle.load_run.specs.Loading.{TurnsEnd}
 use Rattle.load_run.specs.Loading.{Prints, UnlessFailed, UnlessNoMemory, calls_line, going_at}
 use Rattle.load_run.specs.Loading.{is_clean, is_over, state_in, unasked}
 use Rattle.load_run.proofs.TurnLemmas.{loads-none, loads-then}
@@ -107,7 +108,7 @@ module _ {L C R : Type 0} (o : Outside L C R) where
 
   module _ (a b c : At) (many : ℕ) (turns : LoadsTurns o many a b)
       (quiet : faults b ≡ faults a) where
-    further : HasLoaded o b c → Does 1 b c → LoadsTurns o (suc many) a c
+    further : HasLoadedOnce o b c → Does 1 b c → LoadsTurns o (suc many) a c
     further one turn =
         let next : many + 1 ≡ suc many = omega arith in
         record {
@@ -121,7 +122,7 @@ module _ {L C R : Type 0} (o : Outside L C R) where
     -- a turn with which the run is over
     pub ends-with : (told : Status)
         → Answers (faults b) (faults c) c.run (Over told)
-        → UnlessNoMemory (Over told) (HasLoaded o b c)
+        → UnlessNoMemory (Over told) (HasLoadedOnce o b c)
         → UnlessFailed (Over told) (Does 1 b c) → TurnsEnd told o a c
     ends-with LinkFault (inl h) one turn = rises h.1
     ends-with LinkFault (inr (same, inl e)) one turn = cc
@@ -182,7 +183,7 @@ module _ {L C R : Type 0} (o : Outside L C R) where
       (goes : GoesOnBy o.log b.run.endpoint c.run.endpoint b.edges.rec c.edges.rec) where
     pub some-more : (going : Going) → going ≡ On
         → Answers (failures b) (failures c) c.run going
-        → UnlessNoMemory going (HasLoaded o b c) → UnlessFailed going (One b c)
+        → UnlessNoMemory going (HasLoadedOnce o b c) → UnlessFailed going (One b c)
         → GoesSome o a c
     some-more (Over told) e answers one turn = cc
     some-more On e answers one turn =
@@ -202,7 +203,7 @@ module _ {L C R : Type 0} (o : Outside L C R) where
 
     pub some-ends : (told : Status)
         → Answers (failures b) (failures c) c.run (Over told)
-        → UnlessNoMemory (Over told) (HasLoaded o b c)
+        → UnlessNoMemory (Over told) (HasLoadedOnce o b c)
         → UnlessFailed (Over told) (One b c)
         → TurnsEnd told o a c
     some-ends told answers one turn =

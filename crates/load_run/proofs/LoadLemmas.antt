@@ -5,12 +5,12 @@ use Rattle.std.proofs.Common.{◌∙◌, arith}
 use Rattle.std.specs.Prelude.{option_map}
 use Rattle.rpc_outside.specs.Writing.{Written}
 use Rattle.command_line.specs.Words.{LoadWords}
-use Rattle.endpoint_node.specs.Notes.{is_asked, sent_of}
-use Rattle.endpoint_node.proofs.NoteSteps.{sent-append}
-use Rattle.endpoint_node.proofs.NoteCounts.{many-append}
+use Rattle.node_steps.specs.Notes.{is_asked, sent_of}
+use Rattle.node_steps.proofs.NoteSteps.{sent-append}
+use Rattle.node_steps.proofs.NoteCounts.{many-append}
 use Rattle.load_plan.specs.Calls.{Calls}
 use Rattle.load_run.specs.declared.tally.Tally.{Tally}
-use Rattle.load_run.specs.Loading.{HasLoaded, HasRun, Loads, LoadsSoFar, LoadsTurns, NotesRun}
+use Rattle.load_run.specs.Loading.{HasLoadedOnce, HasRun, Loads, LoadsSoFar, LoadsTurns, NotesRun}
 use Rattle.load_run.specs.Loading.{Prints, StartsAs}
 use Rattle.rpc_turns.specs.Chains.{Turns}
 use Rattle.rpc_turns.specs.Moments.{Edges, Moment, Outside, where_at}
@@ -59,7 +59,7 @@ module _ {L C R : Type 0} (o : Outside L C R) (words : LoadWords) (old : Edges L
         mid = mid;
         start = start;
         starts = starts;
-        each = subst (λ n. Turns (HasLoaded o) n (where_at start via old.clock mid) last) all
+        each = subst (λ n. Turns (HasLoadedOnce o) n (where_at start via old.clock mid) last) all
             turns.each;
         over = λ on. let both : Over told ≡ On = sym e ∙ on in cc;
         plan = counts.plan ∙ starts.plan;
@@ -71,7 +71,7 @@ module _ {L C R : Type 0} (o : Outside L C R) (words : LoadWords) (old : Edges L
           in_life = on.runs.goes.lives limits starts.noted starts.stands ∙ starts.life;
           stands = on.runs.goes.goes_on limits starts.noted starts.stands;
           sends = on.runs.sends limits starts.noted starts.stands
-              ∙ ap (option_map (λ ds. ds ++ sent_of on.runs.goes.noted)) starts.sent
+              ∙ ap (option_map (λ ds. ds ++ sent_of on.runs.goes.noted)) starts.traffic.sent
               ∙ ap (λ x. option_map (λ ds. ds ++ x) (o.net.sent old.link))
               (sym (sent-append starts.noted on.runs.goes.noted
               ∙ ap (λ x. x ++ sent_of on.runs.goes.noted) starts.sends));

@@ -4,8 +4,8 @@ use Rattle.std.proofs.Common.{add-zero, ap, ap₂, append-nil, append_assoc, ari
 use Rattle.std.specs.List.{filter, range_with_len}
 use Rattle.std.proofs.lemmas.List.Elements.{filter-append}
 use Rattle.std.proofs.lemmas.List.FromFn.{map-range_with_len_more}
-use Rattle.endpoint_node.specs.Notes.{asked_in, is_asked}
-use Rattle.endpoint_node.proofs.NoteCounts.{many-append, many-cons}
+use Rattle.node_steps.specs.Notes.{asked_in, is_asked}
+use Rattle.node_steps.proofs.NoteCounts.{many-append, many-cons}
 use Rattle.load_plan.specs.Calls.{Calls}
 use Rattle.load_run.specs.Loading.{AsksInOrder, ask_noted}
 use Rattle.node_laws.proofs.Allowed.{Leads}

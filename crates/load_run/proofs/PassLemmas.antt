@@ -6,20 +6,20 @@ use Rattle.std.specs.Prelude.{◌==◌}
 use Rattle.std.proofs.Common.{◌+◌, ◌≤◌, add-zero, ap, ap₂, le-ltb, arith, length, refl, sym, subst, ◌∙◌}
 use Rattle.std.specs.List.{find}
 use Rattle.endpoint_loop.specs.PlainMembers.{plain_members}
-use Rattle.endpoint_node.specs.Jobs.{staff_of}
+use Rattle.node_steps.specs.Jobs.{staff_of}
 use Rattle.rpc_outside.specs.Recording.{Log}
 use Rattle.endpoint_loop.specs.Endpoints.{Leaves}
-use Rattle.endpoint_node.specs.Notes.{Makes, asked_in, is_asked, is_end_event, sent_by, sent_of}
+use Rattle.node_steps.specs.Notes.{Makes, asked_in, is_asked, is_end_event, sent_by, sent_of}
 use Rattle.endpoint_loop.specs.Endpoints.{asks_of, told}
-use Rattle.endpoint_node.specs.Seen.{asking}
-use Rattle.endpoint_node.proofs.PacketCrew.{staffed-still}
-use Rattle.endpoint_node.proofs.NoteEnds.{ends-append, me-goes, no_asks}
+use Rattle.node_steps.specs.Seen.{asking}
+use Rattle.node_steps.proofs.PacketCrew.{staffed-still}
+use Rattle.node_steps.proofs.NoteEnds.{ends-append, me-goes, no_asks}
 use Rattle.endpoint_loop.proofs.PollLaw.{still-answers}
 use Rattle.endpoint_loop.proofs.StandingLaw.{is_labour, life-more, me-more, none-ran}
 use Rattle.endpoint_loop.proofs.StandingLaw.{none-worked, stands-more}
-use Rattle.endpoint_node.proofs.NoteStill.{AllStill, Stills, still-by, still-none}
-use Rattle.endpoint_node.proofs.NoteCounts.{many-append, many-none}
-use Rattle.endpoint_node.proofs.NoteSteps.{sent-append}
+use Rattle.node_steps.proofs.NoteStill.{AllStill, Stills, still-by, still-none}
+use Rattle.node_steps.proofs.NoteCounts.{many-append, many-none}
+use Rattle.node_steps.proofs.NoteSteps.{sent-append}
 use Rattle.load_plan.specs.Calls.{Calls, asked_bytes, room_of}
 use Rattle.load_run.specs.Loading.{AsksInOrder, Passes, ask_noted}
 use Rattle.load_run.proofs.OrderLemmas.{asked-stands, order-none, order-then}

@@ -8,7 +8,7 @@ use Rattle.client_core.specs.Shown.{done_event, done_fact, end_bytes, end_event}
 use Rattle.client_core.specs.declared.outcome.Done.{Done}
 use Rattle.client_core.specs.declared.outcome.Outcome.{Outcome}
 use Rattle.client_core.specs.declared.outcome.Outcome.TheVariants.{Ok, TooSmall, PeerLost}
-use Rattle.endpoint_node.specs.Notes.{is_end, is_end_event}
+use Rattle.node_steps.specs.Notes.{is_end, is_end_event}
 use Rattle.load_plan.specs.Calls.{Calls, is_right}
 use Rattle.load_run.specs.declared.ledger.Ledger.{Ledger}
 use Rattle.load_run.specs.declared.tally.Ending.{Ending}

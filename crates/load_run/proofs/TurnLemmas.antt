@@ -1,20 +1,20 @@
 -- Turns of a run, each prepared and then made.
-use Rattle.std.proofs.Common.{◌≡◌, ◌≢◌, ℕ, ◌+◌, Option}
+use Rattle.std.proofs.Common.{◌≡◌, ◌≢◌, ℕ, ◌+◌, ◌≤◌, Option}
 use Rattle.std.proofs.Common.{[], ◌∷◌, ◌++◌, map, refl, sym, ap, subst, ◌∙◌, arith}
 use Rattle.std.proofs.Common.{append-nil}
 use Rattle.std.proofs.Common.{add-zero}
 use Rattle.std.specs.Prelude.{option_map, Result, Ok, Err, OnOk, OnErr}
 use Rattle.rpc_outside.specs.Recording.{Log}
 use Rattle.client_core.specs.Shown.{done_fact}
-use Rattle.endpoint_node.specs.Changes.{Change}
-use Rattle.endpoint_node.specs.Notes.{asked_in, is_asked, sent_of}
+use Rattle.node_steps.specs.Changes.{Change}
+use Rattle.node_steps.specs.Notes.{asked_in, is_asked, sent_of}
 use Rattle.endpoint_loop.specs.PlainMembers.{plain_members}
 use Rattle.endpoint_loop.specs.declared.endpoint.poll.Turn.{Turn}
-use Rattle.endpoint_node.proofs.NoteSteps.{sent-append, took-none}
-use Rattle.endpoint_node.proofs.NoteCounts.{many-append}
+use Rattle.node_steps.proofs.NoteSteps.{sent-append, took-none}
+use Rattle.node_steps.proofs.NoteCounts.{many-append}
 use Rattle.load_run.specs.declared.ledger.Ledger.{Ledger}
-use Rattle.load_run.specs.Loading.{HasLoaded, Keeps, LoadsOn, LoadsSoFar, Passes, Prepares}
-use Rattle.load_run.specs.Loading.{PreparesIn, end_at, rested_by}
+use Rattle.load_run.specs.Loading.{HasLoaded, HasLoadedOnce, Keeps, LoadsOn, LoadsSoFar, Passes}
+use Rattle.load_run.specs.Loading.{Prepares, PreparesIn, end_at, rested_by}
 use Rattle.load_run.specs.Loading.{UnlessFailed, UnlessNoMemory}
 use Rattle.load_run.specs.Tallies.{Counts}
 use Rattle.load_run.proofs.OrderLemmas.{order-none, order-then}
@@ -156,7 +156,7 @@ counted-or (Err e) P lost made some none = absurd (some none)
 -- and what is known of it, by the run that was prepared
 module _ {L C R : Type 0} (o : Outside L C R) (old : Moment LoadsSoFar L C R)
     (ready shown : LoadsSoFar) (mid : R) (edges : Edges L C R) (next : End) (rest : Rest)
-    (counted : Ledger) (none ended : Ended) (memory : Change ℕ)
+    (counted : Ledger) (none ended : Ended)
     (same : shown ≡ ready) (keeps : Keeps old.run ready) (empty : KeepsAll none []) where
   abbrev after : LoadsSoFar → Moment LoadsSoFar L C R
   after s = record {
@@ -167,12 +167,13 @@ module _ {L C R : Type 0} (o : Outside L C R) (old : Moment LoadsSoFar L C R)
   abbrev then_edges : Edges L C R
   then_edges = record old.edges { rec = mid }
 
-  pub has-loaded : (told : Option Turn) → Prepares o.log old.run ready old.edges.rec mid
+  pub has-loaded : (told : Option Turn) (memory within : Change ℕ) → memory.old ≤ within.old
+      → within.new ≤ memory.new → Prepares o.log old.run ready old.edges.rec mid
       → TakesTurn plain_members crew_members o KeepsAll told
       (rested_by shown.endpoint shown.rest then_edges) (rested_by next rest edges) none ended
-      memory → (ended.memory ≡ 0 → Counts (map (done_fact 0) ended.dones.items) shown.ledger counted)
-      → HasLoaded o old (after shown)
-  has-loaded told prepares takes counts = record {
+      within → (ended.memory ≡ 0 → Counts (map (done_fact 0) ended.dones.items) shown.ledger counted)
+      → HasLoaded o old (after shown) memory
+  has-loaded told memory within begins ends prepares takes counts = record {
     ready = ready;
     mid = mid;
     prepares = prepares;
@@ -181,9 +182,11 @@ module _ {L C R : Type 0} (o : Outside L C R) (old : Moment LoadsSoFar L C R)
     none = none;
     none_over = empty;
     ended = ended;
-    memory = memory;
+    within = within;
+    begins = begins;
+    ends = ends;
     takes = subst (λ (s : LoadsSoFar). TakesTurn plain_members crew_members o KeepsAll told
-        (rested_by s.endpoint s.rest then_edges) (rested_by next rest edges) none ended memory)
+        (rested_by s.endpoint s.rest then_edges) (rested_by next rest edges) none ended within)
         same takes;
     counts = λ kept.
         subst (λ (s : LoadsSoFar). Counts (map (done_fact 0) ended.dones.items) s.ledger counted)
@@ -214,6 +217,14 @@ pub unless-wanting : (going : Going) (P : Type 0) → P → UnlessNoMemory going
 unless-wanting (Over NoMemory) P p = tt
 unless-wanting (Over _) P p = p
 unless-wanting On P p = p
+
+-- a turn was made while memory was refused however often
+pub unless-once : {L C R : Type 0} (o : Outside L C R) (old new : Moment LoadsSoFar L C R)
+    (memory : Change ℕ) (going : Going) → UnlessNoMemory going (HasLoaded o old new memory)
+    → UnlessNoMemory going (HasLoadedOnce o old new)
+unless-once o old new memory (Over NoMemory) one = tt
+unless-once o old new memory (Over _) one = (memory, one)
+unless-once o old new memory On one = (memory, one)
 
 pub unless-failed : (going : Going) (P : Type 0) → P → UnlessFailed going P
 unless-failed (Over NoMemory) P p = tt

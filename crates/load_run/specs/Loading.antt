@@ -1,16 +1,16 @@
 -- A run of a client.
 use Rattle.std.specs.Prelude.{◌≡◌, ◌≢◌, ℕ, ◌+◌, ◌-◌, ◌<◌, ◌≤◌, ◌==◌, ◌&&◌, ◌⊎◌, Bool, true, false}
-use Rattle.std.specs.Prelude.{Option, IfSome}
+use Rattle.std.specs.Prelude.{Option}
 use Rattle.std.specs.Prelude.{if◌then◌else◌, List, [], ◌∷◌, map}
 use Rattle.std.specs.List.{filter, find, range_with_len}
 use Rattle.client_core.specs.Shown.{done_fact}
 use Rattle.count_line.specs.declared.word.Word.TheVariants as word
 use Rattle.count_line.specs.Line.{line_text}
 use Rattle.endpoint_loop.specs.declared.endpoint.poll.Turn.{Turn}
-use Rattle.endpoint_node.specs.Changes.{Change}
-use Rattle.endpoint_node.specs.Notes.{Makes, asked_in, is_asked, is_end, sent_of}
+use Rattle.node_steps.specs.Changes.{Change}
+use Rattle.node_steps.specs.Notes.{Makes, asked_in, is_asked, is_end, sent_of}
 use Rattle.endpoint_loop.specs.PlainMembers.{plain_members}
-use Rattle.endpoint_node.specs.Status.{pending_told}
+use Rattle.node_steps.specs.Status.{pending_told}
 use Rattle.command_line.specs.Words.{LoadWords}
 use Rattle.load_plan.specs.Calls.{Calls, asked_bytes, calls_of, room_of}
 use Rattle.message_buffer.specs.Buffer.{Buffer}
@@ -25,6 +25,7 @@ use Rattle.rpc_turns.specs.Rests.{resting}
 use Rattle.rpc_turns.specs.Turns.{HasTurned, RunsOn, TakesTurn}
 use Rattle.rpc_turns.specs.declared.ended.Ended.{Ended}
 use Rattle.rpc_turns.specs.declared.rest.Rest.{Rest}
+use Rattle.run_status.specs.Starting.{KeepsTraffic, Reaches}
 use Rattle.run_status.specs.Words.{sleeps}
 use Rattle.worker_crew.specs.Crews.{CrewState}
 use Rattle.load_run.specs.declared.run.TheConstants.{LOAD_CREDITS}
@@ -40,7 +41,6 @@ use Rattle.rpc_laws.specs.Groups.{Asks, Disconnects, state_of}
 use Rattle.rpc_laws.specs.Sessions.{is_client}
 use Rattle.rpc_laws.specs.Steps.{Rel, Visits}
 use Rattle.memory_count.specs.Faults.{HasRisen}
-use Rattle.rpc_outside.specs.Linking.{NoneComes}
 use Rattle.rpc_outside.specs.Recording.{Grew, Log}
 use Rattle.rpc_outside.specs.Writing.{Broke, Wrote, Written}
 use Rattle.rpc_outside.specs.declared.link.Link as Link
@@ -145,6 +145,11 @@ pub record Passes {R : Type 0} (log : R → Log) (old new : End) (before now : R
   pub sends : sent_of goes.noted ≡ []
   pub ends : filter is_end goes.noted ≡ []
 
+-- so it did from one state of a load to another
+abbrev pub PassesTo : {R : Type 0} → (R → Log) → (old new : LoadsSoFar) → (before now : R) → Type 0
+PassesTo log old new before now =
+    Passes log old.endpoint new.endpoint before now old.ledger.plan old.session old.asked new.asked
+
 -- the same moment, of its endpoint alone, and with what it does where nothing comes
 abbrev pub end_at : {L C R : Type 0} → Moment LoadsSoFar L C R → Moment End L C R
 end_at m = record { run = m.run.endpoint; edges = m.edges }
@@ -153,10 +158,10 @@ abbrev pub rested_by : {L C R : Type 0} → (endpoint : End) → Rest → Edges 
     → Moment (Rested ℕ CrewState) L C R
 rested_by endpoint rest edges = record { run = rested endpoint rest; edges = edges }
 
--- a turn was made: it was prepared, and the endpoint made a turn, while so often memory was refused.
--- The calls that were over then were counted, where there was memory for each
+-- a turn was made, while so often memory was refused: it was prepared, and the endpoint made a turn,
+-- within it. The calls that were over then were counted, where there was memory for each
 pub record HasLoaded {L C R : Type 0} (o : Outside L C R) (old new : Moment LoadsSoFar L C R)
-    : Type 0 where
+    (memory : Change ℕ) : Type 0 where
   pub ready : LoadsSoFar
   pub mid : R
   pub prepares : Prepares o.log old.run ready old.edges.rec mid
@@ -165,10 +170,12 @@ pub record HasLoaded {L C R : Type 0} (o : Outside L C R) (old new : Moment Load
   pub none : Ended
   pub none_over : KeepsAll none []
   pub ended : Ended
-  pub memory : Change ℕ
+  pub within : Change ℕ
+  pub begins : memory.old ≤ within.old
+  pub ends : within.new ≤ memory.new
   pub takes : TakesTurn plain_members crew_members o KeepsAll told
       (rested_by ready.endpoint ready.rest (record old.edges { rec = mid }))
-      (rested_by new.run.endpoint new.run.rest new.edges) none ended memory
+      (rested_by new.run.endpoint new.run.rest new.edges) none ended within
   pub counts : ended.memory ≡ 0
       → Counts (map (done_fact 0) ended.dones.items) ready.ledger new.run.ledger
   pub then_is : new.run ≡ record ready {
@@ -177,6 +184,11 @@ pub record HasLoaded {L C R : Type 0} (o : Outside L C R) (old new : Moment Load
     ledger = new.run.ledger;
     made = ready.made + 1;
   }
+
+-- the same, however often memory was refused
+abbrev pub HasLoadedOnce : {L C R : Type 0} → Outside L C R
+    → (old new : Moment LoadsSoFar L C R) → Type 0
+HasLoadedOnce o old new = (memory : Change ℕ) × HasLoaded o old new memory
 
 -- n turns were made: its endpoint goes on by what was noted, and the calls that were asked and those
 -- that ended among that were counted
@@ -197,7 +209,7 @@ pub record LoadsOn {L C R : Type 0} (o : Outside L C R) (old new : Moment LoadsS
 -- so many turns were made, one after another: what follows from them stands beside them
 pub record LoadsTurns {L C R : Type 0} (o : Outside L C R) (many : ℕ)
     (old new : Moment LoadsSoFar L C R) : Type 0 where
-  pub each : Turns (HasLoaded o) many old new
+  pub each : Turns (HasLoadedOnce o) many old new
   pub on : LoadsOn o old new many
 
 -- unless there was no memory
@@ -255,23 +267,15 @@ Prints s status.Done old new =
 Prints s told old new =
     (going_at s ≡ Over told) × Wrote old new (calls_line s)
 
--- a link took the client's address of the words for its own, and knows the server's by this number
-pub record Reaches {L : Type 0} (net : Link.Ghosts L) (words : LoadWords) (link : L) (peer : ℕ)
-    : Type 0 where
-  pub bound : IfSome (net.bound link) (λ bytes. bytes ≡ words.bind)
-  pub number : IfSome (net.numbers link words.addr) (λ number. number ≡ peer)
-
 -- a client was started: its link reaches the server, and tells else what it told; a session was
 -- opened with the server, and nothing asked yet
 pub record StartsAs {L R : Type 0} (log : R → Log) (net : Link.Ghosts L) (words : LoadWords)
     (link then_link : L) (before now : R) (s : LoadsSoFar) : Type 0 where
   pub noted : List Fact
   pub peer : ℕ
-  pub reaches : Reaches net words then_link peer
-  pub sent : net.sent then_link ≡ net.sent link
-  pub lists : NoneComes net.waiting net.received link then_link
+  pub reaches : Reaches net words.bind words.addr then_link peer
+  pub traffic : KeepsTraffic net link then_link
   pub faults : net.faults then_link ≡ net.faults link
-  pub busies : net.busies then_link ≡ net.busies link
   pub opens : noted ≡ plain 0 (Opened s.session peer LOAD_CREDITS) ∷ []
   pub grew : Grew (log before) (log now) noted
   pub life : s.endpoint.timed.lists.life ≡ words.life
@@ -308,7 +312,7 @@ pub record HasRun {L C R : Type 0} (o : Outside L C R) (words : LoadWords) (old 
   pub mid : R
   pub start : LoadsSoFar
   pub starts : StartsAs o.log o.net words old.link ready old.rec mid start
-  pub each : Turns (HasLoaded o) new.run.made (where_at start ready old.clock mid) new
+  pub each : Turns (HasLoadedOnce o) new.run.made (where_at start ready old.clock mid) new
   pub over : going_at new.run ≢ On
   pub plan : new.run.ledger.plan ≡ calls_of words
   pub turns : new.run.turns ≡ words.turns

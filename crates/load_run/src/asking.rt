@@ -1,10 +1,10 @@
 //! Calls are asked before a turn, and the session is closed once all are over.
 ghost use Rattle.std.specs.Prelude.{◌≡◌, ◌+◌, ◌<◌, OnErr, OnOk};
-ghost use Rattle.endpoint_node.specs.Notes.{Makes};
+ghost use Rattle.node_steps.specs.Notes.{Makes};
 ghost use Rattle.memory_count.specs.Faults.{HasReason};
 ghost use Rattle.load_plan.specs.Calls.{asked_bytes, room_of};
-ghost use Rattle.load_run.specs.Loading.{AsksMany, ClosesIdle, Keeps, Passes, Prepares, state_in};
-ghost use Rattle.load_run.specs.Loading.{unasked};
+ghost use Rattle.load_run.specs.Loading.{AsksMany, ClosesIdle, Keeps, PassesTo, Prepares};
+ghost use Rattle.load_run.specs.Loading.{state_in, unasked};
 ghost use Rattle.rpc_turns.specs.Plain.{GoesOnBy};
 ghost use Rattle.rpc_base.specs.declared.state.SessionState.TheVariants.{Connected};
 ghost use Rattle.rpc_laws.specs.Groups.{Asks};
@@ -27,14 +27,11 @@ impl<H: Wait> LoadRun<H> {
             self.old.ledger.plan.req_type (asked_bytes self.old.ledger.plan self.old.asked)
             (room_of self.old.ledger.plan)) self.old.endpoint.timed self.new.endpoint.timed
             rec.old rec.new) }
-        ensures passes { OnOk result (Passes R.log self.old.endpoint self.new.endpoint
-            rec.old rec.new self.old.ledger.plan self.old.session self.old.asked
-            self.new.asked) }
+        ensures passes { OnOk result (PassesTo R.log self.old self.new rec.old rec.new) }
         ensures wanting { OnErr result ((self.new ≡ self.old) × (rec.new ≡ rec.old)) }
         ensures counted { OnOk result (self.new.asked ≡ self.old.asked + 1) }
         ensures keeps { Keeps self.old self.new }
-        ensures goes_on { GoesOnBy R.log self.old.endpoint self.new.endpoint rec.old
-            rec.new }
+        ensures goes_on { GoesOnBy R.log self.old.endpoint self.new.endpoint rec.old rec.new }
         ensures cause { HasReason memory.old memory.new result }
     {
         let tag = u64::from(self.asked);
@@ -56,12 +53,9 @@ impl<H: Wait> LoadRun<H> {
     // Asks calls while the session is Connected, until 64 are pending or all are asked.
     fn ask_many<R: Recorder>(&mut self, memory: &mut Memory, rec: &mut R) -> Result<(), NoMemory>
         ensures asks { OnOk result (AsksMany R.log self.old self.new rec.old rec.new) }
-        ensures passes { OnOk result (Passes R.log self.old.endpoint self.new.endpoint
-            rec.old rec.new self.old.ledger.plan self.old.session self.old.asked
-            self.new.asked) }
+        ensures passes { OnOk result (PassesTo R.log self.old self.new rec.old rec.new) }
         ensures keeps { Keeps self.old self.new }
-        ensures goes_on { GoesOnBy R.log self.old.endpoint self.new.endpoint rec.old
-            rec.new }
+        ensures goes_on { GoesOnBy R.log self.old.endpoint self.new.endpoint rec.old rec.new }
         ensures cause { HasReason memory.old memory.new result }
     {
         'calls: while self.state() == SessionState::Connected
@@ -78,8 +72,7 @@ impl<H: Wait> LoadRun<H> {
         ensures closes { ClosesIdle R.log self.old self.new rec.old rec.new }
         ensures asked { self.new.asked ≡ self.old.asked }
         ensures keeps { Keeps self.old self.new }
-        ensures passes { Passes R.log self.old.endpoint self.new.endpoint rec.old
-            rec.new self.old.ledger.plan self.old.session self.old.asked self.new.asked }
+        ensures passes { PassesTo R.log self.old self.new rec.old rec.new }
     {
         if self.pending() == 0 {
             // Nothing is pending: it isn't refused.
@@ -95,14 +88,10 @@ impl<H: Wait> LoadRun<H> {
         memory: &mut Memory,
         rec: &mut R,
     ) -> Result<(), NoMemory>
-        ensures prepares { OnOk result (Prepares R.log self.old self.new rec.old
-            rec.new) }
-        ensures passes { OnOk result (Passes R.log self.old.endpoint self.new.endpoint
-            rec.old rec.new self.old.ledger.plan self.old.session self.old.asked
-            self.new.asked) }
+        ensures prepares { OnOk result (Prepares R.log self.old self.new rec.old rec.new) }
+        ensures passes { OnOk result (PassesTo R.log self.old self.new rec.old rec.new) }
         ensures keeps { Keeps self.old self.new }
-        ensures goes_on { GoesOnBy R.log self.old.endpoint self.new.endpoint rec.old
-            rec.new }
+        ensures goes_on { GoesOnBy R.log self.old.endpoint self.new.endpoint rec.old rec.new }
         ensures cause { HasReason memory.old memory.new result }
     {
         if self.state() != SessionState::Connected {

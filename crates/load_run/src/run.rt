@@ -4,15 +4,16 @@ ghost use Rattle.std.specs.Prelude.{OnOk};
 ghost use Rattle.command_line.specs.Answers.{IsLoadInRange};
 ghost use Rattle.count_line.specs.Line.{line_text};
 ghost use Rattle.load_run.specs.Loading.{calls_line};
-ghost use Rattle.load_run.specs.Loading.{Answers, HasLoaded, LoadsOn, Prints, Reaches, StartsAs};
+ghost use Rattle.load_run.specs.Loading.{Answers, HasLoaded, LoadsOn, Prints, StartsAs};
 ghost use Rattle.load_run.specs.Loading.{UnlessFailed, UnlessNoMemory, going_at, is_clean};
 ghost use Rattle.load_run.specs.Loading.{pending_in, state_in, unasked};
+ghost use Rattle.node_steps.specs.Changes.{◌⟶◌};
 ghost use Rattle.rpc_turns.specs.Moments.{outside, where_at};
 ghost use Rattle.rpc_turns.specs.Plain.{GoesOnBy};
 ghost use Rattle.rpc_turns.specs.Rests.{TellsNothingNew};
+ghost use Rattle.run_status.specs.Starting.{KeepsTraffic, Reaches};
 ghost use Rattle.run_status.specs.Words.{WhyNot, lacks, lacks_told};
 ghost use Rattle.memory_count.specs.Faults.{HasCause, HasRisenBy};
-ghost use Rattle.rpc_outside.specs.Linking.{NoneComes};
 ghost use Rattle.run_status.specs.declared.going.Going.TheVariants.{On, Over};
 
 use crate::ledger::Ledger;
@@ -24,7 +25,7 @@ use memory_count::Memory;
 use rpc_base::{Peer, SessionNo, SessionState};
 use rpc_outside::{Clock, Failed, Link, Recorder, Sink};
 use rpc_turns::{Buffers, Ended, PlainEndpoint, Rest, let_go, plain_endpoint, take_turn};
-use run_status::{Going, Status, sleeps};
+use run_status::{Going, Status, reach, sleeps};
 use std::marker::Model;
 use std::sync::Wait;
 use worker_crew::SerialSpawner;
@@ -128,15 +129,12 @@ fn pack<L: Link>(frame: Option<u32>, link: &mut L, peer: Peer)
 
 // Binds the link to the client's address, and learns by which number it knows the server, to whom
 // packets go as the words say.
-fn reach<L: Link>(spec: &LoadSpec, link: &mut L) -> Result<Peer, Failed>
-    ensures reaches { IfOk result (Reaches L.Link spec.now link.new) }
-    ensures sent { L.sent link.new ≡ L.sent link.old }
-    ensures lists { NoneComes L.waiting L.received link.old link.new }
-    ensures busies { L.busies link.new ≡ L.busies link.old }
+fn reach_server<L: Link>(spec: &LoadSpec, link: &mut L) -> Result<Peer, Failed>
+    ensures reaches { IfOk result (Reaches L.Link spec.now.bind spec.now.addr link.new) }
+    ensures traffic { KeepsTraffic L.Link link.old link.new }
     ensures cause { HasCause (L.faults link.old) (L.faults link.new) result }
 {
-    link.bind(spec.bind.as_str())?;
-    let server = link.peer(spec.addr.as_str())?;
+    let server = reach(spec.bind.as_str(), spec.addr.as_str(), link)?;
     pack(spec.frame, link, server);
     Ok(server)
 }
@@ -157,16 +155,14 @@ impl<H: Wait + Drop> LoadRun<H> {
         requires { IsLoadInRange spec.now }
         ensures starts { IfOk result (StartsAs R.log L.Link spec.now link.old link.new rec.old
             rec.new) }
-        ensures sent { L.sent link.new ≡ L.sent link.old }
-        ensures lists { NoneComes L.waiting L.received link.old link.new }
-        ensures busies { L.busies link.new ≡ L.busies link.old }
+        ensures traffic { KeepsTraffic L.Link link.old link.new }
         ensures quiet { OnOk result (L.faults link.new ≡ L.faults link.old) }
         ensures refused { IfErr result (WhyNot (L.faults link.old) (L.faults link.new)) }
         ensures unnoted { OnErr result (rec.new ≡ rec.old) }
         ensures cause { MatchResult result (λ _. memory.old ≤ memory.new)
             (λ why. HasRisenBy (lacks why) memory.old memory.new) }
     {
-        let Ok(peer) = reach(spec, link) else {
+        let Ok(peer) = reach_server(spec, link) else {
             return Err(Status::LinkFault);
         };
         let Ok(plan) = Plan::of(memory, spec) else {
@@ -214,12 +210,11 @@ impl<H: Wait + Drop> LoadRun<H> {
         ensures loads { UnlessNoMemory result
             (HasLoaded (outside L.Link C.gave R.log)
             (where_at self.old link.old clock.old rec.old)
-            (where_at self.new link.new clock.new rec.new)) }
+            (where_at self.new link.new clock.new rec.new) (memory.old ⟶ memory.new)) }
         ensures on { UnlessFailed result (LoadsOn (outside L.Link C.gave R.log)
             (where_at self.old link.old clock.old rec.old)
             (where_at self.new link.new clock.new rec.new) 1) }
-        ensures goes_on { GoesOnBy R.log self.old.endpoint self.new.endpoint rec.old
-            rec.new }
+        ensures goes_on { GoesOnBy R.log self.old.endpoint self.new.endpoint rec.old rec.new }
         ensures answers { Answers (L.faults link.old) (L.faults link.new) self.new result }
         ensures left { result ≡ On → self.new.made < self.new.turns }
         ensures cause { HasRisenBy (lacks_told result) memory.old memory.new }
@@ -287,30 +282,12 @@ impl<H: Wait + Drop> LoadRun<H> {
     {
         let tally = &self.ledger.tally;
         [
-            Count {
-                word: Word::Calls,
-                number: u64::from(self.ledger.plan.calls),
-            },
-            Count {
-                word: Word::Ok,
-                number: tally.ok,
-            },
-            Count {
-                word: Word::Small,
-                number: tally.small,
-            },
-            Count {
-                word: Word::Lost,
-                number: tally.lost,
-            },
-            Count {
-                word: Word::Wrong,
-                number: tally.wrong,
-            },
-            Count {
-                word: Word::Unasked,
-                number: u64::from(self.unasked()),
-            },
+            Count::of(Word::Calls, u64::from(self.ledger.plan.calls)),
+            Count::of(Word::Ok, tally.ok),
+            Count::of(Word::Small, tally.small),
+            Count::of(Word::Lost, tally.lost),
+            Count::of(Word::Wrong, tally.wrong),
+            Count::of(Word::Unasked, u64::from(self.unasked())),
         ]
     }
 }

@@ -5,8 +5,8 @@ use Rattle.desk_laws.specs.Staying.{desk_members}
 use Rattle.endpoint_loop.proofs.StandingLaw.{is_labour}
 use Rattle.endpoint_loop.specs.Endpoints.{asks_of, Leaves}
 use Rattle.endpoint_loop.specs.PlainMembers.{plain_members}
-use Rattle.endpoint_node.proofs.NoteStill.{AllStill, Stills}
-use Rattle.endpoint_node.specs.Notes.{Makes, sent_of}
+use Rattle.node_steps.proofs.NoteStill.{AllStill, Stills}
+use Rattle.node_steps.specs.Notes.{Makes, sent_of}
 use Rattle.node_laws.specs.NodeRun.{connects}
 use Rattle.relay_run.specs.Runs.{DeskEnd, Opens}
 use Rattle.relay_run.specs.declared.opening.TheConstants.{RELAY_CREDITS}

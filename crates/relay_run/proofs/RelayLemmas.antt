@@ -9,8 +9,8 @@ use Rattle.command_line.specs.Words.{ServeWords}
 use Rattle.endpoint_loop.specs.PlainMembers.{plain_members}
 use Rattle.endpoint_loop.specs.Polls.{turn_of}
 use Rattle.endpoint_loop.specs.declared.endpoint.poll.Turn.{Turn}
-use Rattle.endpoint_node.proofs.NoteSteps.{sent-append, took-none}
-use Rattle.endpoint_node.specs.Notes.{sent_of}
+use Rattle.node_steps.proofs.NoteSteps.{sent-append, took-none}
+use Rattle.node_steps.specs.Notes.{sent_of}
 use Rattle.relay_run.specs.Runs.{Answers, HasRelayed, HasRelayedAll, HasRelayedSome, HasTurnedSome}
 use Rattle.relay_run.specs.Runs.{Relays, RelaysOn, RelaysSoFar, StartsRelaying, TurnsEnd}
 use Rattle.relay_run.specs.Runs.{TurnsOn, UnlessNoMemory, end_at, going_after, line_of, one_more}
@@ -244,7 +244,7 @@ module _ {L C R : Type 0} (o : Outside L C R) (words : ServeWords) (other : List
           in_life = runs.goes.lives limits starts.noted starts.works.stands ∙ starts.life;
           stands = runs.goes.goes_on limits starts.noted starts.works.stands;
           sends = runs.sends limits starts.noted starts.works.stands
-              ∙ ap (option_map (λ ds. ds ++ sent_of runs.goes.noted)) starts.sent
+              ∙ ap (option_map (λ ds. ds ++ sent_of runs.goes.noted)) starts.traffic.sent
               ∙ ap (λ x. option_map (λ ds. ds ++ x) (o.net.sent old.link)) (sym silent);
           times = runs.times;
           count = runs.count ∙ all;

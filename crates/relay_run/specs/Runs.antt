@@ -1,6 +1,6 @@
 -- A run of a server that asks its background calls of another one.
 use Rattle.std.specs.Prelude.{◌≡◌, ℕ, ◌+◌, ◌≤◌, ◌==◌, ◌⊎◌, ◌∷◌, ◌++◌, List, [], length}
-use Rattle.std.specs.Prelude.{if◌then◌else◌, Bool, IfSome, Option, Result, Ok, Err}
+use Rattle.std.specs.Prelude.{if◌then◌else◌, Bool, Option, Result, Ok, Err}
 use Rattle.command_line.specs.Words.{ServeWords}
 use Rattle.count_line.specs.Line.{line_text}
 use Rattle.count_line.specs.declared.word.Word.TheVariants as word
@@ -26,7 +26,6 @@ use Rattle.rpc_laws.specs.Facts.{plain}
 use Rattle.rpc_laws.specs.NodeLists.{new_node}
 use Rattle.rpc_laws.specs.declared.tables.Counted.{Counted}
 use Rattle.memory_count.specs.Faults.{HasRisen}
-use Rattle.rpc_outside.specs.Linking.{NoneComes}
 use Rattle.rpc_outside.specs.PlainAnswer.{background_answer}
 use Rattle.rpc_outside.specs.Recording.{Grew, Log}
 use Rattle.rpc_outside.specs.Writing.{Broke, Wrote, Written}
@@ -36,6 +35,7 @@ use Rattle.rpc_turns.specs.Plain.{limits_at}
 use Rattle.rpc_turns.specs.Rests.{resting}
 use Rattle.rpc_turns.specs.Turns.{HasTurned, RunsOn, Stands as StandsBy}
 use Rattle.rpc_turns.specs.declared.rest.Rest.{Rest}
+use Rattle.run_status.specs.Starting.{KeepsTraffic, Reaches}
 use Rattle.run_status.specs.Words.{sleeps}
 use Rattle.run_status.specs.declared.going.Going.{Going}
 use Rattle.run_status.specs.declared.going.Going.TheVariants.{On, Over}
@@ -195,13 +195,6 @@ TurnsEnd status.LinkFault o old new =
 TurnsEnd status.NoMemory o old new = (new.run.made ≤ new.run.turns) × TurnsOn o old new
 TurnsEnd _ o old new = ⊥
 
--- a link took the server's address of the words for its own, and knows the other server's by this
--- number
-pub record Reaches {L : Type 0} (net : Link.Ghosts L) (own other : List ℕ) (link : L) (peer : ℕ)
-    : Type 0 where
-  pub bound : IfSome (net.bound link) (λ bytes. bytes ≡ own)
-  pub number : IfSome (net.numbers link other) (λ number. number ≡ peer)
-
 -- a server was started: its link took its address, knows the other server's, and tells else what it
 -- told; its endpoint is new, in the life of its words, with usual limits but for their timeout, and
 -- opened one session, with the other server; no job was given, and no turn made
@@ -210,10 +203,8 @@ pub record StartsRelaying {L R : Type 0} (log : R → Log) (net : Link.Ghosts L)
   pub noted : List Fact
   pub peer : ℕ
   pub reaches : Reaches net words.addr other then_link peer
-  pub sent : net.sent then_link ≡ net.sent link
-  pub lists : NoneComes net.waiting net.received link then_link
+  pub traffic : KeepsTraffic net link then_link
   pub faults : net.faults then_link ≡ net.faults link
-  pub busies : net.busies then_link ≡ net.busies link
   pub opens : noted ≡ plain 0 (Opened 0 peer RELAY_CREDITS) ∷ []
   pub grew : Grew (log before) (log now) noted
   pub life : s.endpoint.timed.lists.life ≡ words.life

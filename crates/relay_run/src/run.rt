@@ -3,13 +3,13 @@ ghost use Rattle.std.specs.Prelude.{◌≡◌, ◌<◌, ◌≤◌, IfErr, IfOk, 
 ghost use Rattle.command_line.specs.Answers.{IsServeInRange};
 ghost use Rattle.count_line.specs.Line.{line_text};
 ghost use Rattle.endpoint_loop.specs.PlainMembers.{plain_members};
-ghost use Rattle.relay_run.specs.Runs.{Answers, HasRelayed, IsRelaying, Reaches, StartsRelaying};
+ghost use Rattle.relay_run.specs.Runs.{Answers, HasRelayed, IsRelaying, StartsRelaying};
 ghost use Rattle.relay_run.specs.Runs.{UnlessNoMemory, going_after, line_of, one_more, plain_desk};
 ghost use Rattle.relay_run.specs.Runs.{relays_line};
-ghost use Rattle.memory_count.specs.Faults.{HasCause, HasRisenBy};
-ghost use Rattle.rpc_outside.specs.Linking.{NoneComes};
+ghost use Rattle.memory_count.specs.Faults.{HasRisenBy};
 ghost use Rattle.rpc_turns.specs.Moments.{outside, where_at};
 ghost use Rattle.rpc_turns.specs.Turns.{RunsOn};
+ghost use Rattle.run_status.specs.Starting.{KeepsTraffic};
 ghost use Rattle.run_status.specs.Words.{WhyNot, lacks, lacks_told};
 ghost use Rattle.run_status.specs.declared.going.Going.TheVariants.{On};
 ghost use Rattle.serve_run.specs.Serving.{Writes};
@@ -21,11 +21,11 @@ use endpoint_loop::Turn;
 use memory_count::Memory;
 use relay_turns::{TurnFault, relay_turn};
 use relays::Relays;
-use rpc_base::{Peer, USUAL_JOBS};
+use rpc_base::USUAL_JOBS;
 use rpc_laws::Counted;
-use rpc_outside::{Clock, Failed, Link, Recorder, Sink};
+use rpc_outside::{Clock, Link, Recorder, Sink};
 use rpc_turns::Rest;
-use run_status::{Going, Status, sleeps};
+use run_status::{Going, Status, reach, sleeps};
 use std::marker::Model;
 
 /// A server's endpoint, with the jobs that it asked of another server, and its turns counted. It
@@ -60,48 +60,14 @@ fn line_counts(turns: u32, counts: &Counted, relayed: u64, here: u64) -> [Count;
     ensures { line_text result ≡ relays_line turns counts.now relayed here }
 {
     [
-        Count {
-            word: Word::Turns,
-            number: u64::from(turns),
-        },
-        Count {
-            word: Word::Ran,
-            number: counts.ran,
-        },
-        Count {
-            word: Word::Given,
-            number: counts.given,
-        },
-        Count {
-            word: Word::Dropped,
-            number: counts.dropped,
-        },
-        Count {
-            word: Word::Overflowed,
-            number: counts.overflowed,
-        },
-        Count {
-            word: Word::Relayed,
-            number: relayed,
-        },
-        Count {
-            word: Word::Here,
-            number: here,
-        },
+        Count::of(Word::Turns, u64::from(turns)),
+        Count::of(Word::Ran, counts.ran),
+        Count::of(Word::Given, counts.given),
+        Count::of(Word::Dropped, counts.dropped),
+        Count::of(Word::Overflowed, counts.overflowed),
+        Count::of(Word::Relayed, relayed),
+        Count::of(Word::Here, here),
     ]
-}
-
-// The link takes the server's address for its own, and learns by which number it knows the other
-// server.
-fn reach<L: Link>(spec: &ServeSpec, other: &str, link: &mut L) -> Result<Peer, Failed>
-    ensures reaches { IfOk result (Reaches L.Link spec.now.addr other.now link.new) }
-    ensures sent { L.sent link.new ≡ L.sent link.old }
-    ensures lists { NoneComes L.waiting L.received link.old link.new }
-    ensures busies { L.busies link.new ≡ L.busies link.old }
-    ensures cause { HasCause (L.faults link.old) (L.faults link.new) result }
-{
-    link.bind(spec.addr.as_str())?;
-    link.peer(other)
 }
 
 // How it goes on after a turn.
@@ -134,14 +100,12 @@ impl RelayRun {
         ensures works { IfOk result IsRelaying }
         ensures refused { IfErr result (WhyNot (L.faults link.old) (L.faults link.new)) }
         ensures quiet { OnOk result (L.faults link.new ≡ L.faults link.old) }
-        ensures sent { L.sent link.new ≡ L.sent link.old }
-        ensures lists { NoneComes L.waiting L.received link.old link.new }
-        ensures busies { L.busies link.new ≡ L.busies link.old }
+        ensures traffic { KeepsTraffic L.Link link.old link.new }
         ensures unnoted { OnErr result (rec.new ≡ rec.old) }
         ensures cause { MatchResult result (λ _. memory.old ≤ memory.new)
             (λ why. HasRisenBy (lacks why) memory.old memory.new) }
     {
-        let Ok(peer) = reach(spec, other, link) else {
+        let Ok(peer) = reach(spec.addr.as_str(), other, link) else {
             return Err(Status::LinkFault);
         };
         let Ok(relays) = Relays::new(memory, USUAL_JOBS) else {

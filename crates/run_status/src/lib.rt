@@ -2,9 +2,11 @@
 #![tactic(auto)]
 
 mod going;
+mod reaching;
 mod status;
 mod words;
 
 pub use going::Going;
+pub use reaching::reach;
 pub use status::Status;
 pub use words::sleeps;

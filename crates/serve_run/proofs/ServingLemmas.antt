@@ -1,11 +1,11 @@
 -- Turns of a server, one after another.
 use Rattle.std.proofs.Common.{◌≡◌, ◌≢◌, inl, inr, ℕ, suc, ◌+◌, ◌<◌, ◌≤◌, Bool, true, false}
-use Rattle.std.proofs.Common.{List, [], ◌++◌, refl, ap, subst, ◌∙◌, arith}
+use Rattle.std.proofs.Common.{[], ◌++◌, refl, ap, subst, ◌∙◌, arith}
 use Rattle.std.specs.Prelude.{◌==◌, option_map}
 use Rattle.std.proofs.lemmas.Bool.{eqb-false, eqb-true}
 use Rattle.command_line.specs.Words.{ServeWords}
-use Rattle.endpoint_node.specs.Changes.{Change}
-use Rattle.endpoint_node.specs.Notes.{sent_of}
+use Rattle.node_steps.specs.Changes.{Change}
+use Rattle.node_steps.specs.Notes.{sent_of}
 use Rattle.endpoint_loop.specs.PlainMembers.{plain_members}
 use Rattle.rpc_laws.specs.declared.tables.Timed.{Timed}
 use Rattle.memory_count.proofs.Risen.{none-risen-by}
@@ -21,7 +21,7 @@ use Rattle.run_status.specs.declared.going.Going.TheVariants.{On, Over}
 use Rattle.run_status.specs.declared.status.Status.{Status}
 use Rattle.run_status.specs.declared.status.Status.TheVariants as statuses
 use Rattle.serve_run.specs.Serving.{Answers, HasServed, HasServedAll, HasServedSome, Serves, ServesOn}
-use Rattle.serve_run.specs.Serving.{ServesSoFar, StartsServing, TurnsEnd, Writes, end_at, one_more}
+use Rattle.serve_run.specs.Serving.{ServesSoFar, StartsServing, TurnsEnd, Writes, end_at}
 use Rattle.serve_run.specs.Serving.{turns_line}
 
 module _ {L C R : Type 0} (o : Outside L C R) where
@@ -146,7 +146,7 @@ module _ {L C R : Type 0} (o : Outside L C R) (words : ServeWords) (old : Edges 
               ∙ ap (λ (t : Timed). t.lists.life) starts.timed;
           stands = on.runs.goes.goes_on (limits_at words.timeout) [] starts.stands;
           sends = on.runs.sends (limits_at words.timeout) [] starts.stands
-              ∙ ap (option_map (λ ds. ds ++ sent_of on.runs.goes.noted)) starts.sent;
+              ∙ ap (option_map (λ ds. ds ++ sent_of on.runs.goes.noted)) starts.traffic.sent;
           times = on.runs.times;
           count = on.runs.count;
           ticks = on.runs.ticks;

@@ -6,12 +6,11 @@ use Rattle.count_line.specs.declared.word.Word.TheVariants as word
 use Rattle.count_line.specs.Line.{line_text}
 use Rattle.endpoint_loop.specs.declared.endpoint.poll.Turn.{Turn}
 use Rattle.endpoint_loop.specs.PlainMembers.{plain_members}
-use Rattle.endpoint_node.specs.Changes.{Change}
+use Rattle.node_steps.specs.Changes.{Change}
 use Rattle.command_line.specs.Words.{ServeWords}
 use Rattle.rpc_laws.specs.NodeLists.{new_node}
 use Rattle.rpc_laws.specs.declared.tables.Counted.{Counted}
 use Rattle.memory_count.specs.Faults.{HasRisen}
-use Rattle.rpc_outside.specs.Linking.{NoneComes}
 use Rattle.rpc_outside.specs.Writing.{Broke, Wrote, Written}
 use Rattle.rpc_outside.specs.declared.link.Link as Link
 use Rattle.rpc_turns.specs.Chains.{Turns}
@@ -20,6 +19,7 @@ use Rattle.rpc_turns.specs.Plain.{End, Stands, crew_members, limits_at}
 use Rattle.rpc_turns.specs.Rests.{resting}
 use Rattle.rpc_turns.specs.Turns.{HasTurned, RunsOn, TakesTurn}
 use Rattle.rpc_turns.specs.declared.rest.Rest.{Rest}
+use Rattle.run_status.specs.Starting.{KeepsTraffic}
 use Rattle.run_status.specs.Words.{sleeps}
 use Rattle.run_status.specs.declared.going.Going.{Going}
 use Rattle.run_status.specs.declared.going.Going.TheVariants.{On, Over}
@@ -118,10 +118,8 @@ TurnsEnd _ o old new = ⊥
 pub record StartsServing {L : Type 0} (net : Link.Ghosts L) (words : ServeWords)
     (link then_link : L) (s : ServesSoFar) : Type 0 where
   pub bound : IfSome (net.bound then_link) (λ bytes. bytes ≡ words.addr)
-  pub sent : net.sent then_link ≡ net.sent link
-  pub lists : NoneComes net.waiting net.received link then_link
+  pub traffic : KeepsTraffic net link then_link
   pub faults : net.faults then_link ≡ net.faults link
-  pub busies : net.busies then_link ≡ net.busies link
   pub timed : s.endpoint.timed ≡ new_node 0 words.life (limits_at words.timeout)
   pub stands : Stands (limits_at words.timeout) [] s.endpoint
   pub rest : s.rest ≡ resting (sleeps words.idle)

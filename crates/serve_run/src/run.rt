@@ -3,16 +3,16 @@ ghost use Rattle.std.specs.Prelude.{◌≡◌, ◌<◌, ◌≤◌, [], IfOk, IfE
 ghost use Rattle.command_line.specs.Answers.{IsServeInRange};
 ghost use Rattle.std.specs.Prelude.{MatchResult, OnErr, OnOk};
 ghost use Rattle.endpoint_loop.specs.PlainMembers.{plain_members};
-ghost use Rattle.endpoint_node.specs.Changes.{◌⟶◌};
+ghost use Rattle.node_steps.specs.Changes.{◌⟶◌};
 ghost use Rattle.rpc_turns.specs.Moments.{outside, where_at};
 ghost use Rattle.rpc_turns.specs.Plain.{IsCrewed, crew_members, limits_at};
 ghost use Rattle.rpc_turns.specs.Turns.{RunsOn};
 ghost use Rattle.memory_count.specs.Faults.{HasCause, HasRisenBy};
-ghost use Rattle.rpc_outside.specs.Linking.{NoneComes};
+ghost use Rattle.run_status.specs.Starting.{KeepsTraffic};
 ghost use Rattle.run_status.specs.Words.{WhyNot, lacks};
 ghost use Rattle.run_status.specs.declared.going.Going.TheVariants.{On};
 ghost use Rattle.serve_run.specs.Serving.{Answers, HasServed, Prints, StartsServing, Writes};
-ghost use Rattle.serve_run.specs.Serving.{one_more, turns_line};
+ghost use Rattle.serve_run.specs.Serving.{turns_line};
 ghost use Rattle.worker_crew.specs.Crews.{AreStarted, team_of};
 
 use client_core::Done;
@@ -66,26 +66,11 @@ fn write_turns<K: Sink>(sink: &mut K, turns: u32, counts: &Counted) -> Status
     ensures { Writes result (turns_line turns counts.now) (K.page sink.old) (K.page sink.new) }
 {
     let line = [
-        Count {
-            word: Word::Turns,
-            number: u64::from(turns),
-        },
-        Count {
-            word: Word::Ran,
-            number: counts.ran,
-        },
-        Count {
-            word: Word::Given,
-            number: counts.given,
-        },
-        Count {
-            word: Word::Dropped,
-            number: counts.dropped,
-        },
-        Count {
-            word: Word::Overflowed,
-            number: counts.overflowed,
-        },
+        Count::of(Word::Turns, u64::from(turns)),
+        Count::of(Word::Ran, counts.ran),
+        Count::of(Word::Given, counts.given),
+        Count::of(Word::Dropped, counts.dropped),
+        Count::of(Word::Overflowed, counts.overflowed),
     ];
     match write_counts(sink, &line) {
         Ok(()) => Status::Done,
@@ -96,9 +81,7 @@ fn write_turns<K: Sink>(sink: &mut K, turns: u32, counts: &Counted) -> Status
 // The link takes the server's address for its own.
 fn listen<L: Link>(spec: &ServeSpec, link: &mut L) -> Result<(), Failed>
     ensures bound { OnOk result (IfSome (L.bound link.new) (λ bytes. bytes ≡ spec.now.addr)) }
-    ensures sent { L.sent link.new ≡ L.sent link.old }
-    ensures lists { NoneComes L.waiting L.received link.old link.new }
-    ensures busies { L.busies link.new ≡ L.busies link.old }
+    ensures traffic { KeepsTraffic L.Link link.old link.new }
     ensures cause { HasCause (L.faults link.old) (L.faults link.new) result }
 {
     link.bind(spec.addr.as_str())
@@ -125,9 +108,7 @@ impl<H: Wait + Drop> ServeRun<H> {
         ensures none { OnErr result (P.hands_out spawner.new ≡ []) }
         ensures refused { IfErr result (WhyNot (L.faults link.old) (L.faults link.new)) }
         ensures quiet { OnOk result (L.faults link.new ≡ L.faults link.old) }
-        ensures sent { L.sent link.new ≡ L.sent link.old }
-        ensures lists { NoneComes L.waiting L.received link.old link.new }
-        ensures busies { L.busies link.new ≡ L.busies link.old }
+        ensures traffic { KeepsTraffic L.Link link.old link.new }
         ensures cause { MatchResult result (λ _. memory.old ≤ memory.new)
             (λ why. HasRisenBy (lacks why) memory.old memory.new) }
     {
@@ -164,7 +145,6 @@ impl<H: Wait + Drop> ServeRun<H> {
         ensures tells { RunsOn plain_members crew_members (outside L.Link C.gave R.log)
             (where_at self.old.endpoint link.old clock.old rec.old)
             (where_at self.new.endpoint link.new clock.new rec.new) 1 }
-        ensures counted { self.new ≡ one_more self.new.endpoint self.new.rest self.old }
         ensures answers { Answers (L.faults link.old) (L.faults link.new) self.new result }
         ensures left { result ≡ On → self.new.made < self.new.turns }
         ensures team { team_of self.new.endpoint.workers ≡ team_of self.old.endpoint.workers }
@@ -201,13 +181,8 @@ impl<H: Wait + Drop> ServeRun<H> {
         ensures none { P.hands_out spawner.new ≡ [] }
         ensures prints { Prints self result (K.page sink.old) (K.page sink.new) }
     {
-        let ServeRun {
-            endpoint,
-            turns,
-            ..
-        } = self;
-        let counts = endpoint.counts();
-        stop(endpoint, spawner);
+        let (turns, counts) = (self.turns, self.endpoint.counts());
+        self.stop(spawner);
         write_turns(sink, turns, &counts)
     }
 

@@ -24,10 +24,8 @@ returns-clause-starts g c =
       grew = passes.goes.grew;
       peer = c.in-Ok.peer;
       reaches = c.in-Ok.ensures.reaches;
-      sent = c.reach.ensures.sent;
-      lists = c.reach.ensures.lists;
+      traffic = c.reach_server.ensures.traffic;
       faults = c.in-Ok.ensures.cause;
-      busies = c.reach.ensures.busies;
       opens = opened.opens ∙ ap₂ (λ m n. plain m (Opened n c.in-Ok.peer 32) ∷ []) stands.node
           (sym c.in-Ok-connect.ensures.number);
       life = passes.goes.lives (limits_at c.spec.inside.timeout) [] made.stands

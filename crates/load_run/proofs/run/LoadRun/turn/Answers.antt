@@ -1,7 +1,7 @@
 -- a turn is prepared and made
 use Rattle.std.proofs.Common.{arith, subst}
 use Rattle.endpoint_loop.specs.Polls.{turn_of}
-use Rattle.endpoint_node.specs.Changes.{◌⟶◌}
+use Rattle.node_steps.specs.Changes.{◌⟶◌}
 use Rattle.load_run.proofs.LackLemmas.{lacks-none}
 use Rattle.load_run.specs.Loading.{LoadsSoFar}
 use Rattle.load_run.proofs.TurnLemmas.{counted-or, has-loaded, loads-turn, unless-failed}
@@ -20,8 +20,11 @@ returns-in-Err-default-clause-loads g c =
     c.prepare.new.self _ c.prepare.new.rec
     (edges_of c.take_turn-turned.new.link c.take_turn-turned.new.clock c.take_turn-turned.new.rec)
     c.take_turn-turned.new.endpoint c.take_turn-turned.new.rest c.count.new.self
-    c.new-ended.result c.take_turn-turned.new.k _ c.self.view_is c.in-Ok.ensures.keeps
-    c.new-ended.ensures.none (turn_of c.take_turn-turned.result) c.in-Ok.ensures.prepares
+    c.new-ended.result c.take_turn-turned.new.k c.self.view_is c.in-Ok.ensures.keeps
+    c.new-ended.ensures.none (turn_of c.take_turn-turned.result)
+    (c.args.memory.now ⟶ c.count.new.memory)
+    (c.prepare.new.memory ⟶ c.take_turn-turned.new.memory) c.in-Ok.ensures.cause
+    (reason-no-less c.count.result _ _ c.count.ensures.cause) c.in-Ok.ensures.prepares
     c.take_turn-turned.ensures.takes
     (counted-or c.count.result _ _ c.count.ensures.counts c.count.ensures.lost)
 
@@ -47,9 +50,12 @@ returns-in-Ok-Ok-clause-loads g c =
     c.prepare.new.self _ c.prepare.new.rec
     (edges_of c.take_turn-turned.new.link c.take_turn-turned.new.clock c.take_turn-turned.new.rec)
     c.take_turn-turned.new.endpoint c.take_turn-turned.new.rest c.count.new.self
-    c.new-ended.result c.take_turn-turned.new.k _ c.self.view_is c.in-Ok.ensures.keeps
-    c.new-ended.ensures.none (turn_of c.take_turn-turned.result) c.in-Ok.ensures.prepares
-    c.take_turn-turned.ensures.takes (λ kept. c.in-Ok-Ok.ensures.counts))
+    c.new-ended.result c.take_turn-turned.new.k c.self.view_is c.in-Ok.ensures.keeps
+    c.new-ended.ensures.none (turn_of c.take_turn-turned.result)
+    (c.args.memory.now ⟶ c.count.new.memory)
+    (c.prepare.new.memory ⟶ c.take_turn-turned.new.memory) c.in-Ok.ensures.cause
+    c.in-Ok-Ok.ensures.cause c.in-Ok.ensures.prepares c.take_turn-turned.ensures.takes
+    (λ kept. c.in-Ok-Ok.ensures.counts))
 
 pub returns-in-Ok-Ok-clause-on : goal.returns-in-Ok-Ok-clause-on
 returns-in-Ok-Ok-clause-on g c =
@@ -60,8 +66,7 @@ returns-in-Ok-Ok-clause-on g c =
     (edges_of c.take_turn-turned.new.link c.take_turn-turned.new.clock c.take_turn-turned.new.rec)
     c.take_turn-turned.new.endpoint c.take_turn-turned.new.rest c.count.new.self
     c.new-ended.result c.take_turn-turned.new.k
-    (c.prepare.new.memory ⟶ c.take_turn-turned.new.memory) c.self.view_is c.in-Ok.ensures.keeps
-    c.new-ended.ensures.none
+    c.self.view_is c.in-Ok.ensures.keeps c.new-ended.ensures.none
     c.take_turn-turned.ensures.takes.now c.in-Ok.ensures.passes c.take_turn-turned.ensures.tells
     c.take_turn-turned.ensures.takes.ticks c.in-Ok-Ok.ensures.whole c.in-Ok-Ok.ensures.counts)
 

@@ -1,10 +1,11 @@
 -- the link reaches both servers, the endpoint is new, and its session is opened
-use Rattle.std.proofs.Common.{◌∙◌, ap, refl, subst}
+use Rattle.std.proofs.Common.{ℕ, List, ◌∙◌, ap, refl, subst}
 use Rattle.command_line.specs.Words.{ServeWords}
 use Rattle.relay_run.proofs.StartLemmas.{book-new, desk-empty, in-life, opened, works-on}
 use Rattle.relay_run.specs.Runs.{IsNew}
 use Rattle.rpc_turns.specs.Plain.{limits_at}
 use Rattle.rpc_turns.specs.Rests.{resting}
+use Rattle.run_status.specs.Starting.{Reaches}
 use Rattle.run_status.specs.Words.{sleeps}
 use Rattle.relay_run.proofs.run.RelayRun.start.Goals as goal
 
@@ -20,11 +21,11 @@ returns-clause-starts g c =
     record {
       noted = opens.noted;
       peer = c.in-Ok.peer;
-      reaches = c.in-Ok.ensures.reaches;
-      sent = c.reach.ensures.sent;
-      lists = c.reach.ensures.lists;
+      reaches = subst (λ (own : List ℕ). Reaches g.L.Link own c.args.other.now c.reach.new.link
+          c.in-Ok.peer) (c.as_str.ensures.value ∙ ap (λ (w : ServeWords). w.addr) same)
+          c.in-Ok.ensures.reaches;
+      traffic = c.reach.ensures.traffic;
       faults = c.in-Ok.ensures.cause;
-      busies = c.reach.ensures.busies;
       opens = opened g.R.Recorder.log words.life limits _ _ _ _ _ _ made opens relays;
       grew = opens.grew;
       life = in-life g.R.Recorder.log words.life limits _ _ _ _ _ _ made opens relays;

@@ -13,10 +13,8 @@ returns-clause-starts g c =
     let same = c.spec.view_is in
     record {
       bound = c.in-Ok.ensures.bound;
-      sent = c.listen.ensures.sent;
-      lists = c.listen.ensures.lists;
+      traffic = c.listen.ensures.traffic;
       faults = c.in-Ok.ensures.cause;
-      busies = c.listen.ensures.busies;
       timed = made.timed ∙ ap (λ (w : ServeWords). new_node 0 w.life (limits_at w.timeout)) same;
       stands = subst (λ (w : ServeWords). Stands (limits_at w.timeout) []
           c.in-Ok-plain_endpoint.endpoint) same made.stands;
