@@ -1,5 +1,5 @@
 -- What an audit says, and that it says what is so.
-use Rattle.std.proofs.Common.{◌≡◌, ◌≢◌, ℕ, ◌<◌, ◌≤◌, ◌^◌, ◌⊎◌, inl, inr, Option, Some, None, List, [], length, refl}
+use Rattle.std.proofs.Common.{◌≡◌, ◌≢◌, ℕ, ◌<◌, ◌≤◌, inl, inr, Option, Some, None, List, [], length, refl}
 use Rattle.std.proofs.Common.{sym, ap, ◌∙◌, subst, arith, Result, Ok, Err}
 use Rattle.std.specs.Prelude.{IfSome, MatchResult}
 use Rattle.count_line.specs.declared.audit.AuditLine.{AuditLine}
@@ -9,9 +9,9 @@ use Rattle.history_audit.proofs.VerdictLemmas.{one-verdict}
 use Rattle.history_audit.specs.Auditing.{IsVerdict}
 use Rattle.history_audit.specs.declared.verdict.Verdict.{Verdict}
 use Rattle.history_audit.specs.declared.verdict.Verdict.TheVariants as verdict
-use Rattle.memory_count.specs.Faults.{HasRisen, IsQuiet}
+use Rattle.memory_count.specs.Faults.{HasRisenBy, IsQuiet}
 use Rattle.rpc_outside.specs.Reading.{Unread}
-use Rattle.rpc_outside.specs.Writing.{Broke, Written, Wrote}
+use Rattle.rpc_outside.specs.Writing.{Written, Wrote}
 use Rattle.rpc_tools.proofs.Headline.{no-fault}
 use Rattle.rpc_tools.specs.Audits.{Answers, Audits, IsReadFor, Judges, line_of, Says, SaysOf}
 use Rattle.rpc_tools.specs.Audits.{status_of, Tells, Writes}
@@ -20,6 +20,7 @@ use Rattle.rpc_tools.specs.Outcomes.{Drained, Gives, Untouched}
 use Rattle.run_status.specs.declared.status.Status.{Status}
 use Rattle.run_status.specs.declared.status.Status.TheVariants.{Done, NotLawful, TooLong}
 use Rattle.run_status.specs.declared.status.Status.TheVariants.{NoMemory, ReadFault, WriteFault}
+use Rattle.run_status.specs.Words.{lacks}
 
 pub says-verdict : (bytes : List ℕ) (v : Verdict) → length bytes ≤ 67108864 → IsVerdict bytes v
     → Says bytes (line_of v)
@@ -83,6 +84,21 @@ pub audits-silent : (status : Status) (input then_input : Unread) (page then_pag
 audits-silent ReadFault input then_input page then_page fault sink = record { fault = fault; sink = sink }
 audits-silent NoMemory input then_input page then_page j sink = sink
 audits-silent _ input then_input page then_page j sink = absurd j
+
+-- what is written tells of no want of memory
+said-none : (line : AuditLine) → lacks (status_of line) ≡ 0
+said-none (told.Lawful facts) = refl
+said-none (told.Unlawful line) = refl
+said-none told.TooLong = refl
+
+pub said-risen : (status : Status) (line : AuditLine) (page then_page : Written)
+    (memory then_memory : ℕ) → Writes status line page then_page
+    → HasRisenBy 0 memory then_memory → HasRisenBy (lacks status) memory then_memory
+said-risen status line page then_page memory then_memory (inl w) risen =
+    let none : lacks status ≡ 0 = ap lacks w.0 ∙ said-none line in
+    subst (λ (n : ℕ). HasRisenBy n memory then_memory) (sym none) risen
+said-risen status line page then_page memory then_memory (inr w) risen =
+    subst (λ (s : Status). HasRisenBy (lacks s) memory then_memory) (sym w.0) risen
 
 -- one line is said of bytes
 says-one : (bytes : List ℕ) (one other : AuditLine) → Says bytes one → Says bytes other → one ≡ other

@@ -1,5 +1,5 @@
 -- A simulation of a script that met no fault, and was refused no memory, is Done.
-use Rattle.std.proofs.Common.{◌≡◌, ◌≢◌, ℕ, Some, List, Ok, refl, subst, arith}
+use Rattle.std.proofs.Common.{◌≡◌, ◌≢◌, ℕ, ◌≤◌, Some, List, Ok, refl, subst, arith}
 use Rattle.memory_count.specs.Faults.{HasRisen, HasRisenBy, IsQuiet}
 use Rattle.rpc_outside.specs.Reading.{Unread}
 use Rattle.rpc_outside.specs.Writing.{Written}
@@ -14,6 +14,15 @@ use Rattle.script_grammar.specs.Script.{script_of}
 
 pub no-fault : (old new : ℕ) → HasRisen old new → IsQuiet old new → ⊥
 no-fault old new h q = omega (arith, h.rose, q.same, q.room)
+
+-- what was refused before counts too
+pub later-risen : (n memory mid then_memory : ℕ) → memory ≤ mid → HasRisenBy n mid then_memory
+    → HasRisenBy n memory then_memory
+later-risen n memory mid then_memory less risen =
+    record { no_less = omega (arith, risen.no_less); rose = omega (arith, risen.rose) }
+
+pub risen-none : (old new : ℕ) → old ≤ new → HasRisenBy 0 old new
+risen-none old new less = record { no_less = less; rose = omega (arith, less) }
 
 -- no memory was refused, so none is told to be wanting
 pub not-lacking : (status : Status) (old new : ℕ) → HasRisenBy (lacks status) old new

@@ -1,4 +1,5 @@
 pub mod AuditLemmas
 pub mod Headline
 pub mod ReadingLemmas
+pub mod RunLemmas
 pub mod ServerLemmas

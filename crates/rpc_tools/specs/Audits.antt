@@ -1,5 +1,5 @@
 -- What an audit says of bytes, and what each of its statuses says of its source and its sink.
-use Rattle.std.specs.Prelude.{ℕ, ◌≡◌, ◌<◌, ◌≤◌, ◌⊎◌, Option, Some, IfSome, IfOk, Result, Ok, Err}
+use Rattle.std.specs.Prelude.{ℕ, ◌≡◌, ◌<◌, ◌≤◌, ◌⊎◌, Option, Some, IfSome, Result, Ok, Err}
 use Rattle.std.specs.Prelude.{List, [], length}
 use Rattle.count_line.specs.declared.audit.AuditLine.{AuditLine}
 use Rattle.count_line.specs.declared.audit.AuditLine.TheVariants as told
@@ -15,6 +15,7 @@ use Rattle.rpc_tools.specs.Outcomes.{FailsToRead, Untouched}
 use Rattle.run_status.specs.declared.status.Status.{Status}
 use Rattle.run_status.specs.declared.status.Status.TheVariants.{Done, NotLawful, TooLong}
 use Rattle.run_status.specs.declared.status.Status.TheVariants.{NoMemory, ReadFault, WriteFault}
+use Rattle.run_status.specs.Words.{lacks}
 
 -- what is said of bytes: they are the report of a lawful history, they fail at a line, or they are
 -- too many, and there is no verdict
@@ -49,6 +50,11 @@ Judges (Ok line) input then_input = SaysOf line input then_input
 Judges (Err ReadFault) input then_input = HasRisen input.faults then_input.faults
 Judges (Err NoMemory) input then_input = Unit {0}
 Judges (Err _) input then_input = ⊥
+
+-- how many wants of memory it tells of
+abbrev pub lacks_judged : Result AuditLine Status → ℕ
+lacks_judged (Ok line) = 0
+lacks_judged (Err status) = lacks status
 
 -- a line was written, or a front of it
 abbrev pub Writes : Status → AuditLine → (page then_page : Written) → Type 0

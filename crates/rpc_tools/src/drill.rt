@@ -23,6 +23,28 @@ fn drilled_world(memory: &mut Memory, seed: u64, calls: u32) -> Result<World, No
     Ok(world)
 }
 
+// Writes the line that counts what happened in the world that a drill left.
+fn write_counts<K: Sink>(
+    memory: &mut Memory,
+    world: &World,
+    seed: u64,
+    calls: u32,
+    sink: &mut K,
+) -> Status
+    requires drilled { IsDrillHistory seed calls world.now }
+    ensures drills { Drills result seed calls (K.page sink.old) (K.page sink.new) }
+    ensures cause { HasRisenBy (lacks result) memory.old memory.new }
+{
+    let counts = count(world.history().facts());
+    let Ok(line) = drill_line(memory, seed, calls, counts) else {
+        return Status::NoMemory;
+    };
+    match write_all(sink, line.as_bytes()) {
+        Ok(()) => Status::Done,
+        Err(_) => Status::WriteFault,
+    }
+}
+
 /// Runs the script of a drill and writes the line that counts what happened. `NoMemory` comes only
 /// where memory was refused.
 pub fn drill<K: Sink>(memory: &mut Memory, seed: u64, calls: u32, sink: &mut K) -> Status
@@ -31,15 +53,8 @@ pub fn drill<K: Sink>(memory: &mut Memory, seed: u64, calls: u32, sink: &mut K) 
     ensures drills { Drills result seed calls (K.page sink.old) (K.page sink.new) }
     ensures cause { HasRisenBy (lacks result) memory.old memory.new }
 {
-    let Ok(world) = drilled_world(memory, seed, calls) else {
-        return Status::NoMemory;
-    };
-    let counts = count(world.history().facts());
-    let Ok(line) = drill_line(memory, seed, calls, counts) else {
-        return Status::NoMemory;
-    };
-    match write_all(sink, line.as_bytes()) {
-        Ok(()) => Status::Done,
-        Err(_) => Status::WriteFault,
+    match drilled_world(memory, seed, calls) {
+        Ok(world) => write_counts(memory, &world, seed, calls, sink),
+        Err(_) => Status::NoMemory,
     }
 }

@@ -6,6 +6,7 @@ mod reading;
 mod report;
 mod serving;
 mod simulation;
+mod tasks;
 mod tools;
 
 pub use load_run::LoadRun;

@@ -11,7 +11,7 @@ use rpc_outside::Source;
 const CHUNK: usize = 4096;
 
 /// What reading a source gave.
-#[derive(Debug, Drop)]
+#[derive(Drop)]
 pub enum Input {
     /// All of its bytes.
     Whole(Octets),

@@ -1,12 +1,13 @@
 //! An audit: a report is read and judged, and a line written.
 ghost use Rattle.std.specs.Prelude.{◌≡◌, ◌≢◌, ◌≤◌, ℕ, List, MatchResult, Some, length};
 ghost use Rattle.count_line.specs.declared.audit.AuditLine.{AuditLine};
-ghost use Rattle.memory_count.specs.Faults.{IsQuiet};
+ghost use Rattle.memory_count.specs.Faults.{HasRisenBy, IsQuiet};
 ghost use Rattle.rpc_outside.specs.Reading.{Unread};
-ghost use Rattle.rpc_tools.specs.Audits.{Answers, Audits, Judges, line_of, Says};
+ghost use Rattle.rpc_tools.specs.Audits.{Answers, Audits, Judges, lacks_judged, line_of, Says};
 ghost use Rattle.rpc_tools.specs.Audits.{status_of, Writes};
 ghost use Rattle.rpc_tools.specs.declared.report.TheConstants.{MOST_REPORT};
-ghost use Rattle.rpc_tools.specs.Outcomes.{Gives};
+ghost use Rattle.rpc_tools.specs.Outcomes.{Gives, lacks_read};
+ghost use Rattle.run_status.specs.Words.{lacks};
 
 use crate::reading::{Input, read_all};
 use count_line::{AuditLine, write_audit};
@@ -14,7 +15,6 @@ use history_audit::{Verdict, audit};
 use memory_count::Memory;
 use rpc_outside::{Sink, Source};
 use run_status::Status;
-use std::alloc::Global;
 
 /// The most bytes of a report that is audited.
 const MOST_REPORT: usize = 67_108_864;
@@ -51,23 +51,27 @@ fn line_of(verdict: Verdict) -> AuditLine
 }
 
 // What is to be said of bytes that aren't too many.
-fn judge_bytes(alloc: Global, bytes: &[u8]) -> Result<AuditLine, Status>
-    ensures { MatchResult result (λ line. length bytes.now ≤ MOST_REPORT → Says bytes.now line)
+fn judge_bytes(memory: &mut Memory, bytes: &[u8]) -> Result<AuditLine, Status>
+    ensures says { MatchResult result
+        (λ line. length bytes.now ≤ MOST_REPORT → Says bytes.now line)
         (λ status. status ≡ Status.NoMemory) }
+    ensures cause { HasRisenBy (lacks_judged result) memory.old memory.new }
 {
-    match audit(alloc, bytes) {
+    match audit(memory, bytes) {
         Ok(verdict) => Ok(line_of(verdict)),
         Err(_) => Err(Status::NoMemory),
     }
 }
 
 // What is to be said of what the source gave.
-fn judge(alloc: Global, input: Input) -> Result<AuditLine, Status>
-    ensures { (before after : Unread) → Gives MOST_REPORT input before after
+fn judge(memory: &mut Memory, input: Input) -> Result<AuditLine, Status>
+    ensures judges { (before after : Unread) → Gives MOST_REPORT input before after
         → Judges result before after }
+    ensures cause { (before : ℕ) → HasRisenBy (lacks_read input) before memory.old
+        → HasRisenBy (lacks_judged result) before memory.new }
 {
     match input {
-        Input::Whole(octets) => judge_bytes(alloc, octets.bytes()),
+        Input::Whole(octets) => judge_bytes(memory, octets.bytes()),
         Input::TooLong => Ok(AuditLine::TooLong),
         Input::Fault => Err(Status::ReadFault),
         Input::Memory => Err(Status::NoMemory),
@@ -76,7 +80,7 @@ fn judge(alloc: Global, input: Input) -> Result<AuditLine, Status>
 
 /// Reads the source to its end, or until more than 67,108,864 bytes came, and writes whether they
 /// are the report of a lawful history, at which line they fail, or that they are too many. It waits
-/// for nothing.
+/// for nothing. `NoMemory` comes only where memory was refused.
 pub fn audit_report<S: Source, K: Sink>(memory: &mut Memory, source: &mut S, sink: &mut K) -> Status
     ensures audits { Audits result (S.input source.old) (S.input source.new) (K.page sink.old)
         (K.page sink.new) }
@@ -86,8 +90,10 @@ pub fn audit_report<S: Source, K: Sink>(memory: &mut Memory, source: &mut S, sin
         → IsQuiet (K.page sink.old).faults (K.page sink.new).faults
         → result ≢ Status.NoMemory
         → Answers line result (S.input source.new) (K.page sink.old) (K.page sink.new) }
+    ensures cause { HasRisenBy (lacks result) memory.old memory.new }
 {
-    match judge(memory.alloc(), read_all(memory, source, MOST_REPORT)) {
+    let input = read_all(memory, source, MOST_REPORT);
+    match judge(memory, input) {
         Ok(line) => say(sink, line),
         Err(status) => status,
     }

@@ -16,12 +16,8 @@ ghost use Rattle.run_status.specs.Words.{lacks};
 ghost use Rattle.script_grammar.specs.declared.line.Line.{Line};
 ghost use Rattle.script_grammar.specs.Script.{script_of};
 
-use crate::drill::drill;
-use crate::report::audit_report;
-use crate::serving::serve_as_told;
-use crate::simulation::sim;
-use command_line::{Task, WordsError, read_words};
-use load_run::load;
+use crate::tasks::run_words;
+use command_line::Task;
 use memory_count::Memory;
 use rpc_outside::{Clock, Link, PlainDuty, Recorder, Sink, Source};
 use run_status::Status;
@@ -30,14 +26,13 @@ use worker_crew::{Hand, Spawner};
 
 /// Runs the program on the words after its name. `sim` reads a script from the source and writes
 /// the report of its history to the sink. `audit` reads a report, and writes a line that says
-/// whether it is that of a lawful history. `drill SEED CALLS` runs a script that it makes, and writes
-/// a line that counts what happened. `serve` answers calls that come to the link, and `load` asks
-/// them: each turns by turn of the clock, its node's facts go to the recorder, and in the end it
-/// writes a line of counts. `serve` works background calls by hands that it offers to the spawner,
-/// which has no hand out before and after; it may wait for them, by the handle `rt`. With `--relay`
-/// it offers none, and asks those calls of another server. Words that are in no row of the command
-/// line are `Usage`. `NoMemory` comes only where memory was refused, but for `audit`, of which that
-/// isn't said.
+/// whether it is that of a lawful history. `drill SEED CALLS` runs a script that it makes, and
+/// writes a line that counts what happened. `serve` answers calls that come to the link, and `load`
+/// asks them: each turns by turn of the clock, its node's facts go to the recorder, and in the end
+/// it writes a line of counts. `serve` works background calls by hands that it offers to the
+/// spawner, which has no hand out before and after; it may wait for them, by the handle `rt`. With
+/// `--relay` it offers none, and asks those calls of another server. Words that are in no row of
+/// the command line are `Usage`. `NoMemory` comes only where memory was refused.
 pub fn run<H, S, K, L, C, P, R>(
     memory: &mut Memory,
     rt: H,
@@ -64,10 +59,9 @@ where
     ensures usage { result ≡ Status.Usage → task_of (map string_bytes words.now) ≡ None }
     ensures no_task { task_of (map string_bytes words.now) ≡ None → IsQuiet memory.old memory.new
         → result ≡ Status.Usage }
-    ensures cause { task_of (map string_bytes words.now) ≢ Some Task.Audit
-        → HasRisenBy (lacks result) memory.old memory.new }
-    ensures refuses { result ≡ Status.Usage
-        → NothingDone (S.input source.old) (S.input source.new) (K.page sink.old) (K.page sink.new) }
+    ensures cause { HasRisenBy (lacks result) memory.old memory.new }
+    ensures refuses { result ≡ Status.Usage → NothingDone (S.input source.old) (S.input source.new)
+        (K.page sink.old) (K.page sink.new) }
     ensures simulates { task_of (map string_bytes words.now) ≡ Some Task.Sim
         → Simulates result (S.input source.old) (S.input source.new) (K.page sink.old)
         (K.page sink.new) }
@@ -112,15 +106,5 @@ where
         → IsQuiet memory.old memory.new
         → DrillSucceeds result seed calls (K.page sink.old) (K.page sink.new) }
 {
-    match read_words(memory, words) {
-        Ok(Task::Sim) => sim(memory, source, sink),
-        Ok(Task::Drill { seed, calls }) => drill(memory, seed, calls, sink),
-        Ok(Task::Serve(spec)) => {
-            serve_as_told(memory, rt, &spec, sink, link, clock, spawner, rec)
-        }
-        Ok(Task::Load(spec)) => load(memory, rt, &spec, sink, link, clock, rec),
-        Ok(Task::Audit) => audit_report(memory, source, sink),
-        Err(WordsError::Usage) => Status::Usage,
-        Err(WordsError::NoMemory) => Status::NoMemory,
-    }
+    run_words(memory, rt, words, source, sink, link, clock, spawner, rec)
 }
