@@ -13,7 +13,7 @@ use rpc_tools::{Status, run};
 use script_help::Explanation;
 use std::alloc::AllocError;
 use std::env;
-use std::io::{self, BufWriter, Write};
+use std::io::{self, BufWriter, Stdout, Write};
 use std::process::ExitCode;
 use std::rt::Env;
 use std::sync::Wait;
@@ -30,7 +30,7 @@ fn words_of(rt: &(impl Env + AllocGlobal)) -> io::Result<Vec<String>> {
 }
 
 /// How a run of the program ended, and what failed of its link.
-#[derive(Clone, Copy, Debug, PartialEq, Eq)]
+#[derive(Clone, Copy)]
 struct Ended {
     status: Status,
     trouble: Option<Trouble>,
@@ -46,7 +46,36 @@ impl Ended {
     }
 }
 
-// The report goes out in large pieces.
+// Makes the link, and calls the top call over it and a sink.
+fn run_linked<H: Wait + Drop, S: Source, P: Spawner<Hand<PlainDuty>>>(
+    rt: &HostRuntime,
+    waits: H,
+    words: &[String],
+    source: &mut S,
+    sink: &mut IoSink<BufWriter<Stdout>>,
+    spawner: &mut P,
+) -> Ended
+    requires none { P.hands_out spawner.old ≡ [] }
+{
+    let mut link = UdpLink::new(rt.alloc(), rt);
+    let status = run(
+        &mut Memory::new(rt.alloc()),
+        waits,
+        words,
+        source,
+        sink,
+        &mut link,
+        &mut SysClock::new(rt),
+        spawner,
+        &mut NoRecord,
+    );
+    Ended {
+        status,
+        trouble: link.trouble(),
+    }
+}
+
+// Makes the sink. The report goes out in large pieces.
 fn run_words<H: Wait + Drop, S: Source, P: Spawner<Hand<PlainDuty>>>(
     rt: &HostRuntime,
     waits: H,
@@ -60,31 +89,37 @@ fn run_words<H: Wait + Drop, S: Source, P: Spawner<Hand<PlainDuty>>>(
         return Ended::without_trouble(Status::NoMemory);
     };
     let mut sink = IoSink::new(writer);
-    let mut link = UdpLink::new(rt.alloc(), rt);
-    let status = run(
-        &mut Memory::new(rt.alloc()),
-        waits,
-        words,
-        source,
-        &mut sink,
-        &mut link,
-        &mut SysClock::new(rt),
-        spawner,
-        &mut NoRecord,
-    );
+    let ended = run_linked(rt, waits, words, source, &mut sink, spawner);
     // The writer holds the last piece back until it is flushed.
     match sink.into_writer().flush() {
-        Ok(()) => Ended {
-            status,
-            trouble: link.trouble(),
-        },
+        Ok(()) => ended,
         Err(_) => Ended::without_trouble(Status::WriteFault),
+    }
+}
+
+// Runs the program on its words, where they could be read.
+fn run_read<H: Wait + Drop, S: Source, P: Spawner<Hand<PlainDuty>>>(
+    rt: &HostRuntime,
+    waits: H,
+    words: &io::Result<Vec<String>>,
+    source: &mut S,
+    spawner: &mut P,
+) -> Ended
+    requires none { P.hands_out spawner.old ≡ [] }
+{
+    match words {
+        Ok(words) => run_words(rt, waits, words.as_slice(), source, spawner),
+        Err(error) if error.kind() == io::ErrorKind::OutOfMemory => {
+            Ended::without_trouble(Status::NoMemory)
+        }
+        // A word that is no text is in no line of the grammar.
+        Err(_) => Ended::without_trouble(Status::Usage),
     }
 }
 
 // One line on standard error that says why a report fails at its line.
 fn blame(rt: &HostRuntime, line: u64, report: &[u8]) {
-    let _ = match fault_of(rt.alloc(), report) {
+    let _ = match fault_of(&mut Memory::new(rt.alloc()), report) {
         Ok(fault) => eprintln!(rt; "erpc: line {line}: {fault}"),
         Err(_) => eprintln!(rt; "erpc: {}", Status::NotLawful { line }),
     };
@@ -111,10 +146,33 @@ fn refuse(rt: &HostRuntime, words: &[String]) {
     };
 }
 
+// Tells how the program ended, where not all was done.
+fn tell(rt: &HostRuntime, ended: Ended, words: &io::Result<Vec<String>>, source: Option<&[u8]>) {
+    match (ended.status, words) {
+        (Status::Done, _) => {}
+        (Status::Usage, Ok(words)) => refuse(rt, words.as_slice()),
+        (Status::Usage, Err(_)) => refuse(rt, &[]),
+        _ => complain(rt, ended, source),
+    }
+}
+
+// Runs the program over a spawner that has no hand out.
+fn run_over<H: Wait + Drop, P: Spawner<Hand<PlainDuty>>>(
+    rt: &HostRuntime,
+    waits: H,
+    spawner: &mut P,
+) -> ExitCode
+    requires none { P.hands_out spawner.old ≡ [] }
+{
+    let mut source = Kept::new(rt.alloc(), IoSource::new(rt.stdin()));
+    let words = words_of(rt);
+    let ended = run_read(rt, waits, &words, &mut source, spawner);
+    tell(rt, ended, &words, source.bytes());
+    ExitCode::from(ended.status.code())
+}
+
 fn main(rt: HostRuntime) -> ExitCode {
     let alloc = rt.alloc();
-    let mut source = Kept::new(alloc, IoSource::new(rt.stdin()));
-    let words = words_of(&rt);
     // Hands are started on threads of this program.
     let Ok(launcher) = Box::new(
         alloc,
@@ -127,19 +185,5 @@ fn main(rt: HostRuntime) -> ExitCode {
     };
     let launcher: Launcher = launcher;
     let mut spawner = ThreadSpawner::new(rt, alloc, launcher);
-    let ended = match &words {
-        Ok(words) => run_words(&rt, rt, words.as_slice(), &mut source, &mut spawner),
-        Err(error) if error.kind() == io::ErrorKind::OutOfMemory => {
-            Ended::without_trouble(Status::NoMemory)
-        }
-        // A word that is no text is in no line of the grammar.
-        Err(_) => Ended::without_trouble(Status::Usage),
-    };
-    match (ended.status, words) {
-        (Status::Done, _) => {}
-        (Status::Usage, Ok(words)) => refuse(&rt, words.as_slice()),
-        (Status::Usage, Err(_)) => refuse(&rt, &[]),
-        _ => complain(&rt, ended, source.bytes()),
-    }
-    ExitCode::from(ended.status.code())
+    run_over(&rt, rt, &mut spawner)
 }

@@ -12,6 +12,15 @@ pub enum Wants {
 }
 
 impl Wants {
+    // What the file is, whose name ends so.
+    fn of(ending: &str) -> Wants {
+        match ending {
+            "counts" => Wants::Counts,
+            "lines" => Wants::Lines,
+            _ => Wants::Whole,
+        }
+    }
+
     /// How the name of the file ends in which it stands.
     pub fn ending(self) -> &'static str {
         match self {
@@ -28,6 +37,15 @@ impl Wants {
             Wants::Lines => has_lines(report, wanted),
             Wants::Counts => wanted.lines().all(|line| has_count(report, line)),
         }
+    }
+}
+
+/// The name of a case, and what its report is compared with, of the name of the file in which that
+/// stands.
+pub fn case_of(file: &str) -> (&str, Wants) {
+    match file.split_once(".") {
+        Some((name, ending)) => (name, Wants::of(ending)),
+        None => (file, Wants::Whole),
     }
 }
 
