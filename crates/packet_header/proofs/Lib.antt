@@ -1,6 +1,7 @@
 pub mod Bodies
 pub mod Bytes
 pub mod Faults
+pub mod HeadNumbers
 pub mod Heads
 pub mod KindBytes
 pub mod Lengths

@@ -42,7 +42,7 @@ bytes_high : (n x : ℕ) → AreBytes (big_bytes n x)
 bytes_high zero x = bytes_none
 bytes_high (suc n) x = bytes-cons (byte_at n x) (bytes_high_first n x) (byte_below n x) (bytes_high n x)
 
-message_fits : (kind : Kind) (req_type size number : ℕ)
+pub message_fits : (kind : Kind) (req_type size number : ℕ)
     → Within (message_row kind size).types req_type → Within (message_row kind size).sizes size
     → Within (message_row kind size).numbers number → (req_type < 256) × (size < 256 ^ 3)
     × (number < 256 ^ 2)
@@ -51,7 +51,7 @@ message_fits Rfr req_type size number (f, f2) (g, g2) (h, h2) = (omega arith, om
 message_fits Cr req_type size number (f, f2) (g, g2) (h, h2) = (omega arith, omega arith, omega arith)
 message_fits Response req_type size number (f, f2) (g, g2) (h, h2) = (omega arith, omega arith, omega arith)
 
-code_below : (kind : Kind) → kind_code kind < 256
+pub code_below : (kind : Kind) → kind_code kind < 256
 code_below Request = omega arith
 code_below Rfr = omega arith
 code_below Cr = omega arith
@@ -79,7 +79,7 @@ message-bytes m h =
     let e = bytes-cons (kind_code m.kind) (m.req_type ∷ size) (code_below m.kind) d in
     bytes-cons MAGIC (kind_code m.kind ∷ m.req_type ∷ size) (omega arith) e
 
-message-made : (m : MessageHeader) → MessageInRange m → m.request < 2 ^ 48 → IsHeadOf (Message m) (message_head m)
+pub message-made : (m : MessageHeader) → MessageInRange m → m.request < 2 ^ 48 → IsHeadOf (Message m) (message_head m)
 message-made m range below =
     let (types, sizes, numbers) =
     message_fits m.kind m.req_type m.size m.number range.req_type range.size range.number in
@@ -100,7 +100,7 @@ message-made m range below =
       },
     )
 
-control_fits : (kind : ControlKind) (credits status : ℕ)
+pub control_fits : (kind : ControlKind) (credits status : ℕ)
     → Within (control_row kind status).credits credits → (status ≡ 0)
     ⊎ (status ≡ (control_row kind status).refusal) → (credits < 256 ^ 2) × (status < 256)
 control_fits ConnectRequest credits status (f, g) h = (omega arith, omega arith)
@@ -108,13 +108,13 @@ control_fits ConnectReply credits status (f, g) h = (omega arith, omega arith)
 control_fits DisconnectRequest credits status (f, g) h = (omega arith, omega arith)
 control_fits DisconnectReply credits status (f, g) h = (omega arith, omega arith)
 
-control_below : (kind : ControlKind) → control_code kind < 256
+pub control_below : (kind : ControlKind) → control_code kind < 256
 control_below ConnectRequest = omega arith
 control_below ConnectReply = omega arith
 control_below DisconnectRequest = omega arith
 control_below DisconnectReply = omega arith
 
-server_fits : (b : Bool) (server : Option ℕ) → IsServer b server → unwrap_or server 65535 < 256 ^ 2
+pub server_fits : (b : Bool) (server : Option ℕ) → IsServer b server → unwrap_or server 65535 < 256 ^ 2
 server_fits true (Some server) (low, high) = omega arith
 server_fits false None h = omega arith
 server_fits true None h = absurd h
@@ -156,7 +156,7 @@ control-bytes c h =
     let t = bytes-cons (control_code c.kind) client (control_below c.kind) s in
     bytes-cons MAGIC (control_code c.kind ∷ client) (omega arith) t
 
-control-made : (c : ControlHeader) → ControlInRange c → IsHeadOf (Control c) (control_head c)
+pub control-made : (c : ControlHeader) → ControlInRange c → IsHeadOf (Control c) (control_head c)
 control-made c range =
     let (credits, status) = control_fits c.kind c.credits c.status range.credits range.status in
     let (low, client) = range.client in

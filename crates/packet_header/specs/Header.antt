@@ -2,10 +2,10 @@
 use Rattle.packet_header.specs.declared.layout.TheConstants.{FROM_LIFE, MAGIC, PADDING}
 use Rattle.packet_header.specs.declared.layout.TheConstants.{PADDING_BYTES, TO_LIFE}
 use Rattle.std.specs.Prelude.{◌≡◌, ◌≤◌, ◌<◌, ℕ, ◌+◌, ◌⊎◌, Bool, true, false, List, length, drop}
-use Rattle.std.specs.Prelude.{slice_index, Option, Some, None, unwrap_or}
+use Rattle.std.specs.Prelude.{◌++◌, slice_index, Option, Some, None, unwrap_or}
 use Rattle.rpc_base.specs.declared.limits.TheConstants.{SESSION_NUMBERS}
 use Rattle.rpc_base.specs.declared.limits.TheConstants.{HEAD_BYTES, PART_BYTES, MOST_DATAGRAM_BYTES}
-use Rattle.byteorder.specs.Endian.{big_number}
+use Rattle.byteorder.specs.Endian.{big_bytes, big_number}
 use Rattle.packet_header.specs.declared.packet.Kind.{Kind}
 use Rattle.packet_header.specs.declared.packet.Kind.TheVariants.{Request, Rfr, Cr, Response}
 use Rattle.packet_header.specs.declared.packet.ControlKind.{ControlKind}
@@ -27,6 +27,10 @@ number_at offset n bytes = big_number n (drop offset bytes)
 -- each is a byte
 abbrev pub AreBytes : List ℕ → Type 0
 AreBytes bytes = (k : ℕ) → slice_index bytes k < 256
+
+-- a header, by its first eight bytes as a number, the eight behind them, and the last four
+abbrev pub head_bytes : (first second last : ℕ) → List ℕ
+head_bytes first second last = big_bytes 8 first ++ (big_bytes 8 second ++ big_bytes 4 last)
 
 -- the byte of each kind
 abbrev pub kind_code : Kind → ℕ

@@ -8,7 +8,6 @@ use Rattle.packet_header.specs.declared.packet.ControlKind.TheVariants.{ConnectR
 use Rattle.packet_header.specs.declared.packet.ControlKind.TheVariants.{DisconnectRequest}
 use Rattle.packet_header.specs.declared.packet.ControlKind.TheVariants.{DisconnectReply}
 use Rattle.packet_header.specs.declared.ranges.Span.{Span}
-use Rattle.packet_header.specs.declared.ranges.MessageRow.{MessageRow}
 use Rattle.packet_header.specs.declared.ranges.ControlRow.{ControlRow}
 use Rattle.packet_header.specs.Parts.{packet_count}
 use Rattle.rpc_base.specs.declared.limits.TheConstants.{MOST_CREDITS, MOST_MESSAGE_BYTES, SESSION_NUMBERS}
@@ -32,6 +31,12 @@ sessions = span 0 (SESSION_NUMBERS - 1)
 -- lives: all 4-byte numbers but 0
 abbrev pub lives : Span
 lives = span 1 4294967295
+
+-- the ranges of a message header's fields that differ from kind to kind
+pub record MessageRow : Type 0 where
+  pub types : Span
+  pub sizes : Span
+  pub numbers : Span
 
 -- types, sizes and packet numbers of the packets that carry a call; size is the size field's number
 abbrev pub message_row : Kind → ℕ → MessageRow

@@ -13,13 +13,13 @@ ghost use Rattle.packet_header.specs.Reading.{server_of, wanted};
 ghost use Rattle.packet_header.specs.Parts.{packet_count};
 
 use crate::layout::{
-    CLIENT, CREDITS, FROM_LIFE, KIND, MAGIC, NO_LIFE, NO_SESSION, NUMBER, PADDING, PADDING_BYTES,
-    REQUEST, REQUEST_HIGH, REQUEST_LOW, SERVER, SESSION, SIZE, STATUS, TO_LIFE, TYPE,
+    CLIENT, CREDITS, FOUR_BYTES, FROM_LIFE, KIND, MAGIC, NO_LIFE, NO_SESSION, NUMBER, PADDING,
+    PADDING_BYTES, REQUEST, REQUEST_LOW, SERVER, SESSION, SIZE, STATUS, TO_LIFE, TYPE,
 };
 use crate::life::Life;
 use crate::packet::{ACCEPTED, BadPacket, ControlHeader, ControlKind, Kind, MessageHeader, Packet};
 use crate::parts::{count, part_len};
-use crate::ranges::{ControlRow, MessageRow, Span};
+use crate::ranges::{ControlRow, Span, is_number, is_size, is_type};
 use byteorder::{BigEndian, ByteOrder};
 use rpc_base::{HEAD_BYTES, PART_BYTES, RequestNo, SessionNo};
 
@@ -33,6 +33,7 @@ enum AnyKind {
 /// Reads a whole datagram. It is a packet exactly where its bytes spell one; else the answer is the
 /// first reason of `BadPacket`, in the order of that type. Fields are tried by their offsets.
 #[tactic(auto, unfolding(crate::specs::Reading::decoded))]
+#[inline(always)]
 pub fn decode(bytes: &[u8]) -> Result<Packet, BadPacket>
     ensures exact { result ≡ decoded bytes.now }
     ensures spelled { IfOk result (λ p. Spells p bytes.now) }
@@ -46,7 +47,7 @@ pub fn decode(bytes: &[u8]) -> Result<Packet, BadPacket>
         return Err(BadPacket::Magic { byte: bytes[0] });
     }
     match kind_of(bytes[KIND]) {
-        Some(AnyKind::OfMessage(kind)) => check_message(message_at(kind, bytes), bytes.len()),
+        Some(AnyKind::OfMessage(kind)) => read_message(kind, bytes),
         Some(AnyKind::OfControl(kind)) => {
             check_control(control_at(kind, bytes), padding_at(bytes), bytes.len())
         }
@@ -70,6 +71,7 @@ pub fn message_header(bytes: &[u8]) -> MessageHeader
 
 /// The kind that a byte stands for.
 #[tactic(auto, unfolding(crate::specs::Reading::kind_of))]
+#[inline(always)]
 fn kind_of(byte: u8) -> Option<AnyKind>
     ensures { result ≡ kind_of byte }
 {
@@ -88,6 +90,7 @@ fn kind_of(byte: u8) -> Option<AnyKind>
 
 /// The fields of a message header as they stand.
 #[tactic(auto, unfolding(crate::specs::Reading::message_at))]
+#[inline(always)]
 fn message_at(kind: Kind, bytes: &[u8]) -> MessageHeader
     requires { HEAD_BYTES ≤ length bytes.now }
     ensures { result ≡ message_at kind bytes.now }
@@ -104,13 +107,14 @@ fn message_at(kind: Kind, bytes: &[u8]) -> MessageHeader
 }
 
 /// The request number as it stands.
+#[inline(always)]
 fn request_at(bytes: &[u8]) -> RequestNo
     requires { HEAD_BYTES ≤ length bytes.now }
     ensures { result ≡ number_at 10 6 bytes.now }
 {
     let high = BigEndian::read_u16(&bytes[REQUEST..]);
     let low = BigEndian::read_u32(&bytes[REQUEST_LOW..]);
-    let number = REQUEST_HIGH * u64::from(high) + u64::from(low);
+    let number = FOUR_BYTES * u64::from(high) + u64::from(low);
     RequestNo::of((number % 8) as u8, number / 8)
 }
 
@@ -161,8 +165,23 @@ fn life_of(number: u32) -> Option<Life>
     }
 }
 
+/// Reads a datagram of a call. Each kind has an arm of its own, which makes just its tests.
+#[inline(always)]
+fn read_message(kind: Kind, bytes: &[u8]) -> Result<Packet, BadPacket>
+    requires { HEAD_BYTES ≤ length bytes.now }
+    ensures { result ≡ message_read (message_at kind bytes.now) (length bytes.now) }
+{
+    match kind {
+        Kind::Request => check_message(message_at(Kind::Request, bytes), bytes.len()),
+        Kind::Rfr => check_message(message_at(Kind::Rfr, bytes), bytes.len()),
+        Kind::Cr => check_message(message_at(Kind::Cr, bytes), bytes.len()),
+        Kind::Response => check_message(message_at(Kind::Response, bytes), bytes.len()),
+    }
+}
+
 /// The packet of a datagram of `len` bytes, once its fields are read.
 #[tactic(auto, unfolding(crate::specs::Reading::message_read))]
+#[inline(always)]
 fn check_message(header: MessageHeader, len: usize) -> Result<Packet, BadPacket>
     ensures { result ≡ message_read header len }
 {
@@ -197,17 +216,17 @@ fn check_control(header: ControlHeader, padding: u32, len: usize) -> Result<Pack
 
 /// The offset of the first field outside its range.
 #[tactic(auto, unfolding(crate::specs::Reading::message_fault))]
+#[inline(always)]
 pub fn message_fault(header: &MessageHeader) -> Option<u8>
     ensures { result ≡ message_fault header.now }
 {
-    let row = MessageRow::of(header.kind, header.size);
-    if !row.types.contains(u32::from(header.req_type)) {
+    if !is_type(header.kind, header.req_type) {
         Some(TYPE as u8)
-    } else if !row.sizes.contains(header.size) {
+    } else if !is_size(header.kind, header.size) {
         Some(SIZE as u8)
     } else if !Span::sessions().contains(u32::from(header.session.0)) {
         Some(SESSION as u8)
-    } else if !row.numbers.contains(u32::from(header.number)) {
+    } else if !is_number(header.kind, header.size, header.number) {
         Some(NUMBER as u8)
     } else if !Span::lives().contains(header.to_life.0) {
         Some(TO_LIFE as u8)
@@ -262,6 +281,7 @@ fn is_life(wanted: bool, life: Option<Life>) -> bool
 }
 
 /// The length that a datagram should have, in bytes; of a response the last part's.
+#[inline(always)]
 fn wanted(header: &MessageHeader) -> usize
     requires { header.now.kind ≡ Kind.Request → header.now.number < packet_count header.now.size }
     ensures { result ≡ wanted header.now.kind header.now.size header.now.number }
@@ -275,6 +295,7 @@ fn wanted(header: &MessageHeader) -> usize
 }
 
 /// A response's part may be full, where its message fills one.
+#[inline(always)]
 fn is_full_part(header: &MessageHeader, len: usize) -> bool
     ensures { result ≡ is_full_part header.now.kind header.now.size len }
 {

@@ -1,10 +1,13 @@
 //! Writing a header.
-ghost use Rattle.std.specs.Prelude.{◌≡◌, ◌<◌, ◌^◌, unwrap_or};
-ghost use Rattle.byteorder.specs.Endian.{big_number};
-ghost use Rattle.packet_header.specs.Header.{AreBytes, HasControlHead, HasHead, HasMessageHead};
-ghost use Rattle.packet_header.specs.Header.{InRange, control_code, kind_code};
+ghost use Rattle.std.specs.Prelude.{◌≡◌, unwrap_or};
+ghost use Rattle.packet_header.specs.Header.{AreBytes, ControlInRange, HasControlHead, HasHead};
+ghost use Rattle.packet_header.specs.Header.{HasMessageHead, InRange, MessageInRange};
+ghost use Rattle.packet_header.specs.Header.{control_code, head_bytes, kind_code};
 
-use crate::layout::{MAGIC, NO_LIFE, NO_SESSION};
+use crate::layout::{
+    FOUR_BYTES, MAGIC, NO_LIFE, NO_SESSION, ONE_BYTE, SECOND, SIX_BYTES, THREE_BYTES, TO_LIFE,
+    TWO_BYTES,
+};
 use crate::life::Life;
 use crate::packet::{ControlHeader, ControlKind, Kind, MessageHeader, Packet};
 use byteorder::{BigEndian, ByteOrder};
@@ -17,10 +20,7 @@ pub fn encode(packet: &Packet, out: &mut [u8; HEAD_BYTES])
     ensures head { HasHead packet.now out.new }
     ensures bytes { AreBytes out.new }
 {
-    *out = match packet {
-        Packet::Message(header) => message_head(header),
-        Packet::Control(header) => control_head(header),
-    };
+    write_head(packet, out);
     are_bytes(out);
 }
 
@@ -31,69 +31,50 @@ fn are_bytes(bytes: &[u8])
     let _count = bytes.len();
 }
 
-fn message_head(header: &MessageHeader) -> [u8; HEAD_BYTES]
-    requires size { header.now.size < 2 ^ 24 }
-    ensures { HasMessageHead header.now result }
+fn write_head(packet: &Packet, out: &mut [u8; HEAD_BYTES])
+    requires { InRange packet.now }
+    ensures { HasHead packet.now out.new }
 {
-    let size = bytes_of_24(header.size);
-    let session = bytes_of_16(header.session.0);
-    let number = bytes_of_16(header.number);
-    let request = bytes_of_48(header.request.get());
-    let to_life = bytes_of_32(header.to_life.0);
-    [
-        MAGIC,
-        kind_code(header.kind),
-        header.req_type,
-        size[0],
-        size[1],
-        size[2],
-        session[0],
-        session[1],
-        number[0],
-        number[1],
-        request[0],
-        request[1],
-        request[2],
-        request[3],
-        request[4],
-        request[5],
-        to_life[0],
-        to_life[1],
-        to_life[2],
-        to_life[3],
-    ]
+    match packet {
+        Packet::Message(header) => write_message(header, out),
+        Packet::Control(header) => write_control(header, out),
+    }
 }
 
-fn control_head(header: &ControlHeader) -> [u8; HEAD_BYTES]
-    ensures { HasControlHead header.now result }
+// The fields that are written together make one number, each behind those before it.
+fn write_message(header: &MessageHeader, out: &mut [u8; HEAD_BYTES])
+    requires { MessageInRange header.now }
+    ensures { HasMessageHead header.now out.new }
 {
-    let client = bytes_of_16(header.client.0);
-    let server = bytes_of_16(server_number(header.server));
-    let credits = bytes_of_16(header.credits);
-    let from_life = bytes_of_32(header.from_life.0);
-    let to_life = bytes_of_32(life_number(header.to_life));
-    [
-        MAGIC,
-        control_code(header.kind),
-        client[0],
-        client[1],
-        server[0],
-        server[1],
-        credits[0],
-        credits[1],
-        header.status,
-        from_life[0],
-        from_life[1],
-        from_life[2],
-        from_life[3],
-        0,
-        0,
-        0,
-        to_life[0],
-        to_life[1],
-        to_life[2],
-        to_life[3],
-    ]
+    let kind = u64::from(MAGIC) * ONE_BYTE + u64::from(kind_code(header.kind));
+    let req_type = kind * ONE_BYTE + u64::from(header.req_type);
+    let size = req_type * THREE_BYTES + u64::from(header.size);
+    let session = size * TWO_BYTES + u64::from(header.session.0);
+    let request = u64::from(header.number) * SIX_BYTES + header.request.get();
+    write_numbers(out, session, request, header.to_life.0);
+}
+
+fn write_control(header: &ControlHeader, out: &mut [u8; HEAD_BYTES])
+    requires { ControlInRange header.now }
+    ensures { HasControlHead header.now out.new }
+{
+    let kind = u64::from(MAGIC) * ONE_BYTE + u64::from(control_code(header.kind));
+    let client = kind * TWO_BYTES + u64::from(header.client.0);
+    let server = client * TWO_BYTES + u64::from(server_number(header.server));
+    let credits = server * TWO_BYTES + u64::from(header.credits);
+    let from_life = u64::from(header.status) * FOUR_BYTES + u64::from(header.from_life.0);
+    let padded = from_life * THREE_BYTES;
+    write_numbers(out, credits, padded, life_number(header.to_life));
+}
+
+/// Writes a header that is given as numbers: its first eight bytes, the eight behind them, and the
+/// last four.
+fn write_numbers(out: &mut [u8; HEAD_BYTES], first: u64, second: u64, last: u32)
+    ensures { out.new ≡ head_bytes first second last }
+{
+    BigEndian::write_u64(&mut out[..], first);
+    BigEndian::write_u64(&mut out[SECOND..], second);
+    BigEndian::write_u32(&mut out[TO_LIFE..], last);
 }
 
 /// What stands in the server's place.
@@ -137,38 +118,4 @@ fn control_code(kind: ControlKind) -> u8
         ControlKind::DisconnectRequest => 6,
         ControlKind::DisconnectReply => 7,
     }
-}
-
-fn bytes_of_16(number: u16) -> [u8; 2]
-    ensures { big_number 2 result ≡ number }
-{
-    let mut out = [0; 2];
-    BigEndian::write_u16(&mut out, number);
-    out
-}
-
-fn bytes_of_24(number: u32) -> [u8; 3]
-    requires { number < 2 ^ 24 }
-    ensures { big_number 3 result ≡ number }
-{
-    let mut out = [0; 3];
-    BigEndian::write_u24(&mut out, number);
-    out
-}
-
-fn bytes_of_32(number: u32) -> [u8; 4]
-    ensures { big_number 4 result ≡ number }
-{
-    let mut out = [0; 4];
-    BigEndian::write_u32(&mut out, number);
-    out
-}
-
-fn bytes_of_48(number: u64) -> [u8; 6]
-    requires { number < 2 ^ 48 }
-    ensures { big_number 6 result ≡ number }
-{
-    let mut out = [0; 6];
-    BigEndian::write_u48(&mut out, number);
-    out
 }

@@ -12,6 +12,20 @@ pub const KIND: usize = 1;
 /// The offset of the receiver's life, in every header; the life has four bytes.
 pub const TO_LIFE: usize = 16;
 
+/// The offset of the second eight bytes of a header, which are written as one number.
+pub const SECOND: usize = 8;
+
+// How many numbers so many bytes hold.
+pub const ONE_BYTE: u64 = 1 << 8;
+
+pub const TWO_BYTES: u64 = 1 << 16;
+
+pub const THREE_BYTES: u64 = 1 << 24;
+
+pub const FOUR_BYTES: u64 = 1 << 32;
+
+pub const SIX_BYTES: u64 = 1 << 48;
+
 /// What stands in the place of the receiver's life of a control header where it isn't known. It is
 /// nobody's life.
 pub const NO_LIFE: u32 = 0;
@@ -28,10 +42,8 @@ pub const NUMBER: usize = 8;
 
 pub const REQUEST: usize = 10;
 
-/// The offset of the four low bytes of the request's number, and what the two before them count.
+/// The offset of the four low bytes of the request's number.
 pub const REQUEST_LOW: usize = 12;
-
-pub const REQUEST_HIGH: u64 = 1 << 32;
 
 // The offsets of a control header's fields: the two sessions and the credits have two bytes each,
 // the status one, the sender's life four. The rest before the receiver's life is zero.

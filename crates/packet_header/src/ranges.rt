@@ -1,4 +1,5 @@
-//! The ranges of the fields: a row for each kind of packet.
+//! The ranges of the fields: tests of those of a message header, and a row for each kind of control
+//! packet.
 ghost use Rattle.std.specs.Prelude.{◌≡◌};
 ghost use Rattle.packet_header.specs.Ranges.{control_row, lives, message_row, sessions, span};
 ghost use Rattle.packet_header.specs.Ranges.{within};
@@ -50,33 +51,39 @@ impl Span {
     }
 }
 
-/// The ranges of a message header's fields that differ from kind to kind.
-#[derive(Clone, Copy)]
-pub struct MessageRow {
-    pub types: Span,
-    pub sizes: Span,
-    pub numbers: Span,
+/// Whether a type is in the range of its kind.
+#[inline(always)]
+pub fn is_type(kind: Kind, req_type: u8) -> bool
+    ensures { result ≡ within (message_row kind 0).types req_type }
+{
+    match kind {
+        Kind::Request | Kind::Response => true,
+        Kind::Rfr | Kind::Cr => req_type == 0,
+    }
 }
 
-impl MessageRow {
-    /// The row of a kind. A request's numbers depend on the size of its message.
-    pub fn of(kind: Kind, size: u32) -> MessageRow
-        ensures { result ≡ message_row kind size }
-    {
-        let any = Span::new(0, u32::from(u8::MAX));
-        let none = Span::new(0, 0);
-        let all = Span::new(0, MOST_MESSAGE_BYTES);
-        let (types, sizes, numbers) = match kind {
-            Kind::Request => (any, all, Span::new(0, count(size) - 1)),
-            Kind::Rfr => (none, none, Span::new(1, LAST_NUMBER)),
-            Kind::Cr => (none, none, Span::new(0, LAST_CR)),
-            Kind::Response => (any, all, Span::new(0, LAST_NUMBER)),
-        };
-        MessageRow {
-            types,
-            sizes,
-            numbers,
-        }
+/// Whether the size of a message, in bytes, is in the range of its kind.
+#[inline(always)]
+pub fn is_size(kind: Kind, size: u32) -> bool
+    ensures { result ≡ within (message_row kind size).sizes size }
+{
+    match kind {
+        Kind::Request | Kind::Response => size <= MOST_MESSAGE_BYTES,
+        Kind::Rfr | Kind::Cr => size == 0,
+    }
+}
+
+/// Whether the number of a packet is in the range of its kind. That of a request depends on the
+/// size of its message.
+#[inline(always)]
+pub fn is_number(kind: Kind, size: u32, number: u16) -> bool
+    ensures { result ≡ within (message_row kind size).numbers number }
+{
+    match kind {
+        Kind::Request => u32::from(number) < count(size),
+        Kind::Rfr => number != 0 && u32::from(number) <= LAST_NUMBER,
+        Kind::Cr => u32::from(number) <= LAST_CR,
+        Kind::Response => u32::from(number) <= LAST_NUMBER,
     }
 }
 

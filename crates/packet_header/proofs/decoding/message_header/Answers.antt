@@ -1,7 +1,5 @@
 -- The kind and the fields are those of the header that the datagram has.
-use Rattle.std.proofs.Common.{◌≡◌, Some, None, ap, sym, ◌∙◌, arith}
-use Rattle.packet_header.specs.declared.packet.MessageHeader.{MessageHeader}
-use Rattle.packet_header.specs.declared.decoding.AnyKind.{AnyKind}
+use Rattle.std.proofs.Common.{◌≡◌, Some, ap, sym, ◌∙◌, arith}
 use Rattle.packet_header.specs.declared.decoding.AnyKind.TheVariants.{OfMessage}
 use Rattle.packet_header.specs.Reading.{message_at}
 use Rattle.packet_header.proofs.Readings.{message_of-spells, message_of-some}
