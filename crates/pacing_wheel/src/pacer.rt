@@ -128,6 +128,7 @@ impl Pacer {
 
     /// The entry that is due first, among equals the one added first, where it is due at `now`, in
     /// microseconds. None comes exactly where no entry is. It looks at no place behind `now`.
+    #[inline(always)]
     pub fn first_due(&self, now: u64) -> Option<Paced>
         ensures due { result ≡ least (is_due now) due_of self.now.items }
         ensures none { IsNone result ↔ (list_any (is_due now) self.now.items ≡ false) }

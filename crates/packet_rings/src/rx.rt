@@ -88,6 +88,7 @@ impl RxRing {
 
     /// Copies a datagram of at most 1,044 bytes to the back of a ring that isn't full. It takes no
     /// memory.
+    #[inline(always)]
     pub fn push(&mut self, peer: Peer, bytes: &[u8])
         requires room { length self.old.items < self.old.size }
         requires fits { length bytes.now ≤ MOST_DATAGRAM_BYTES }
