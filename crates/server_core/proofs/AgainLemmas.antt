@@ -1,7 +1,8 @@
 -- A request begins whose answer is written over the older one of its slot, at the same place.
-use Rattle.std.proofs.Common.{◌≡◌, ◌≢◌, ℕ, ◌+◌, ◌%◌, ◌<◌, ◌≤◌, true, cond, eqb, Some, None, List}
+use Rattle.std.proofs.Common.{◌≡◌, ◌≢◌, ℕ, ◌+◌, ◌%◌, ◌<◌, ◌≤◌, true, cond, eqb, List}
+use Rattle.std.proofs.Common.{Option, Some, None}
 use Rattle.std.proofs.Common.{[], ◌∷◌, ◌++◌, refl, sym, ap, ◌∙◌, subst, arith}
-use Rattle.message_buffer.specs.Buffer.{Buffer, bytes_of}
+use Rattle.message_buffer.specs.Buffer.{Buffer, bytes_of, capacity_of, with_len}
 use Rattle.message_buffer.specs.Messages.{HasSize}
 use Rattle.buffer_pool.specs.Pool.{Pool, IsFull, buf_at, changed, held, refs_of}
 use Rattle.buffer_pool.specs.declared.usage.Use.TheVariants.{Empty}
@@ -12,15 +13,18 @@ use Rattle.packet_header.specs.declared.packet.MessageHeader.{MessageHeader}
 use Rattle.packet_header.proofs.PartsLemmas.{packet_count_above}
 use Rattle.packet_rings.specs.Mentions.{mentions}
 use Rattle.packet_rings.specs.Values.{EntryValue}
+use Rattle.rpc_base.specs.declared.limits.TheConstants.{PART_BYTES}
+use Rattle.rpc_base.specs.declared.owner.Owner.TheVariants.{Reply}
 use Rattle.rpc_base.specs.Tables.{without_first}
 use Rattle.rpc_base.proofs.ChangedLemmas.{sum-without}
 use Rattle.rpc_laws.specs.Requests.{answered}
 use Rattle.server_core.specs.Flushing.{HoldsAll, without_newest}
+use Rattle.server_core.specs.Handling.{IsBegunWith}
 use Rattle.server_core.specs.Homes.{HasOwn}
 use Rattle.server_core.specs.KeepsPool.{KeepsPool, KeepsSpare, LeavesOthers, answer_names}
 use Rattle.server_core.specs.KeepsPool.{answer_places, ask_places, names, own_places}
-use Rattle.server_core.specs.Replies.{IsReplyIn, entry_at}
-use Rattle.server_core.specs.Reusing.{IsReusable}
+use Rattle.server_core.specs.Replies.{IsReplyIn, entry_at, placed_entry}
+use Rattle.server_core.specs.Reusing.{HasRoom, IsReusable, PutsRoom}
 use Rattle.server_core.specs.Serving.{IsUnheld, begun, first_answered, with_slots}
 use Rattle.server_core.specs.Session.{IsInTurn, IsSession, Session, answer_of, ask_of, is_in_slot}
 use Rattle.server_core.specs.Session.{newest}
@@ -30,16 +34,21 @@ use Rattle.server_core.specs.declared.slot.SlotRequest.{SlotRequest}
 use Rattle.server_core.specs.declared.slot.SlotState.{SlotState}
 use Rattle.server_core.specs.declared.slot.SlotState.TheVariants.{Taking, Working, Answered}
 use Rattle.server_core.specs.declared.slot.Stored.{Stored}
-use Rattle.server_core.proofs.BeginLemmas.{answer-held, begun-newest, idle-reply, is-reply, shown-behind}
+use Rattle.server_core.specs.Wanting.{MayBeginWhole}
+use Rattle.server_core.proofs.BeginLemmas.{answer-held, begun-newest, begun-served, idle-reply}
+use Rattle.server_core.proofs.BeginLemmas.{is-reply, shown-behind}
 use Rattle.server_core.proofs.HoldBeginLemmas.{first-answered-holds, listed, only, only-newest}
 use Rattle.server_core.proofs.HoldStepLemmas.{late-placed}
 use Rattle.server_core.proofs.OtherLemmas.{answer-away, begun-names, found-names, same-one}
 use Rattle.server_core.proofs.PlaceLemmas.{IsBeside, answer-apart, put-behind, taken-out}
-use Rattle.server_core.proofs.PoolLemmas.{ChangesOne, keeps-off, map-off}
+use Rattle.server_core.proofs.PoolLemmas.{ChangesOne, changed-there, changed-twice, keeps-off}
+use Rattle.server_core.proofs.PoolLemmas.{map-off}
+use Rattle.server_core.proofs.QueuedLemmas.{first-counted}
 use Rattle.server_core.proofs.ReplyLemmas.{kept-answer}
 use Rattle.server_core.proofs.SlotLemmas.{begun-session}
 use Rattle.server_core.proofs.StaysLemmas.{placed-behind}
 use Rattle.server_core.proofs.SpareLemmas.{begun-places, spare-held}
+use Rattle.server_core.proofs.StepLemmas.{answered-begun, none-shown}
 
 -- it is in turn
 pub answered-turn : (h : MessageHeader) (a : Stored) → IsMessage h.size → packet_count h.size ≡ 1
@@ -190,3 +199,106 @@ module _ (pool : Pool) (s : Session) (head : MessageHeader) (size p : ℕ)
             (entry_at s.number s.peer 0 d) (record { place = p; size = size; own = true }) refl
             (omega (arith, unheld, (held_refs (changed p b pool) p again-full).1))
             (late-placed d (record { place = p; size = size; own = true }) 0 refl one) again-reply mine
+
+-- a request begins whose answer is to be written there
+module _ (pool : Pool) (s : Session) (head : MessageHeader) (size p : ℕ) (first : Buffer)
+    (reuse : IsReusable p (newest head.request s)) (begins : MayBeginWhole head s pool)
+    (short : size ≤ PART_BYTES) (there : buf_at pool p ≡ Some first) where
+  abbrev a : Stored
+  a = record { place = p; size = size; own = true }
+
+  abbrev x : SlotRequest
+  x = first_answered head a
+
+  abbrev w : Session
+  w = with_slots (begun x s.slots) s
+
+  abbrev now : Pool
+  now = changed p (with_len size first) pool
+
+  keeps : KeepsPool pool s.slots
+  keeps = begins.whole.begins.keeps_pool
+
+  turn : IsInTurn x
+  turn = answered-turn head a begins.whole.begins.size begins.whole.one (omega (arith, short))
+
+  pub again-session : IsSession w
+  again-session = begun-session s x begins.session turn
+
+  pub again-idle : refs_of pool p ≡ 0
+  again-idle =
+      again-unheld pool s head size p reuse keeps
+      (rw reuse.newest_is at begins.whole.begins.unheld)
+
+  pub again-fits : size ≤ capacity_of first
+  again-fits =
+      let own : HasOwn true (Some first) = rw there at (again-own pool s head size p reuse keeps) in
+      omega (arith, own, short)
+
+  again-room : HasRoom a now
+  again-room =
+      let own : HasOwn true (Some first) = rw there at (again-own pool s head size p reuse keeps) in
+      let then_there = changed-there p first (with_len size first) pool there in
+      record {
+        stored = record {
+          full = again-full pool s head size p reuse keeps;
+          size = rw then_there (refl, again-fits);
+          own = λ e. rw then_there own;
+        };
+        unheld = again-idle;
+      }
+
+  again-entry : entry_at s.number s.peer 0 x ≡ placed_entry w head.request 0 a
+  again-entry =
+      let entry : Option ℕ → EntryValue =
+      λ place. record {
+        owner = Reply s.number head.request;
+        number = 0;
+        place = place;
+        peer = s.peer;
+      } in
+      ap entry (late-placed x a 0 refl (omega (arith, begins.whole.one)))
+
+  -- whatever the answer, once it is written there and held
+  again-begun : (b : Buffer) → HasSize size (Some b) → HasOwn true (Some b)
+      → IsBegunWith head a s w pool (bytes_of b) (again_in p b pool)
+  again-begun b fits own =
+      let then_there = changed-there p first b pool there in
+      let one : packet_count head.size ≤ 1 = omega (arith, begins.whole.one) in
+      let newest_is : newest head.request w ≡ Some x = begun-newest s x begins.session in
+      record {
+        shown_is = again-shows pool s head size p reuse keeps b then_there fits own
+            ∙ answered-begun (shown pool s) head (bytes_of b)
+            (none-shown pool s head.request begins.session begins.newer);
+        no_bytes = rw newest_is refl;
+        replies = record {
+          reply = subst (IsReply head.request 0 w (again_in p b pool)) again-entry
+              (again-reply pool s head size p reuse keeps b begins.session turn one);
+          begins = record {
+            places = record {
+              spare = again-spare pool s head size p reuse keeps b;
+              others = again-others pool s head size p reuse b;
+              keeps_pool = again-keeps pool s head size p reuse keeps b then_there fits own;
+            };
+            replies = λ es. record {
+              holds = λ all. subst (λ e. HoldsAll w (again_in p b pool) (es ++ e ∷ [])) again-entry
+                  (again-holds pool s head size p reuse keeps b begins.session turn one es all
+                  again-idle);
+              queued = λ all counted. first-counted pool s head.request begins.session keeps x refl
+                  pool es all counted (placed_entry w head.request 0 a) refl refl;
+              counts = λ q. again-counts pool s head size p reuse keeps b es
+                  (placed_entry w head.request 0 a) q refl;
+            };
+            served = λ mode_of new all. begun-served mode_of s.slots x new all;
+          };
+        };
+      }
+
+  pub again-puts : PutsRoom a size (IsBegunWith head a s w pool) s w now
+  again-puts = record {
+    room = again-room;
+    size_is = refl;
+    number = refl;
+    once = λ b fits own. subst (λ new. IsBegunWith head a s w pool (bytes_of b) (held p new))
+        (sym (changed-twice p (with_len size first) b pool)) (again-begun b fits (own refl));
+  }

@@ -15,6 +15,7 @@ mod PoolLemmas
 mod RecountLemmas
 mod ReplyLemmas
 mod RowLemmas
+mod ServedLemmas
 mod ShortLemmas
 mod SlotLemmas
 mod StaysLemmas

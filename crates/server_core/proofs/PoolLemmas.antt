@@ -1,8 +1,10 @@
 -- What a session's places are in the pool, before and after a call of the session.
 use Rattle.server_core.specs.Session.{ask_of, answer_of}
 use Rattle.std.proofs.Common.{◌≡◌, ◌≢◌, ℕ, ◌+◌, ◌-◌, ◌<◌, true, Option}
-use Rattle.std.proofs.Common.{Some, None, List, [], ◌∷◌, set, refl, ap, ◌∙◌}
-use Rattle.std.proofs.Common.{arith}
+use Rattle.std.proofs.Common.{Some, None, List, [], ◌∷◌, get_or, length, set, refl, sym, ap, ◌∙◌}
+use Rattle.std.proofs.Common.{inl, inr, arith}
+use Rattle.std.proofs.lemmas.Bool.{cases_lt}
+use Rattle.std.proofs.lemmas.List.{get_or_past, get_or-set_same, set-set}
 use Rattle.std.specs.Prelude.{IfSome, map, option_map}
 use Rattle.std.specs.List.{AllByRecursion}
 use Rattle.std.proofs.lemmas.List.Sums.{sum_by-cons}
@@ -44,6 +46,38 @@ one-emptied p pool =
 
 pub one-changed : (p : ℕ) (b : Buffer) (pool : Pool) → ChangesOne p pool (changed p b pool)
 one-changed p b pool = record { other_uses = λ q n. refl; other_bufs = λ q n. changed_other pool.bufs p q _ None n }
+
+-- a place that has a buffer, and then another
+set-there : (bufs : List (Option Buffer)) (p : ℕ) (a b : Buffer) → get_or bufs p None ≡ Some a
+    → get_or (set bufs p (Some b)) p None ≡ Some b
+set-there bufs p a b was = elim (cases_lt p (length bufs)) [
+  | inl within ↦ get_or-set_same bufs p (Some b) None within
+  | inr past ↦ (let clash : None ≡ Some a = sym (get_or_past bufs p None past) ∙ was in cc)
+]
+
+pub changed-there : (p : ℕ) (a b : Buffer) (pool : Pool) → buf_at pool p ≡ Some a
+    → buf_at (changed p b pool) p ≡ Some b
+changed-there p a b pool was = set-there pool.bufs p a b was
+
+pub filled-there : (p : ℕ) (a b : Buffer) (pool : Pool) → buf_at (filled p a pool) p ≡ Some a
+    → buf_at (filled p b pool) p ≡ Some b
+filled-there p a b pool was =
+    ap (λ bufs. get_or bufs p None) (sym (set-set pool.bufs p (Some a) (Some b)))
+    ∙ set-there (set pool.bufs p (Some a)) p a b was
+
+-- the last buffer is there from the first on
+pub filled-changed : (p : ℕ) (a b : Buffer) (pool : Pool)
+    → changed p b (filled p a pool) ≡ filled p b pool
+filled-changed p a b pool =
+    let whole : List (Option Buffer) → Pool =
+    λ bufs. record { uses = set pool.uses p (Full 0); bufs = bufs } in
+    ap whole (set-set pool.bufs p (Some a) (Some b))
+
+pub changed-twice : (p : ℕ) (a b : Buffer) (pool : Pool)
+    → changed p b (changed p a pool) ≡ changed p b pool
+changed-twice p a b pool =
+    let whole : List (Option Buffer) → Pool = λ bufs. record { uses = pool.uses; bufs = bufs } in
+    ap whole (set-set pool.bufs p (Some a) (Some b))
 
 -- how often requests name a place
 pub names-cons : (p : ℕ) (q : SlotRequest) (qs : List SlotRequest) → names p (q ∷ qs) ≡ own_names p q + names p qs

@@ -1,7 +1,7 @@
 -- A short answer of a type that is handled inline needs no memory: why a packet that was dropped for
 -- want of it isn't the last one of a request with such an answer.
-use Rattle.std.proofs.Common.{◌≡◌, ℕ, ◌+◌, ◌<◌, ◌≤◌, true, List, length, arith}
-use Rattle.std.proofs.lemmas.Bool.{and_parts, eqb-true}
+use Rattle.std.proofs.Common.{◌≡◌, ℕ, ◌+◌, ◌<◌, ◌≤◌, true, false, List, length, arith}
+use Rattle.std.proofs.lemmas.Bool.{and_parts, eqb-true, false_from_ne_true}
 use Rattle.packet_header.specs.Parts.{packet_count}
 use Rattle.packet_header.specs.declared.packet.MessageHeader.{MessageHeader}
 use Rattle.rpc_laws.specs.ServerTable.{is_last}
@@ -15,6 +15,9 @@ pub more-come : (h : MessageHeader) → h.number + 1 < packet_count h.size → i
 more-come h more last =
     let same = eqb-true (h.number + 1) (packet_count h.size) ((and_parts _ _ last).1) in
     absurd (omega (arith, same, more))
+
+pub not-last : (h : MessageHeader) → h.number + 1 < packet_count h.size → is_last h ≡ false
+not-last h more = false_from_ne_true (is_last h) (more-come h more)
 
 -- a worker handles it
 pub is-given : (mode : Mode) → is_mode_background mode ≡ true → mode ≡ Inline → ⊥

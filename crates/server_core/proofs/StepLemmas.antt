@@ -295,3 +295,12 @@ pub last-inline : (mode : Mode) (h : MessageHeader) → is_rfr h.kind ≡ false
 last-inline mode h part last other =
     let is : is_last h ≡ true = rw (part, eq-eqb (h.number + 1) (packet_count h.size) last) refl in
     (is, rw (is, other) refl)
+
+-- and what one is that a worker handles, or that more packets are to come after
+pub last-whole : (h : MessageHeader) → is_rfr h.kind ≡ false → h.number + 1 ≡ packet_count h.size
+    → is_last h ≡ true
+last-whole h part last = rw (part, eq-eqb (h.number + 1) (packet_count h.size) last) refl
+
+pub last-job : (mode : Mode) (h : MessageHeader) → is_rfr h.kind ≡ false
+    → h.number + 1 ≡ packet_count h.size → is_mode_background mode ≡ true → makes_job mode h ≡ true
+last-job mode h part last given = rw (last-whole h part last, given) refl

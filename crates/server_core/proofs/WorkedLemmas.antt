@@ -1,20 +1,25 @@
 -- The answer to a request is put into the pool: what is kept and shown of its session, and the reply
 -- to its last packet.
-use Rattle.std.proofs.Common.{◌≡◌, ◌+◌, ◌≤◌, ◌++◌, ◌∷◌, [], ℕ, None, Some, true, ap}
-use Rattle.std.proofs.Common.{refl, sym, ◌∙◌, arith}
+use Rattle.std.proofs.Common.{◌≡◌, ◌+◌, ◌-◌, ◌≤◌, ◌++◌, ◌∷◌, [], ℕ, Option, None, Some, true, ap}
+use Rattle.std.proofs.Common.{refl, subst, sym, ◌∙◌, arith}
 use Rattle.message_buffer.specs.Buffer.{Buffer, bytes_of, capacity_of}
-use Rattle.buffer_pool.specs.Pool.{Pool, IsFull, buf_at, filled, held, lowest_empty}
-use Rattle.buffer_pool.specs.Uses.{is_full}
+use Rattle.buffer_pool.specs.Pool.{Pool, IsFull, buf_at, changed, filled, held, lowest_empty}
+use Rattle.buffer_pool.specs.Pool.{use_at}
+use Rattle.buffer_pool.specs.Uses.{is_full, refs_in}
 use Rattle.buffer_pool.specs.declared.usage.Use.TheVariants.{Empty, Full}
 use Rattle.buffer_pool.proofs.CountLemmas.{lowest_at, refs_filled}
 use Rattle.buffer_pool.proofs.PoolLemmas.{changed_own}
 use Rattle.packet_header.specs.Parts.{IsMessage, packet_count}
 use Rattle.packet_rings.specs.Mentions.{mentions}
 use Rattle.packet_rings.specs.Values.{EntryValue}
+use Rattle.rpc_base.specs.declared.owner.Owner.TheVariants.{Reply}
 use Rattle.rpc_laws.specs.Requests.{answered}
+use Rattle.server_core.specs.Finishing.{GivesAnswer}
+use Rattle.server_core.specs.Handling.{IsAnsweredWith}
 use Rattle.server_core.specs.Homes.{HasOwn}
 use Rattle.server_core.specs.Keeping.{GivesReply, KeepsPlaces}
-use Rattle.server_core.specs.Replies.{IsReplyIn, entry_at}
+use Rattle.server_core.specs.Replies.{IsReplyIn, entry_at, placed_entry}
+use Rattle.server_core.specs.Reusing.{HasRoom, IsPut, OnceHeld, PutsRoom}
 use Rattle.server_core.specs.Serving.{gone_on, with_slots, worked}
 use Rattle.server_core.specs.Session.{IsSession, Session, answer_of, ask_of, newest}
 use Rattle.server_core.specs.Shown.{shown}
@@ -25,6 +30,7 @@ use Rattle.server_core.specs.declared.slot.Stored.{Stored}
 use Rattle.server_core.proofs.BeginLemmas.{answer-held, idle-reply, is-reply}
 use Rattle.server_core.proofs.HoldStepLemmas.{answer-holds, late-placed, worked-more}
 use Rattle.server_core.proofs.OtherLemmas.{last-others}
+use Rattle.server_core.proofs.PoolLemmas.{filled-changed, filled-there}
 use Rattle.server_core.proofs.QueuedLemmas.{gone-counted}
 use Rattle.server_core.proofs.SlotLemmas.{gone-session}
 use Rattle.server_core.proofs.SpareLemmas.{last-spare}
@@ -120,3 +126,81 @@ module _ (pool : Pool) (s : Session) (q : SlotRequest) (a : Stored) (b : Buffer)
             mode_of d refl refl all;
       };
     }
+
+  -- once a worker has finished it
+  pub gives-answer : IsMessage b.len → (e : EntryValue)
+      → e ≡ entry_at s.number s.peer (q.taken - 1) d → GivesAnswer q (bytes_of b) e s w pool after
+  gives-answer message e entry =
+      let number : e.number ≡ q.taken - 1 = ap (λ x. x.number) entry in
+      let whole = worked-whole q awaited.turn awaited.working in
+      let last : (q.taken - 1) + 1 ≡ packet_count q.size =
+      omega (arith, whole, awaited.turn.some) in
+      record {
+        shown_is = put-shows;
+        last = rw number last;
+        no_bytes = put-no_bytes;
+        replies = subst (λ (k : ℕ). GivesReply q.number k e s w pool after) (sym number)
+            (put-replies message e (q.taken - 1) last entry);
+        queued = λ es counted. gone-counted s q h awaited.own.found d refl es e refl
+            (ap (λ x. x.owner) entry) counted;
+      }
+
+-- the room for its answer is put into the pool
+module _ (pool new : Pool) (s : Session) (q : SlotRequest) (a : Stored) (h : IsSession s)
+    (awaited : IsAwaited q s pool) (put : IsPut a pool new) (message : IsMessage a.size) where
+  abbrev then_session : Session
+  then_session = with_slots (gone_on (worked a q) s.slots) s
+
+  there_first : buf_at (filled a.place put.buf pool) a.place ≡ Some put.buf
+  there_first = rw put.after_is at put.there
+
+  use_is : use_at new a.place ≡ Full 0
+  use_is =
+      rw put.after_is (changed_own pool.uses a.place (Full 0) Empty
+      (lowest_at pool a.place put.lowest).0)
+
+  pub room-session : IsSession then_session
+  room-session =
+      put-session pool s q a put.buf h awaited put.lowest there_first (sym put.size_is.0)
+      (omega (arith, put.size_is.0, put.size_is.1)) put.own (rw put.size_is.0 message)
+
+  has-room : HasRoom a new
+  has-room = record {
+    stored = record {
+      full = ap is_full use_is;
+      size = rw put.there put.size_is;
+      own = λ e. rw put.there (put.own e);
+    };
+    unheld = ap refs_in use_is;
+  }
+
+  answered-entry : (k : ℕ) → k + 1 ≡ packet_count q.size
+      → placed_entry then_session q.number k a ≡ entry_at s.number s.peer k (worked a q)
+  answered-entry k last =
+      let entry : Option ℕ → EntryValue =
+      λ place. record {
+        owner = Reply s.number q.number;
+        number = k;
+        place = place;
+        peer = s.peer;
+      } in
+      ap entry (sym (late-placed (worked a q) a k refl (omega (arith, last))))
+
+  -- whatever the answer, once it is written there and held
+  room-once : OnceHeld a (IsAnsweredWith q a s then_session pool) new
+  room-once = λ b fits own.
+      let there = filled-there a.place put.buf b pool there_first in
+      let within : b.len ≤ capacity_of b = omega (arith, fits.0, fits.1) in
+      let is : filled a.place b pool ≡ changed a.place b new =
+      sym (ap (changed a.place b) put.after_is ∙ filled-changed a.place put.buf b pool) in
+      subst (λ x. IsAnsweredWith q a s then_session pool (bytes_of b) (held a.place x)) is (record {
+        shown_is = put-shows pool s q a b h awaited put.lowest there (sym fits.0) within own;
+        no_bytes = put-no_bytes pool s q a b h awaited put.lowest there (sym fits.0) within own;
+        replies = λ k last. put-replies pool s q a b h awaited put.lowest there (sym fits.0) within
+            own (rw fits.0 message) (placed_entry then_session q.number k a) k last
+            (answered-entry k last);
+      })
+
+  pub puts-room : (size : ℕ) → a.size ≡ size
+      → PutsRoom a size (IsAnsweredWith q a s then_session pool) s then_session new
+  puts-room size is = record { room = has-room; size_is = is; number = refl; once = room-once }

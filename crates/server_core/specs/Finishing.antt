@@ -13,7 +13,7 @@ use Rattle.rpc_outside.specs.declared.service.Mode.{Mode}
 use Rattle.server_core.specs.declared.slot.SlotRequest.{SlotRequest}
 use Rattle.server_core.specs.Counting.{CountsQueued}
 use Rattle.server_core.specs.Flushing.{HoldsAll}
-use Rattle.server_core.specs.Keeping.{KeepsPlaces, StillCounts}
+use Rattle.server_core.specs.Keeping.{GivesReply, KeepsPlaces, StillCounts}
 use Rattle.server_core.specs.KeepsPool.{KeepsSpare, LeavesOthers}
 use Rattle.server_core.specs.Serving.{all_given_up}
 use Rattle.server_core.specs.Session.{IsSession, Session, newest}
@@ -32,6 +32,18 @@ pub record IsFinished (r : ℕ) (bytes : List ℕ) (s w : Session) (before after
   pub shown_is : shown after w ≡ gone_on_as r (answered bytes) (shown before s)
   pub last : IfSome (newest r s) (λ q. e.number + 1 ≡ packet_count q.size)
   pub reply : IsReply r e.number w after e
+
+-- a request that was at work is answered with these bytes: it has given its own up, and the entry
+-- is the reply to its last packet
+pub record GivesAnswer (q : SlotRequest) (bytes : List ℕ) (e : EntryValue) (s w : Session)
+    (before after : Pool) : Type 0 where
+  pub shown_is : shown after w ≡ gone_on_as q.number (answered bytes) (shown before s)
+  pub last : e.number + 1 ≡ packet_count q.size
+  pub no_bytes : HasNoBytes (newest q.number w)
+  pub replies : GivesReply q.number e.number e s w before after
+  -- whatever the entries are
+  pub queued : (entries : List EntryValue) → CountsQueued s entries
+      → CountsQueued w (entries ++ e ∷ [])
 
 -- no request waits for them, and nothing changes
 pub record IsLeft (r : ℕ) (s w : Session) (before after : Pool) : Type 0 where

@@ -1,6 +1,10 @@
 -- What a session needs to handle a Request or RFR, and what handling it leaves.
-use Rattle.std.specs.Prelude.{◌≡◌, ℕ, ◌<◌, ◌++◌, [], Bool, false, true, List, None, Some, IfSome}
-use Rattle.buffer_pool.specs.Pool.{Pool, spare_of}
+use Rattle.std.specs.Prelude.{◌≡◌, ℕ, ◌+◌, ◌<◌, ◌++◌, [], Bool, false, true, List, None, Some}
+use Rattle.std.specs.Prelude.{IfSome}
+use Rattle.buffer_pool.specs.Pool.{Pool, changed, held, spare_of}
+use Rattle.message_buffer.specs.Buffer.{Buffer, bytes_of}
+use Rattle.message_buffer.specs.Messages.{HasSize}
+use Rattle.packet_header.specs.Parts.{packet_count}
 use Rattle.packet_header.specs.declared.packet.MessageHeader.{MessageHeader}
 use Rattle.packet_rings.specs.Rings.{ring}
 use Rattle.packet_rings.specs.Values.{EntryValue}
@@ -9,25 +13,29 @@ use Rattle.rpc_base.specs.declared.fact.Who.{Who}
 use Rattle.rpc_base.specs.declared.state.DropReason.TheVariants.{NoMemory}
 use Rattle.rpc_laws.specs.declared.rows.ServerRow.{ServerRow}
 use Rattle.rpc_laws.specs.declared.rows.ServerRow.TheVariants.{Begins, Drops}
-use Rattle.rpc_laws.specs.Requests.{given}
+use Rattle.rpc_laws.specs.Requests.{answered, given}
 use Rattle.rpc_laws.specs.ServerTable.{server_row}
 use Rattle.rpc_laws.specs.declared.tables.Server.{Server}
-use Rattle.rpc_outside.specs.Recording.{Log}
+use Rattle.rpc_outside.specs.Recording.{Grew, Log}
 use Rattle.rpc_outside.specs.declared.service.Mode.{Mode}
 use Rattle.rpc_outside.specs.declared.service.Service as Service
 use Rattle.server_core.specs.Counting.{IsCounted}
 use Rattle.server_core.specs.Flushing.{HoldsReplies, replies_of, ring_after}
 use Rattle.server_core.specs.Keeping.{BeginsWithReply, GivesReply, KeepsPlaces, KeepsReplies}
 use Rattle.server_core.specs.KeepsPool.{KeepsPool}
-use Rattle.server_core.specs.Noting.{Handled, IsByRule, IsServed}
-use Rattle.server_core.specs.Replies.{CanHold}
+use Rattle.server_core.specs.Homes.{HasOwn}
+use Rattle.server_core.specs.Noting.{Handled, IsByRule, early_facts, ran_facts}
+use Rattle.server_core.specs.Replies.{CanHold, placed_entry}
 use Rattle.server_core.specs.Rows.{row_of}
-use Rattle.server_core.specs.Scene.{Desk, Incoming, Pooled, Scene, in_scene, seen, without_ring}
+use Rattle.server_core.specs.Scene.{Desk, Incoming, Pooled, Scene, seen, without_ring}
 use Rattle.server_core.specs.Session.{Session, newest}
 use Rattle.server_core.specs.Shown.{shown}
-use Rattle.server_core.specs.Steps.{AreServed, HasNoBytes, IfGiven, IfRan, IfReply, IsParcel}
-use Rattle.server_core.specs.Steps.{IsReply, IsStepOf, LeavesPool, LeavesSession, NeedsNoMemory}
-use Rattle.server_core.specs.Steps.{UnlessRan, asked_with, begun_with, first_shown, whole_with}
+use Rattle.server_core.specs.Steps.{AreServed, HasNoBytes, IfGiven, IfRan, IfReply, IsAnswer}
+use Rattle.server_core.specs.Steps.{IsParcel, IsReply, IsStepOf, LeavesPool, LeavesSession}
+use Rattle.server_core.specs.Steps.{NeedsNoMemory, UnlessRan, asked_with, begun_with, first_shown}
+use Rattle.server_core.specs.Steps.{gone_on_as, whole_with}
+use Rattle.server_core.specs.declared.slot.SlotRequest.{SlotRequest}
+use Rattle.server_core.specs.declared.slot.Stored.{Stored}
 use Rattle.server_core.specs.declared.step.Step.{Step}
 use Rattle.server_core.specs.declared.step.Step.TheVariants.{Dropped}
 
@@ -63,26 +71,51 @@ pub record Leaves {V R : Type 0} (v : Service.Ghosts V) (log : R → Log)
   pub places : KeepsPlaces before.state.session after.state.session before.state.pool
       after.state.pool
 
--- a request that was taken with its last packet is answered: its handler ran, it has given its
--- bytes up, and the entry is the reply to that packet
-pub record AnswersInline {V R : Type 0} (v : Service.Ghosts V) (log : R → Log) (who : Who)
-    (h : MessageHeader) (ask : List ℕ) (e : EntryValue) (before after : Scene Pooled V R)
+-- the handler of a request ran: its answer stands in its room, and is held there
+pub record RunsInline {V R : Type 0} (v : Service.Ghosts V) (log : R → Log) (who : Who)
+    (session : ℕ) (h : MessageHeader) (ask : List ℕ) (a : Stored) (before after : Scene Pool V R)
     : Type 0 where
-  pub answers : IsServed v log who h ask (seen before) (seen after)
-  pub no_bytes : HasNoBytes (newest h.request after.state.session)
-  pub replies : GivesReply h.request h.number e before.state.session after.state.session
-      before.state.pool after.state.pool
+  pub buf : Buffer
+  pub pool_is : after.state ≡ held a.place (changed a.place buf before.state)
+  pub size_is : HasSize a.size (Some buf)
+  pub own : a.own ≡ true → HasOwn true (Some buf)
+  pub by_service : IsAnswer v.answer (v.stands before.service) (v.stands after.service) h.req_type
+      ask (bytes_of buf)
+  pub grew : Grew (log before.recorder) (log after.recorder)
+      (ran_facts who session h ask (bytes_of buf))
+
+-- a request that was at work is answered with these bytes, in this place. It has given its own up,
+-- and the entry is the reply to its last packet
+pub record IsAnsweredWith (q : SlotRequest) (a : Stored) (s w : Session) (before : Pool)
+    (bytes : List ℕ) (after : Pool) : Type 0 where
+  pub shown_is : shown after w ≡ gone_on_as q.number (answered bytes) (shown before s)
+  pub no_bytes : HasNoBytes (newest q.number w)
+  pub replies : (k : ℕ) → k + 1 ≡ packet_count q.size
+      → GivesReply q.number k (placed_entry w q.number k a) s w before after
 
 -- and so is one that begins with this packet, its only one
-pub record BeginsInline {V R : Type 0} (v : Service.Ghosts V) (log : R → Log) (who : Who)
-    (h : MessageHeader) (body : List ℕ) (e : EntryValue) (before after : Scene Pooled V R)
-    : Type 0 where
-  pub answers : IsServed v log who h body
-      (in_scene (begun_with (given (first_shown h [] None)) (seen before).state) before)
-      (seen after)
-  pub no_bytes : HasNoBytes (newest h.request after.state.session)
-  pub replies : BeginsWithReply h e before.state.session after.state.session before.state.pool
-      after.state.pool
+pub record IsBegunWith (h : MessageHeader) (a : Stored) (s w : Session) (before : Pool)
+    (bytes : List ℕ) (after : Pool) : Type 0 where
+  pub shown_is : shown after w ≡ gone_on_as h.request (answered bytes)
+      (begun_with (given (first_shown h [] None)) (shown before s))
+  pub no_bytes : HasNoBytes (newest h.request w)
+  pub replies : BeginsWithReply h (placed_entry w h.request 0 a) s w before after
+
+-- what a packet of a row that is taken does, but for the facts that are noted last
+pub record DoesRow {V R : Type 0} (v : Service.Ghosts V) (log : R → Log) (who : Who) (mode : Mode)
+    (row : ServerRow) (h : MessageHeader) (body : List ℕ) (step : Step)
+    (before after : Scene Desk V R) : Type 0 where
+  pub taken : IsStepOf mode h row step
+  pub ring_is : after.state.ring ≡ ring (ring_after row step before.state.session.number
+      (newest h.request before.state.session) before.state.ring.items) before.state.ring.size
+  pub leaves : Leaves v log (λ answer. early_facts who before.state.session
+      before.state.ring.items row h
+      (asked_with h body (shown before.state.pool before.state.session)) answer step) h body step
+      (without_ring before) (without_ring after)
+  pub replies : KeepsReplies before.state.ring.items (after.state.ring.items ++ replies_of step)
+      before.state.session after.state.session before.state.pool after.state.pool
+  pub short : NeedsNoMemory mode v.answer (v.stands before.service) h
+      (whole_with h body (shown before.state.pool before.state.session)) step
 
 -- the facts that a packet of a row leaves, by the entries before it, all that was taken of its
 -- request, the answer of its handler, and what it did

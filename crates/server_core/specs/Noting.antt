@@ -13,7 +13,6 @@ use Rattle.rpc_base.specs.declared.owner.Owner.TheVariants.{Reply}
 use Rattle.rpc_base.specs.declared.state.DropReason.TheVariants.{NoMemory}
 use Rattle.rpc_laws.specs.declared.rows.ServerRow.{ServerRow}
 use Rattle.rpc_laws.specs.declared.tables.Server.{Server}
-use Rattle.rpc_laws.specs.Requests.{answered}
 use Rattle.rpc_laws.specs.ServerTable.{served_facts}
 use Rattle.rpc_outside.specs.Recording.{Grew, Log}
 use Rattle.rpc_outside.specs.declared.service.Mode.{Mode}
@@ -23,7 +22,7 @@ use Rattle.server_core.specs.declared.step.Step.TheVariants.{Took, Again, Ran, G
 use Rattle.server_core.specs.Flushing.{bare, flushes, queued_of}
 use Rattle.server_core.specs.Scene.{Scene}
 use Rattle.server_core.specs.Session.{Session, newest}
-use Rattle.server_core.specs.Steps.{IfRan, IsAnswer, Steps, asked_with, gone_on_as}
+use Rattle.server_core.specs.Steps.{IfRan, IsAnswer, Steps, asked_with}
 
 -- the facts of a handler that ran after the packet. session is the session's number, ask all that
 -- was taken of the request with the packet, and answer what its handler answered
@@ -99,13 +98,3 @@ pub record Handled {V R : Type 0} (v : Service.Ghosts V) (log : R → Log)
   pub by_service : IfRan step (IsAnswer v.answer (v.stands before.service)
       (v.stands after.service) h.req_type (asked_with h body before.state) answer)
   pub grew : Grew (log before.recorder) (log after.recorder) (noted answer)
-
--- a request that is taken with all its bytes is answered by its handler
-pub record IsServed {V R : Type 0} (v : Service.Ghosts V) (log : R → Log) (who : Who)
-    (h : MessageHeader) (ask : List ℕ) (before after : Scene Server V R) : Type 0 where
-  pub answer : List ℕ
-  pub shown_is : after.state ≡ gone_on_as h.request (answered answer) before.state
-  pub by_service :
-      IsAnswer v.answer (v.stands before.service) (v.stands after.service) h.req_type ask answer
-  pub grew : Grew (log before.recorder) (log after.recorder)
-      (ran_facts who before.state.way.number h ask answer)

@@ -33,6 +33,11 @@ abbrev pub entry_at : (session peer k : ℕ) → SlotRequest → EntryValue
 entry_at session peer k q =
     record { owner = owner_of session q; number = k; place = place_of q k; peer = peer }
 
+-- that of the reply to packet k of request r, with an answer
+abbrev pub placed_entry : Session → (r k : ℕ) → Stored → EntryValue
+placed_entry s r k a =
+    record { owner = Reply s.number r; number = k; place = Some a.place; peer = s.peer }
+
 -- the size of the answer, once there is one
 abbrev pub answer_size : Option Stored → ℕ
 answer_size None = 0

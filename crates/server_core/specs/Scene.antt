@@ -14,9 +14,13 @@ pub record Scene (S V R : Type 0) : Type 0 where
   pub service : V
   pub recorder : R
 
+abbrev pub scene : {S V R : Type 0} → S → V → R → Scene S V R
+scene state service recorder =
+    record { state = state; service = service; recorder = recorder }
+
 -- another state at the same scene
 abbrev pub in_scene : {S T V R : Type 0} → T → Scene S V R → Scene T V R
-in_scene state x = record { state = state; service = x.service; recorder = x.recorder }
+in_scene state x = scene state x.service x.recorder
 
 -- a session and the pool that it works on
 pub record Pooled : Type 0 where
@@ -24,8 +28,7 @@ pub record Pooled : Type 0 where
   pub pool : Pool
 
 abbrev pub pooled : {V R : Type 0} → Session → Pool → V → R → Scene Pooled V R
-pooled s pool service recorder =
-    record { state = record { session = s; pool = pool }; service = service; recorder = recorder }
+pooled s pool service recorder = scene (record { session = s; pool = pool }) service recorder
 
 -- the session as the definitions over histories have it
 abbrev pub seen : {V R : Type 0} → Scene Pooled V R → Scene Server V R
@@ -38,11 +41,8 @@ pub record Desk : Type 0 where
   pub ring : Ring EntryValue
 
 abbrev pub at_desk : {V R : Type 0} → Session → Pool → Ring EntryValue → V → R → Scene Desk V R
-at_desk s pool ring service recorder = record {
-  state = record { session = s; pool = pool; ring = ring };
-  service = service;
-  recorder = recorder;
-}
+at_desk s pool ring service recorder =
+    scene (record { session = s; pool = pool; ring = ring }) service recorder
 
 abbrev pub without_ring : {V R : Type 0} → Scene Desk V R → Scene Pooled V R
 without_ring x = in_scene (record { session = x.state.session; pool = x.state.pool }) x

@@ -1,5 +1,5 @@
 -- What the steps of a session want.
-use Rattle.std.specs.Prelude.{◌≡◌, ℕ, ◌+◌, ◌<◌, List, length, Some, IfSome}
+use Rattle.std.specs.Prelude.{◌≡◌, ℕ, ◌<◌, List, length, Some, IfSome}
 use Rattle.buffer_pool.specs.Pool.{Pool, spare_of}
 use Rattle.packet_header.specs.Parts.{IsMessage, packet_count}
 use Rattle.packet_header.specs.declared.packet.MessageHeader.{MessageHeader}
@@ -29,13 +29,6 @@ pub record IsAwaited (q : SlotRequest) (s : Session) (pool : Pool) : Type 0 wher
   pub turn : IsInTurn q
   pub working : q.state ≡ Working
   pub spare : 0 < spare_of pool
-
--- the packet is the last one of a request whose answer is awaited
-pub record IsLastOf (h : MessageHeader) (q : SlotRequest) (s : Session) (pool : Pool)
-    : Type 0 where
-  pub awaited : IsAwaited q s pool
-  pub own : q.number ≡ h.request
-  pub last : h.number + 1 ≡ packet_count q.size
 
 -- a request may begin: the older one of its slot can be given up, and there is a place for a buffer
 pub record CanBegin (h : MessageHeader) (s : Session) (pool : Pool) : Type 0 where

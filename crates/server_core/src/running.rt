@@ -1,23 +1,17 @@
 //! The buffers of a request and of its answer, made before anything else changes: the want of
 //! memory leaves all as it was.
-ghost use Rattle.std.specs.Prelude.{◌≡◌, ◌≢◌, ◌<◌, ◌≤◌, ◌++◌, ◌∷◌, [], length, take, IfOk, OnErr};
-ghost use Rattle.std.specs.Prelude.{IsTrue, ◌↔◌, true};
-ghost use Rattle.buffer_pool.specs.Pool.{IsFull, buf_at, refs_of};
-ghost use Rattle.message_buffer.specs.Buffer.{bytes_of, capacity_of};
-ghost use Rattle.message_buffer.specs.Messages.{message_in};
+ghost use Rattle.std.specs.Prelude.{◌≡◌, ◌≢◌, ◌<◌, ◌≤◌, ◌↔◌, IsTrue, length, IfOk, OnErr};
+ghost use Rattle.message_buffer.specs.Buffer.{capacity_of};
 ghost use Rattle.memory_count.specs.Faults.{HasCause};
-ghost use Rattle.rpc_outside.specs.declared.service.Mode.TheVariants.{Inline, Unserved};
-ghost use Rattle.rpc_outside.specs.Served.{Served, StandsForSome};
-ghost use Rattle.server_core.specs.Homes.{HasOwn};
-ghost use Rattle.server_core.specs.Reusing.{IsOwn, IsRewritten, IsRoom, size_in};
-ghost use Rattle.server_core.specs.Wanting.{CanServe};
+ghost use Rattle.rpc_outside.specs.declared.service.Mode.TheVariants.{Unserved};
+ghost use Rattle.rpc_outside.specs.Served.{Served};
+ghost use Rattle.server_core.specs.Reusing.{IsOwn, IsRoom, size_in};
 ghost use Rattle.server_core.specs.Serving.{IsFirstPart};
 ghost use Rattle.packet_header.specs.Parts.{IsMessage};
 
-use buffer_pool::BufferPool;
 use memory_count::{Memory, NoMemory};
 use message_buffer::MsgBuf;
-use rpc_base::{MOST_MESSAGE_BYTES, PART_BYTES, Place};
+use rpc_base::{MOST_MESSAGE_BYTES, PART_BYTES};
 use rpc_outside::Service;
 
 /// A buffer for a message of this size, which begins with these bytes.
@@ -103,47 +97,4 @@ pub(crate) fn make_answer(memory: &mut Memory, size: u32) -> Result<MsgBuf, NoMe
     let mut answer = MsgBuf::new(memory, size)?;
     answer.set_len(size);
     Ok(answer)
-}
-
-/// Runs the handler of a type that is handled inline, which writes its answer over the message of a
-/// buffer as long as the answer.
-pub(crate) fn serve<V: Service>(service: &mut V, req_type: u8, ask: &[u8], answer: &mut MsgBuf)
-    requires inline { V.mode_of req_type ≡ Inline }
-    requires room { (served : Served) → V.stands service.old served →
-        length (V.answer served req_type ask.now) ≡ answer.old.len }
-    requires founded { StandsForSome (V.stands service.old) }
-    ensures len { answer.new.len ≡ answer.old.len }
-    ensures capacity { capacity_of answer.new ≡ capacity_of answer.old }
-    ensures answer { (served : Served) → V.stands service.old served →
-        bytes_of answer.new ≡ V.answer served req_type ask.now }
-    ensures next { (served : Served) → V.stands service.old served →
-        V.stands service.new (served ++ (req_type, ask.now) ∷ []) }
-{
-    service.serve(req_type, ask, answer.whole_mut());
-}
-
-/// Runs the handler, whose answer of this size is written over the message at a place to which
-/// there is no reference, and which has a slot's own buffer.
-pub(crate) fn serve_at<V: Service>(
-    pool: &mut BufferPool,
-    service: &mut V,
-    place: Place,
-    size: u32,
-    req_type: u8,
-    ask: &[u8],
-)
-    requires full { IsFull pool.old place }
-    requires unheld { refs_of pool.old place ≡ 0 }
-    requires own { HasOwn true (buf_at pool.old place) }
-    requires short { size ≤ PART_BYTES }
-    requires serves { CanServe V.Service service.old req_type ask.now size }
-    ensures rewritten { IsRewritten size place pool.old pool.new }
-    ensures answer { (served : Served) → V.stands service.old served →
-        message_in (buf_at pool.new place) ≡ V.answer served req_type ask.now }
-    ensures next { (served : Served) → V.stands service.old served →
-        V.stands service.new (served ++ (req_type, ask.now) ∷ []) }
-{
-    let buffer = pool.get_mut(place);
-    buffer.set_len(size);
-    serve(service, req_type, ask, buffer);
 }

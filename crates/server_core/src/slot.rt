@@ -25,7 +25,7 @@ use rpc_laws::ServerRow;
 use rpc_outside::Mode;
 
 /// A message in the pool.
-#[derive(Clone, Copy, Debug)]
+#[derive(Clone, Copy)]
 pub struct Stored {
     /// Its place.
     pub place: Place,
@@ -40,7 +40,7 @@ pub struct Stored {
 /// ```text
 /// Taking -- its last packet --> Working -- its handler ran --> Answered
 /// ```
-#[derive(Clone, Copy, Debug)]
+#[derive(Clone, Copy)]
 pub enum SlotState {
     /// Packets of it are to come. The pool has its bytes at this place.
     Taking { ask: Place },
@@ -52,7 +52,7 @@ pub enum SlotState {
 
 /// The newest request of a slot. What the server table reads of its buffers stands here, so that it
 /// reads no buffer.
-#[derive(Clone, Copy, Debug)]
+#[derive(Clone, Copy)]
 pub struct SlotRequest {
     pub number: RequestNo,
     pub req_type: u8,
@@ -82,8 +82,8 @@ impl SlotRequest {
 
     /// A request that begins with its only packet, and has its answer at once, whose reply is
     /// queued.
-    pub fn answered(head: &MessageHeader, answer: Stored) -> SlotRequest
-        ensures { result ≡ first_answered head.now answer }
+    pub fn answered(head: &MessageHeader, answer: &Stored) -> SlotRequest
+        ensures { result ≡ first_answered head.now answer.now }
     {
         SlotRequest {
             number: head.request,
@@ -91,7 +91,7 @@ impl SlotRequest {
             size: head.size,
             taken: 1,
             queued: 1,
-            state: SlotState::Answered { answer },
+            state: SlotState::Answered { answer: *answer },
         }
     }
 
@@ -109,13 +109,13 @@ impl SlotRequest {
     }
 
     /// The request once its answer is there, and the reply to its last packet is queued.
-    pub fn worked(self, answer: Stored) -> SlotRequest
+    pub fn worked(self, answer: &Stored) -> SlotRequest
         requires { self.queued < MOST_REFERENCES }
-        ensures { result ≡ worked answer self }
+        ensures { result ≡ worked answer.now self }
     {
         SlotRequest {
             queued: self.queued + 1,
-            state: SlotState::Answered { answer },
+            state: SlotState::Answered { answer: *answer },
             ..self
         }
     }

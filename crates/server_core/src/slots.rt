@@ -4,13 +4,13 @@ ghost use Rattle.std.specs.Prelude.{count_by, false, option_copied, position, sl
 ghost use Rattle.std.specs.Prelude.{IfOk, IfSome, Some, true};
 ghost use Rattle.std.specs.List.{AllByRecursion, find, remove};
 ghost use Rattle.rpc_base.specs.Tables.{at_first, without_first};
-ghost use Rattle.buffer_pool.specs.Pool.{lowest_empty, spare_of};
+ghost use Rattle.buffer_pool.specs.Pool.{spare_of};
 ghost use Rattle.memory_count.specs.Faults.{HasCause};
 ghost use Rattle.rpc_base.specs.declared.limits.TheConstants.{MOST_REFERENCES, PART_BYTES};
 ghost use Rattle.server_core.specs.Homes.{is_lent};
 ghost use Rattle.server_core.specs.KeepsPool.{KeepsPool};
 ghost use Rattle.server_core.specs.Replies.{is_owner};
-ghost use Rattle.server_core.specs.Reusing.{IsPut, own_answer};
+ghost use Rattle.server_core.specs.Reusing.{IsPut};
 ghost use Rattle.server_core.specs.Serving.{IsUnheld, begun, given_up, gone_on, one_left, worked};
 ghost use Rattle.server_core.specs.Session.{is_in_slot};
 ghost use Rattle.server_core.specs.declared.slot.SlotState.TheVariants.{Working};
@@ -21,7 +21,7 @@ use crate::slot::{SlotRequest, Stored};
 use arrayvec::ArrayVec;
 use buffer_pool::BufferPool;
 use memory_count::{Memory, NoMemory};
-use rpc_base::{MOST_REFERENCES, Owner, PART_BYTES, Place, SessionNo};
+use rpc_base::{MOST_REFERENCES, Owner, PART_BYTES, SessionNo};
 use std::marker::Model;
 
 /// The newest request of each slot in which one began, at most eight, which lie in the session
@@ -78,17 +78,18 @@ impl Slots {
     pub fn of_owner(&self, session: SessionNo, owner: Owner) -> Option<&SlotRequest>
         ensures { option_copied result ≡ find (is_owner session owner) self.now }
     {
-        self.as_slice()
-            .iter()
-            .find(|request| request.owner(session).is_same(owner))
+        let Some(at) = self.place_of_owner(session, owner) else {
+            return None;
+        };
+        Some(self.at(at))
     }
 
     // Request `i`, which has to be there.
-    fn at(&self, i: usize) -> SlotRequest
+    fn at(&self, i: usize) -> &SlotRequest
         requires { i < length self.now }
-        ensures { slice_get self.now i ≡ Some result }
+        ensures { slice_get self.now i ≡ Some result.now }
     {
-        self.items.as_slice()[i]
+        &self.items.as_slice()[i]
     }
 
     /// The newest request of a slot, if one began there.
@@ -98,7 +99,7 @@ impl Slots {
         let Some(at) = self.place_of(slot) else {
             return None;
         };
-        Some(self.at(at))
+        Some(*self.at(at))
     }
 
     /// Whether no reference is left to the answer of any request.
@@ -184,7 +185,7 @@ impl Slots {
         let Some(at) = self.place_of(slot) else {
             return;
         };
-        let request = self.at(at);
+        let request = *self.at(at);
         take_out(&mut self.items, at);
         let own = empty_buffers(pool, &request);
         self.homes.bring(slot, own);
@@ -192,15 +193,15 @@ impl Slots {
 
     /// The answer to a request that is at work, the newest of its slot, gets the slot's own buffer,
     /// which goes to the pool with the answer's size. The pool has an empty place.
-    pub fn lend(&mut self, pool: &mut BufferPool, request: &SlotRequest, size: u32) -> Place
+    pub fn lend(&mut self, pool: &mut BufferPool, request: &SlotRequest, size: u32) -> Stored
         requires newest { find (is_in_slot (request.now.number % 8)) self.old ≡ Some request.now }
         requires working { request.now.state ≡ Working }
         requires few { request.now.queued < MOST_REFERENCES }
         requires short { size ≤ PART_BYTES }
         requires spare { 0 < spare_of pool.old }
-        ensures slots { self.new ≡ gone_on (worked (own_answer size result) request.now) self.old }
-        ensures place { lowest_empty pool.old ≡ Some result }
-        ensures pool { IsPut size result pool.old pool.new }
+        ensures slots { self.new ≡ gone_on (worked result request.now) self.old }
+        ensures size { result.size ≡ size }
+        ensures pool { IsPut result pool.old pool.new }
     {
         let slot = request.number.slot();
         let Some(at) = self.place_of(slot) else {
@@ -214,8 +215,8 @@ impl Slots {
             size,
             own: true,
         };
-        set_at(&mut self.items, at, request.worked(answer));
-        place
+        set_at(&mut self.items, at, request.worked(&answer));
+        answer
     }
 }
 

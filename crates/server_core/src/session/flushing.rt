@@ -22,6 +22,7 @@ impl ServerSession {
     // Takes the queued replies to the newest request of the slot of this number out of the ring,
     // the least number first, gives their references up, and notes each. The ring is looked at only
     // as long as one is left.
+    #[inline(always)]
     pub(super) fn flush_older<R: Recorder>(
         &self,
         pool: &mut BufferPool,

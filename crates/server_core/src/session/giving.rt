@@ -1,24 +1,18 @@
 //! Background jobs: a request goes to a worker with its bytes, and its answer comes back.
-ghost use Rattle.std.specs.Prelude.{◌≡◌, ◌<◌, ◌+◌, List, [], ◌∷◌, ◌++◌};
-ghost use Rattle.std.specs.Prelude.{None, Some};
+ghost use Rattle.std.specs.Prelude.{◌≡◌, ◌<◌, ◌+◌, [], None, Some};
 ghost use Rattle.packet_header.specs.Parts.{packet_count};
 ghost use Rattle.message_buffer.specs.Buffer.{bytes_of};
 ghost use Rattle.buffer_pool.specs.Pool.{buf_at, spare_of};
-ghost use Rattle.packet_rings.specs.Values.{EntryValue};
-ghost use Rattle.rpc_laws.specs.Requests.{answered, given};
-ghost use Rattle.server_core.specs.Counting.{CountsQueued};
-ghost use Rattle.server_core.specs.Finishing.{Finishes};
+ghost use Rattle.rpc_laws.specs.Requests.{given};
+ghost use Rattle.server_core.specs.Finishing.{Finishes, GivesAnswer};
 ghost use Rattle.server_core.specs.KeepsPool.{IsAsked, KeepsPool};
 ghost use Rattle.server_core.specs.Serving.{first_given, last_given};
 ghost use Rattle.server_core.specs.declared.slot.SlotState.TheVariants.{Taking};
-ghost use Rattle.server_core.specs.Session.{newest};
 ghost use Rattle.server_core.specs.Shown.{shown};
-ghost use Rattle.server_core.specs.Steps.{HasNoBytes, begun_with, first_shown};
-ghost use Rattle.server_core.specs.Steps.{gone_on_as, grown};
+ghost use Rattle.server_core.specs.Steps.{begun_with, first_shown, gone_on_as, grown};
 ghost use Rattle.packet_header.specs.Parts.{IsMessage};
 ghost use Rattle.server_core.specs.Keeping.{BeginsSound, StaysSound};
 ghost use Rattle.server_core.specs.Wanting.{CanBeginWhole, IsAwaited, IsNewest};
-ghost use Rattle.server_core.specs.Keeping.{GivesReply};
 
 use super::ServerSession;
 use crate::buffers::put_message;
@@ -64,20 +58,12 @@ impl ServerSession {
     ) -> Entry
         requires awaited { IsAwaited request self.old pool.old }
         requires answer { IsMessage answer.len }
-        ensures shown { shown pool.new self.new
-            ≡ gone_on_as request.number (answered (bytes_of answer)) (shown pool.old self.old) }
-        ensures last { result.number + 1 ≡ packet_count request.size }
-        ensures no_bytes { HasNoBytes (newest request.number self.new) }
-        ensures replies { GivesReply request.number result.number result self.old self.new pool.old
-            pool.new }
-        // Whatever the entries are.
-        ensures queued { (entries : List EntryValue) → CountsQueued self.old entries →
-            CountsQueued self.new (entries ++ result ∷ []) }
+        ensures { GivesAnswer request (bytes_of answer) result self.old self.new pool.old pool.new }
     {
         let answer = put_message(pool, answer);
         pool.hold(answer.place);
         let number = request.taken - 1;
-        let request = request.worked(answer);
+        let request = request.worked(&answer);
         let reply = request.entry(self.number, number, self.peer);
         self.slots.replace(request);
         reply

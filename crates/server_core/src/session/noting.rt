@@ -61,7 +61,7 @@ impl ServerSession {
     }
 
     // Whose packets the replies to the request of a packet are.
-    fn owner_of(&self, head: &MessageHeader) -> Owner
+    pub(super) fn owner_of(&self, head: &MessageHeader) -> Owner
         ensures { result ≡ Owner.Reply self.now.number head.now.request }
     {
         Owner::Reply {

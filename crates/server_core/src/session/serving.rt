@@ -1,107 +1,71 @@
-//! The handler of a request runs.
-ghost use Rattle.std.specs.Prelude.{◌≤◌};
-ghost use Rattle.packet_header.specs.Parts.{IsMessage};
-ghost use Rattle.message_buffer.specs.Buffer.{capacity_of};
-ghost use Rattle.server_core.specs.Reusing.{IsRoom, size_in};
-ghost use Rattle.server_core.specs.Handling.{AnswersInline};
-ghost use Rattle.server_core.specs.Scene.{pooled};
-ghost use Rattle.server_core.specs.Wanting.{CanServe, IsLastOf};
+//! The handler of a request runs, and its answer is written where the pool has room for it.
+ghost use Rattle.std.specs.Prelude.{◌≡◌};
+ghost use Rattle.server_core.specs.Reusing.{HasRoom, IsRoom, PutsRoom, size_in};
+ghost use Rattle.server_core.specs.Handling.{IsAnsweredWith, RunsInline};
+ghost use Rattle.server_core.specs.Replies.{placed_entry};
+ghost use Rattle.server_core.specs.Scene.{scene};
+ghost use Rattle.server_core.specs.Wanting.{CanServe, IsAwaited};
 
 use super::ServerSession;
-use crate::running::{Room, serve, serve_at};
+use crate::buffers::put_message;
+use crate::running::Room;
 use crate::slot::{SlotRequest, Stored};
 use buffer_pool::BufferPool;
-use message_buffer::MsgBuf;
 use packet_header::MessageHeader;
 use packet_rings::Entry;
-use rpc_base::{PART_BYTES, Who};
+use rpc_base::Who;
 use rpc_outside::{Recorder, Service};
 
 impl ServerSession {
     // The handler of a request that was taken with its last packet runs, which is noted with the
-    // bytes of both messages. The answer is held for the reply to that packet.
-    pub(super) fn answer_inline<V: Service, R: Recorder>(
-        &mut self,
+    // bytes of both messages. Its answer is held for the reply to that packet.
+    pub(super) fn run<V: Service, R: Recorder>(
+        &self,
         pool: &mut BufferPool,
         service: &mut V,
-        request: SlotRequest,
+        answer: Stored,
         head: &MessageHeader,
         ask: &[u8],
-        room: Room,
         who: &Who,
         rec: &mut R,
     ) -> Entry
-        requires asked { IsLastOf head.now request self.old pool.old }
-        requires serves { CanServe V.Service service.old head.now.req_type ask.now (size_in room) }
-        requires room { IsRoom room }
-        ensures { AnswersInline V.Service R.log who.now head.now ask.now result
-            (pooled self.old pool.old service.old rec.old)
-            (pooled self.new pool.new service.new rec.new) }
+        requires room { HasRoom answer pool.old }
+        requires serves { CanServe V.Service service.old head.now.req_type ask.now answer.size }
+        ensures runs { RunsInline V.Service R.log who.now self.now.number head.now ask.now answer
+            (scene pool.old service.old rec.old) (scene pool.new service.new rec.new) }
+        ensures reply { result ≡ placed_entry self.now head.now.request head.now.number answer }
     {
-        match room {
-            Room::Own(size) => {
-                self.answer_short(pool, service, request, size, head, ask, who, rec)
-            }
-            Room::Made(room) => {
-                self.answer_long(pool, service, request, head, ask, room, who, rec)
-            }
+        let buffer = pool.get_mut(answer.place);
+        service.serve(head.req_type, ask, buffer.whole_mut());
+        self.note_ran(head, ask, pool.get(answer.place).bytes(), who, rec);
+        pool.hold(answer.place);
+        Entry {
+            owner: self.owner_of(head),
+            number: head.number,
+            place: Some(answer.place),
+            peer: self.peer,
         }
     }
 
-    // So it is where the answer stands in the slot's own buffer. No memory is wanted.
-    fn answer_short<V: Service, R: Recorder>(
+    // The room for the answer to a request that is at work goes to the pool.
+    pub(super) fn put_room(
         &mut self,
         pool: &mut BufferPool,
-        service: &mut V,
         request: SlotRequest,
-        size: u32,
-        head: &MessageHeader,
-        ask: &[u8],
-        who: &Who,
-        rec: &mut R,
-    ) -> Entry
-        requires asked { IsLastOf head.now request self.old pool.old }
-        requires serves { CanServe V.Service service.old head.now.req_type ask.now size }
-        requires short { size ≤ PART_BYTES }
-        ensures { AnswersInline V.Service R.log who.now head.now ask.now result
-            (pooled self.old pool.old service.old rec.old)
-            (pooled self.new pool.new service.new rec.new) }
+        room: Room,
+    ) -> Stored
+        requires awaited { IsAwaited request self.old pool.old }
+        requires room { IsRoom room }
+        ensures { PutsRoom result (size_in room) (IsAnsweredWith request result self.old self.new
+            pool.old) self.old self.new pool.new }
     {
-        let place = self.slots.lend(pool, &request, size);
-        serve_at(pool, service, place, size, head.req_type, ask);
-        self.note_ran(head, ask, pool.get(place).bytes(), who, rec);
-        pool.hold(place);
-        let answer = Stored {
-            place,
-            size,
-            own: true,
-        };
-        let request = request.worked(answer);
-        request.entry(self.number, head.number, self.peer)
-    }
-
-    // So it is where the answer stands in a buffer that was made for it.
-    fn answer_long<V: Service, R: Recorder>(
-        &mut self,
-        pool: &mut BufferPool,
-        service: &mut V,
-        request: SlotRequest,
-        head: &MessageHeader,
-        ask: &[u8],
-        room: MsgBuf,
-        who: &Who,
-        rec: &mut R,
-    ) -> Entry
-        requires asked { IsLastOf head.now request self.old pool.old }
-        requires serves { CanServe V.Service service.old head.now.req_type ask.now room.len }
-        requires message { IsMessage room.len × (room.len ≤ capacity_of room) }
-        ensures { AnswersInline V.Service R.log who.now head.now ask.now result
-            (pooled self.old pool.old service.old rec.old)
-            (pooled self.new pool.new service.new rec.new) }
-    {
-        let mut answer = room;
-        serve(service, head.req_type, ask, &mut answer);
-        self.note_ran(head, ask, answer.bytes(), who, rec);
-        self.put_answer(pool, request, answer)
+        match room {
+            Room::Own(size) => self.slots.lend(pool, &request, size),
+            Room::Made(buffer) => {
+                let answer = put_message(pool, buffer);
+                self.slots.replace(request.worked(&answer));
+                answer
+            }
+        }
     }
 }

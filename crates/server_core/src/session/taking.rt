@@ -1,32 +1,25 @@
 //! What a packet that is taken does: a request begins or goes on, and its handler runs after its
 //! last packet.
-ghost use Rattle.std.specs.Prelude.{◌≡◌, ◌≢◌, ◌<◌, ◌≤◌, List, [], ◌++◌, length};
-ghost use Rattle.std.specs.Prelude.{IfSome, None, Some, true};
+ghost use Rattle.std.specs.Prelude.{◌≡◌, ◌≢◌, ◌<◌, ◌≤◌, [], ◌++◌, length, None};
 ghost use Rattle.packet_header.specs.Parts.{packet_count, part_size};
 ghost use Rattle.memory_count.specs.Faults.{HasRisenBy};
 ghost use Rattle.message_buffer.specs.Buffer.{bytes_of, capacity_of};
-ghost use Rattle.packet_rings.specs.Rings.{ring};
+ghost use Rattle.packet_rings.specs.Rings.{Ring};
 ghost use Rattle.packet_rings.specs.Values.{EntryValue};
-ghost use Rattle.rpc_laws.specs.declared.rows.ServerRow.TheVariants.{Begins};
-ghost use Rattle.rpc_laws.specs.ServerTable.{is_last, makes_job};
-ghost use Rattle.rpc_outside.specs.declared.service.Mode.{Mode};
+ghost use Rattle.rpc_laws.specs.declared.rows.ServerRow.TheVariants.{Begins, Takes};
 ghost use Rattle.rpc_outside.specs.declared.service.Mode.TheVariants.{Unserved};
-ghost use Rattle.server_core.specs.Flushing.{replies_of, ring_after};
+ghost use Rattle.server_core.specs.Handling.{DoesRow};
+ghost use Rattle.server_core.specs.Keeping.{BeginsWithReply, GivesReply, StaysSound};
 ghost use Rattle.server_core.specs.Lacks.{lacks_of};
-ghost use Rattle.server_core.specs.Noting.{early_facts, first_facts};
 ghost use Rattle.server_core.specs.Replies.{CanHold};
+ghost use Rattle.server_core.specs.Scene.{at_desk};
 ghost use Rattle.server_core.specs.Serving.{next_taken};
-ghost use Rattle.server_core.specs.declared.slot.SlotState.TheVariants.{Taking};
 ghost use Rattle.server_core.specs.Session.{IsInTurn, IsSession, ask_of, newest};
 ghost use Rattle.server_core.specs.Shown.{ask_in, shown};
-ghost use Rattle.server_core.specs.Steps.{HasTaken, IsNextOf, NeedsNoMemory};
-ghost use Rattle.server_core.specs.Steps.{asked_with, begun_with};
-ghost use Rattle.server_core.specs.Steps.{bytes_with, first_shown, gone_on_as, grown, whole_with};
-ghost use Rattle.server_core.specs.Handling.{Leaves};
-ghost use Rattle.server_core.specs.Keeping.{KeepsReplies, StaysSound};
+ghost use Rattle.server_core.specs.Steps.{IsNextOf, begun_with, bytes_with, first_shown};
+ghost use Rattle.server_core.specs.Steps.{gone_on_as, grown};
 ghost use Rattle.server_core.specs.Wanting.{CanBegin, IsNewest, IsServing, MayBegin, MayTake};
-ghost use Rattle.server_core.specs.Scene.{pooled};
-ghost use Rattle.server_core.specs.Keeping.{BeginsWithReply, GivesReply};
+ghost use Rattle.server_core.specs.declared.slot.SlotState.TheVariants.{Taking};
 
 use super::ServerSession;
 use crate::buffers::put_message;
@@ -61,19 +54,9 @@ impl ServerSession {
         requires ready { MayBegin head.now (length body.now) self.old pool.old tx.old.items }
         requires served { mode ≢ Unserved }
         requires serving { IsServing V.Service mode head.now self.old service.old }
-        ensures taken { HasTaken (is_last head.now) (makes_job mode head.now) true result }
-        ensures ring { tx.new ≡ ring
-            (ring_after Begins result self.old.number (newest head.now.request self.old)
-            tx.old.items) tx.old.size }
-        ensures leaves { Leaves V.Service R.log
-            (λ answer. early_facts who.now self.old tx.old.items Begins head.now
-            (asked_with head.now body.now (shown pool.old self.old)) answer result)
-            head.now body.now result (pooled self.old pool.old service.old rec.old)
-            (pooled self.new pool.new service.new rec.new) }
-        ensures replies { KeepsReplies tx.old.items (tx.new.items ++ replies_of result) self.old
-            self.new pool.old pool.new }
-        ensures short { NeedsNoMemory mode V.answer (V.stands service.old) head.now
-            (whole_with head.now body.now (shown pool.old self.old)) result }
+        ensures does { DoesRow V.Service R.log who.now mode Begins head.now body.now result
+            (at_desk self.old pool.old tx.old service.old rec.old)
+            (at_desk self.new pool.new tx.new service.new rec.new) }
         ensures cause { HasRisenBy (lacks_of result) memory.old memory.new }
     {
         if count(head.size) > 1 {
@@ -99,7 +82,8 @@ impl ServerSession {
             return Step::Dropped(DropReason::NoMemory);
         };
         self.flush_older(pool, tx, head.request, who, rec);
-        let reply = self.begin_inline(pool, service, room, head, body, who, rec);
+        let answer = self.begin_inline(pool, head, room);
+        let reply = self.run(pool, service, answer, head, body, who, rec);
         Step::Ran { reply }
     }
 
@@ -140,17 +124,10 @@ impl ServerSession {
         requires ready { MayTake head.now self.old pool.old }
         requires next { IsNextOf head.now (length body.now) (newest head.now.request self.old) }
         requires serving { IsServing V.Service mode head.now self.old service.old }
-        ensures taken { HasTaken (is_last head.now) (makes_job mode head.now) (is_last head.now)
-            result }
-        ensures leaves { Leaves V.Service R.log
-            (λ answer. first_facts who.now self.old.number head.now
-            (asked_with head.now body.now (shown pool.old self.old)) answer result)
-            head.now body.now result (pooled self.old pool.old service.old rec.old)
-            (pooled self.new pool.new service.new rec.new) }
-        ensures replies { (entries : List EntryValue) → KeepsReplies entries
-            (entries ++ replies_of result) self.old self.new pool.old pool.new }
-        ensures short { NeedsNoMemory mode V.answer (V.stands service.old) head.now
-            (whole_with head.now body.now (shown pool.old self.old)) result }
+        // Whatever the ring is, which stays as it is.
+        ensures does { (tx : Ring EntryValue) → DoesRow V.Service R.log who.now mode Takes
+            head.now body.now result (at_desk self.old pool.old tx service.old rec.old)
+            (at_desk self.new pool.new tx service.new rec.new) }
         ensures cause { HasRisenBy (lacks_of result) memory.old memory.new }
     {
         let Some(request) = self.newest(head.request) else {
@@ -181,8 +158,8 @@ impl ServerSession {
             return Step::Dropped(DropReason::NoMemory);
         };
         let ask = self.take_working(pool, request, place);
-        let given = request.last_given();
-        let reply = self.answer_inline(pool, service, given, head, ask.bytes(), room, who, rec);
+        let answer = self.put_room(pool, request.last_given(), room);
+        let reply = self.run(pool, service, answer, head, ask.bytes(), who, rec);
         Step::Ran { reply }
     }
 

@@ -101,7 +101,7 @@ returns c =
             waited = rw (← c.self.view_is) (waiting-own c.args.pool.now s c.in-Some.request.number
                 c.in-Some.request c.self.invariant slot refl
                 ∙ sym c.is_working.ensures ∙ c.if-not-is_working.false);
-            shown_is = put.shown;
+            shown_is = put.shown_is;
             last = rw own put.last;
             reply = put.replies.reply;
           });

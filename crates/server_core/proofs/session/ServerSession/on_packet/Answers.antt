@@ -54,15 +54,21 @@ returns-clause-handles g c =
       | in-Drops w ↦ (rw (w.self-is, w.pool-is, w.tx-is, w.service-is, w.rec-is, w.step-is)
           (handles-by v log who packet (Dropped w.in-Drops.reason) before before asking
           w.in-Drops.ensures.sound keeps (Drops w.in-Drops.reason)
-          (rw c.mode-mode.ensures at (sym w.in-Drops.ensures.row)) refl refl
-          (dropped-leaves v log (λ answer. early_facts who s tx.items (Drops w.in-Drops.reason) h
-          (asked_with h body (shown pool s)) answer (Dropped w.in-Drops.reason)) h body
-          w.in-Drops.reason s pool pool c.args.service.now c.args.rec.now refl refl
-          c.requires.all_served (same-places s pool keeps) (refl, λ other. refl))
-          (replies-still (same-replies s pool tx.items)) (λ inline last fits same.
-          let why : w.in-Drops.reason ≡ NoMemory = cc in
-          row-has c.mode-mode.result c.args.jobs_full (option_map as_newest (newest h.request s)) h
-          (sym w.in-Drops.ensures.row ∙ ap Drops why))))
+          (rw c.mode-mode.ensures at (sym w.in-Drops.ensures.row)) (record {
+            taken = refl;
+            ring_is = refl;
+            leaves = dropped-leaves v log (λ answer. early_facts who s tx.items
+                (Drops w.in-Drops.reason) h (asked_with h body (shown pool s)) answer
+                (Dropped w.in-Drops.reason)) h body w.in-Drops.reason s pool pool
+                c.args.service.now c.args.rec.now refl refl c.requires.all_served
+                (same-places s pool keeps) (refl, λ other. refl);
+            replies = replies-still (same-replies s pool tx.items);
+            short = λ inline last fits same.
+                let why : w.in-Drops.reason ≡ NoMemory = cc in
+                row-has c.mode-mode.result c.args.jobs_full
+                (option_map as_newest (newest h.request s)) h
+                (sym w.in-Drops.ensures.row ∙ ap Drops why);
+          })))
       | in-Begins w ↦ (
           let b = w.begin-step in
           rw (w.self-is, w.pool-is, w.tx-is, w.service-is, w.rec-is, w.step-is)
@@ -70,8 +76,7 @@ returns-clause-handles g c =
           (at_desk b.new.self b.new.pool b.new.tx b.new.service b.new.rec) asking
           w.in-Begins.ensures.sound keeps Begins
           (rw c.mode-mode.ensures at (sym w.in-Begins.ensures.row))
-          (rw c.mode-mode.ensures at b.ensures.taken) b.ensures.ring b.ensures.leaves
-          b.ensures.replies (rw c.mode-mode.ensures at b.ensures.short)))
+          (rw c.mode-mode.ensures at b.ensures.does)))
       | in-Takes w ↦ (
           let t = w.take-step in
           rw (w.self-is, w.pool-is, w.tx-is, w.service-is, w.rec-is, w.step-is)
@@ -79,32 +84,35 @@ returns-clause-handles g c =
           (at_desk t.new.self t.new.pool tx t.new.service t.new.rec) asking
           w.in-Takes.ensures.sound keeps Takes
           (rw c.mode-mode.ensures at (sym w.in-Takes.ensures.row))
-          (rw c.mode-mode.ensures at t.ensures.taken) refl t.ensures.leaves
-          (t.ensures.replies tx.items) (rw c.mode-mode.ensures at t.ensures.short)))
+          (rw c.mode-mode.ensures at (t.ensures.does tx))))
       | in-Repeats w ↦ (
           let r = w.repeat-reply in
           rw (w.self-is, w.pool-is, w.tx-is, w.service-is, w.rec-is, w.step-is)
           (handles-by v log who packet (Again r.result) before
           (at_desk r.new.self r.new.pool tx c.args.service.now c.args.rec.now) asking
           w.in-Repeats.ensures.sound keeps Repeats
-          (rw c.mode-mode.ensures at (sym w.in-Repeats.ensures.row)) tt refl
-          (record {
-            handled = record {
-              answer = [];
-              steps = r.ensures.shown;
-              by_service = tt;
-              grew = grew-none log c.args.rec.now;
+          (rw c.mode-mode.ensures at (sym w.in-Repeats.ensures.row)) (record {
+            taken = tt;
+            ring_is = refl;
+            leaves = record {
+              handled = record {
+                answer = [];
+                steps = r.ensures.shown;
+                by_service = tt;
+                grew = grew-none log c.args.rec.now;
+              };
+              reply = r.ensures.replies.reply;
+              give = tt;
+              no_bytes = tt;
+              service = refl;
+              session = r.ensures.session;
+              pool = tt;
+              all_served = r.ensures.replies.stays.served v.mode_of c.requires.all_served;
+              places = r.ensures.replies.stays.places;
             };
-            reply = r.ensures.replies.reply;
-            give = tt;
-            no_bytes = tt;
-            service = refl;
-            session = r.ensures.session;
-            pool = tt;
-            all_served = r.ensures.replies.stays.served v.mode_of c.requires.all_served;
-            places = r.ensures.replies.stays.places;
-          })
-          (r.ensures.replies.stays.replies tx.items) (λ inline last fits same. cc)))
+            replies = r.ensures.replies.stays.replies tx.items;
+            short = λ inline last fits same. cc;
+          })))
     ] in
     handles-noted v log who packet m.step before after did c.note.new.rec c.note.ensures
 

@@ -1,9 +1,11 @@
 use Rattle.std.specs.Prelude.{◌==◌}
 use Rattle.std.proofs.lemmas.Bool.{ne_eqb}
-use Rattle.std.proofs.Common.{◌≡◌, ◌≢◌, ◌+◌, ◌%◌, ◌≤◌, true, false, Some, None, ◌∷◌, [], refl, sym, ap, ◌∙◌, arith}
+use Rattle.std.proofs.Common.{◌≡◌, ◌≢◌, ◌+◌, ◌%◌, ◌<◌, ◌≤◌, true, false, Some, None, ◌∷◌, []}
+use Rattle.std.proofs.Common.{refl, sym, ap, ◌∙◌, arith}
 use Rattle.rpc_laws.specs.Requests.{answered, given}
 use Rattle.rpc_laws.specs.ServerTable.{is_rfr}
 use Rattle.rpc_outside.specs.declared.service.Mode.TheVariants.{Unserved}
+use Rattle.message_buffer.specs.Buffer.{bytes_of}
 use Rattle.packet_header.specs.Parts.{packet_count}
 use Rattle.packet_header.proofs.PartsLemmas.{packet_count_most}
 use Rattle.server_core.specs.KeepsPool.{IsAsked, IsKept}
@@ -11,10 +13,12 @@ use Rattle.server_core.specs.Session.{IsInTurn, ask_of, is_in_slot}
 use Rattle.server_core.specs.Shown.{shown}
 use Rattle.server_core.specs.Steps.{bytes_with, gone_on_as, grown}
 use Rattle.server_core.proofs.FlushLemmas.{grew-none}
+use Rattle.server_core.proofs.HandlingLemmas.{ran-once, takes-none}
 use Rattle.server_core.proofs.StepLemmas.{asked-gone, gave-gone, is-inline, is-taking, last-inline}
+use Rattle.server_core.proofs.StepLemmas.{last-job, last-whole}
 use Rattle.server_core.proofs.StepLemmas.{more-bytes, more-turn, part-turn, ran-gone, took-gone}
 use Rattle.server_core.proofs.StepLemmas.{taking-by, whole-bytes}
-use Rattle.server_core.proofs.ShortLemmas.{is-long}
+use Rattle.server_core.proofs.ShortLemmas.{is-given, is-long, not-last}
 use Rattle.server_core.proofs.session.ServerSession.take.Goals as goal
 use Rattle.server_core.proofs.StaysLemmas.{places-then, stays-then}
 use Rattle.rpc_base.proofs.FirstLemmas.{found-holds}
@@ -121,8 +125,8 @@ take_working-ask-requires-2-clause-size g c =
     c.in-Some.request c.requires.ready.session.in_turn found in
     turn.size
 
-pub last_given-given-requires : goal.last_given-given-requires
-last_given-given-requires g c =
+pub last_given-requires : goal.last_given-requires
+last_given-requires g c =
     let found = sym c.in-Some.ensures in
     let next = rw found at c.requires.next in
     let part = next.part (sym c.is_rfr.ensures ∙ c.if-is_rfr.false) in
@@ -130,25 +134,12 @@ last_given-given-requires g c =
     c.in-Some.request c.requires.ready.session.in_turn found in
     omega (arith, packet_count_most c.in-Some.request.size turn.size, part.within, next.in_turn)
 
-pub answer_inline-reply-requires-clause-asked : goal.answer_inline-reply-requires-clause-asked
-answer_inline-reply-requires-clause-asked g c =
-    let next = rw (sym c.in-Some.ensures) at c.requires.next in
-    let part = next.part (sym c.is_rfr.ensures ∙ c.if-is_rfr.false) in
-    rw c.last_given-given.ensures (record {
-      awaited = c.take_working-ask-2.ensures.awaited;
-      own = next.same;
-      last = omega (
-        arith,
-        part.within,
-        next.in_turn,
-        c.if-from-count.false,
-        c.from.ensures,
-        c.count.ensures,
-      );
-    })
+pub put_room-answer-requires-clause-awaited : goal.put_room-answer-requires-clause-awaited
+put_room-answer-requires-clause-awaited g c =
+    rw c.last_given.ensures c.take_working-ask-2.ensures.awaited
 
-pub answer_inline-reply-requires-clause-serves : goal.answer_inline-reply-requires-clause-serves
-answer_inline-reply-requires-clause-serves g c =
+pub run-reply-requires-clause-serves : goal.run-reply-requires-clause-serves
+run-reply-requires-clause-serves g c =
     let found = sym c.in-Some.ensures in
     let kept = found-holds (is_in_slot (c.args.head.now.request % 8))
     (IsKept c.write_part.new.pool) c.args.self.now.slots c.in-Some.request
@@ -171,32 +162,19 @@ answer_inline-reply-requires-clause-serves g c =
     record {
       inline = rw c.requires.serving.mode (is-inline c.args.mode known
           (sym c.is_background.ensures ∙ c.if-is_background.false));
-      room = λ served stands. rw (c.bytes.ensures.message, own, ← ask_is, c.in-Ok-of.ensures.size)
+      room = λ served stands. rw (
+        c.bytes.ensures.message,
+        own,
+        ← ask_is,
+        c.put_room-answer.ensures.size_is,
+        c.in-Ok-of.ensures.size,
+      )
           (c.room-size.ensures.length served stands);
       founded = c.requires.serving.founded;
     }
 
-pub returns-clause-taken : goal.returns-clause-taken
-returns-clause-taken g c =
-    let found = sym c.in-Some.ensures in
-    let next = rw found at c.requires.next in
-    let part = next.part (sym c.is_rfr.ensures ∙ c.if-is_rfr.false) in
-    let last : c.in-Some.request.taken + 1 ≡ packet_count c.in-Some.request.size =
-    omega (
-      arith,
-      part.within,
-      next.in_turn,
-      c.if-from-count.false,
-      c.from.ensures,
-      c.count.ensures,
-    ) in
-    let whole : c.args.head.now.number + 1 ≡ packet_count c.args.head.now.size =
-    rw part.size (omega (arith, next.in_turn, last)) in
-    last-inline c.args.mode c.args.head.now (sym c.is_rfr.ensures ∙ c.if-is_rfr.false) whole
-    (sym c.is_background.ensures ∙ c.if-is_background.false)
-
-pub returns-then-is_rfr-clause-leaves : goal.returns-then-is_rfr-clause-leaves
-returns-then-is_rfr-clause-leaves g c =
+pub returns-then-is_rfr-clause-does : goal.returns-then-is_rfr-clause-does
+returns-then-is_rfr-clause-does g c = λ tx.
     let found = sym c.in-Some.ensures in
     let next = rw found at c.requires.next in
     let kept = found-holds (is_in_slot (c.args.head.now.request % 8))
@@ -207,65 +185,75 @@ returns-then-is_rfr-clause-leaves g c =
     omega (arith, (next.more rfr).behind, next.in_turn) in
     let joined = more-bytes c.args.pool.now c.in-Some.request c.args.body.now kept behind (next.more rfr).none in
     record {
-      handled = record {
-        answer = [];
-        steps = took-gone c.args.pool.now c.args.self.now c.in-Some.request c.args.head.now
-            c.requires.ready.session found next.same c.args.body.now
-            (bytes_with c.args.pool.now c.in-Some.request) joined
-            ∙ ap (λ w. w ∷ []) (sym c.take_next-reply.ensures.shown);
-        by_service = tt;
-        grew = grew-none g.R.Recorder.log c.args.rec.now;
+      taken = rw rfr refl;
+      ring_is = refl;
+      leaves = record {
+        handled = record {
+          answer = [];
+          steps = took-gone c.args.pool.now c.args.self.now c.in-Some.request c.args.head.now
+              c.requires.ready.session found next.same c.args.body.now
+              (bytes_with c.args.pool.now c.in-Some.request) joined
+              ∙ ap (λ w. w ∷ []) (sym c.take_next-reply.ensures.shown);
+          by_service = tt;
+          grew = grew-none g.R.Recorder.log c.args.rec.now;
+        };
+        reply = rw (next.in_turn, ← next.same) c.take_next-reply.ensures.replies.reply;
+        give = tt;
+        no_bytes = tt;
+        service = refl;
+        session = tt;
+        pool = tt;
+        all_served = c.take_next-reply.ensures.replies.stays.served g.V.Service.mode_of
+            c.requires.serving.all_served;
+        places = c.take_next-reply.ensures.replies.stays.places;
       };
-      reply = rw (next.in_turn, ← next.same) c.take_next-reply.ensures.replies.reply;
-      give = tt;
-      no_bytes = tt;
-      service = refl;
-      session = tt;
-      pool = tt;
-      all_served = c.take_next-reply.ensures.replies.stays.served g.V.Service.mode_of c.requires.serving.all_served;
-      places = c.take_next-reply.ensures.replies.stays.places;
+      replies = c.take_next-reply.ensures.replies.stays.replies tx.items;
+      short = λ inline last fits same. cc;
     }
 
-pub returns-then-is_rfr-clause-replies : goal.returns-then-is_rfr-clause-replies
-returns-then-is_rfr-clause-replies g c = c.take_next-reply.ensures.replies.stays.replies
-
-pub returns-then-from-count-clause-leaves : goal.returns-then-from-count-clause-leaves
-returns-then-from-count-clause-leaves g c =
+pub returns-then-from-count-clause-does : goal.returns-then-from-count-clause-does
+returns-then-from-count-clause-does g c = λ tx.
     let found = sym c.in-Some.ensures in
     let next = rw found at c.requires.next in
+    let part = next.part (sym c.is_rfr.ensures ∙ c.if-is_rfr.false) in
+    let more : c.args.head.now.number + 1 < packet_count c.args.head.now.size =
+    rw part.size (omega
+    (arith, next.in_turn, c.if-from-count.true, c.from.ensures, c.count.ensures)) in
     record {
-      handled = record {
-        answer = [];
-        steps = took-gone c.args.pool.now c.args.self.now c.in-Some.request c.args.head.now
-            c.requires.ready.session found next.same c.args.body.now
-            (bytes_with c.write_part.new.pool c.in-Some.request) (sym c.write_part.ensures.bytes)
-            ∙ ap (λ w. w ∷ []) (sym (c.take_next-reply-then-from-count.ensures.shown
-            ∙ ap (gone_on_as c.in-Some.request.number
-            (grown (bytes_with c.write_part.new.pool c.in-Some.request)))
-            c.write_part.ensures.shown));
-        by_service = tt;
-        grew = grew-none g.R.Recorder.log c.args.rec.now;
+      taken = not-last c.args.head.now more;
+      ring_is = refl;
+      leaves = record {
+        handled = record {
+          answer = [];
+          steps = took-gone c.args.pool.now c.args.self.now c.in-Some.request c.args.head.now
+              c.requires.ready.session found next.same c.args.body.now
+              (bytes_with c.write_part.new.pool c.in-Some.request) (sym c.write_part.ensures.bytes)
+              ∙ ap (λ w. w ∷ []) (sym (c.take_next-reply-then-from-count.ensures.shown
+              ∙ ap (gone_on_as c.in-Some.request.number
+              (grown (bytes_with c.write_part.new.pool c.in-Some.request)))
+              c.write_part.ensures.shown));
+          by_service = tt;
+          grew = grew-none g.R.Recorder.log c.args.rec.now;
+        };
+        reply = rw (next.in_turn, ← next.same)
+            c.take_next-reply-then-from-count.ensures.replies.reply;
+        give = tt;
+        no_bytes = tt;
+        service = refl;
+        session = tt;
+        pool = tt;
+        all_served = c.take_next-reply-then-from-count.ensures.replies.stays.served
+            g.V.Service.mode_of c.requires.serving.all_served;
+        places = places-then c.write_part.ensures.stays.places
+            c.take_next-reply-then-from-count.ensures.replies.stays.places;
       };
-      reply = rw (next.in_turn, ← next.same) c.take_next-reply-then-from-count.ensures.replies.reply;
-      give = tt;
-      no_bytes = tt;
-      service = refl;
-      session = tt;
-      pool = tt;
-      all_served = c.take_next-reply-then-from-count.ensures.replies.stays.served g.V.Service.mode_of
-          c.requires.serving.all_served;
-      places = places-then c.write_part.ensures.stays.places
-          c.take_next-reply-then-from-count.ensures.replies.stays.places;
+      replies = (stays-then c.write_part.ensures.stays
+          c.take_next-reply-then-from-count.ensures.replies.stays).replies tx.items;
+      short = λ inline last fits same. cc;
     }
 
-pub returns-then-from-count-clause-replies : goal.returns-then-from-count-clause-replies
-returns-then-from-count-clause-replies g c =
-    let both = stays-then c.write_part.ensures.stays
-    c.take_next-reply-then-from-count.ensures.replies.stays in
-    both.replies
-
-pub returns-then-is_background-clause-leaves : goal.returns-then-is_background-clause-leaves
-returns-then-is_background-clause-leaves g c =
+pub returns-then-is_background-clause-does : goal.returns-then-is_background-clause-does
+returns-then-is_background-clause-does g c = λ tx.
     let found = sym c.in-Some.ensures in
     let next = rw found at c.requires.next in
     let part = next.part (sym c.is_rfr.ensures ∙ c.if-is_rfr.false) in
@@ -284,44 +272,58 @@ returns-then-is_background-clause-leaves g c =
     c.take_working-ask.result kept (sym c.in-Some-ask.ensures)
     c.take_working-ask.ensures.ask (omega
     (arith, c.if-from-count.false, c.from.ensures, c.count.ensures)) in
+    let kind = sym c.is_rfr.ensures ∙ c.if-is_rfr.false in
+    let last : c.args.head.now.number + 1 ≡ packet_count c.args.head.now.size =
+    rw part.size (omega (
+      arith,
+      part.within,
+      next.in_turn,
+      c.if-from-count.false,
+      c.from.ensures,
+      c.count.ensures,
+    )) in
     record {
-      handled = record {
-        answer = [];
-        steps = gave-gone c.args.pool.now c.args.self.now c.in-Some.request c.args.head.now
-            c.requires.ready.session found next.same c.args.body.now
-            (bytes_with c.write_part.new.pool c.in-Some.request) (sym c.write_part.ensures.bytes)
-            ∙ ap (λ w. w ∷ []) (sym (c.take_working-ask.ensures.shown
-            ∙ ap (gone_on_as c.in-Some.request.number (λ x. given (grown [] x)))
-            c.write_part.ensures.shown));
-        by_service = tt;
-        grew = grew-none g.R.Recorder.log c.args.rec.now;
+      taken = last-job c.args.mode c.args.head.now kind last
+          (sym c.is_background.ensures ∙ c.if-is_background.true);
+      ring_is = refl;
+      leaves = record {
+        handled = record {
+          answer = [];
+          steps = gave-gone c.args.pool.now c.args.self.now c.in-Some.request c.args.head.now
+              c.requires.ready.session found next.same c.args.body.now
+              (bytes_with c.write_part.new.pool c.in-Some.request) (sym c.write_part.ensures.bytes)
+              ∙ ap (λ w. w ∷ []) (sym (c.take_working-ask.ensures.shown
+              ∙ ap (gone_on_as c.in-Some.request.number (λ x. given (grown [] x)))
+              c.write_part.ensures.shown));
+          by_service = tt;
+          grew = grew-none g.R.Recorder.log c.args.rec.now;
+        };
+        reply = tt;
+        give = rw c.parcel.ensures (record {
+          session = c.take_working-ask.ensures.number;
+          request = refl;
+          req_type = refl;
+          ask = own ∙ sym asked;
+          room = λ served stands. rw (own, ← ask_is, c.in-Ok.ensures.room.0)
+              (c.room-size.ensures.length served stands);
+          most = rw c.in-Ok.ensures.room.0 c.room-size.ensures.most;
+        });
+        no_bytes = tt;
+        service = refl;
+        session = tt;
+        pool = tt;
+        all_served = c.take_working-ask.ensures.stays.served g.V.Service.mode_of
+            c.requires.serving.all_served;
+        places = places-then c.write_part.ensures.stays.places
+            c.take_working-ask.ensures.stays.places;
       };
-      reply = tt;
-      give = rw c.parcel.ensures (record {
-        session = c.take_working-ask.ensures.number;
-        request = refl;
-        req_type = refl;
-        ask = own ∙ sym asked;
-        room = λ served stands. rw (own, ← ask_is, c.in-Ok.ensures.room.0)
-            (c.room-size.ensures.length served stands);
-        most = rw c.in-Ok.ensures.room.0 c.room-size.ensures.most;
-      });
-      no_bytes = tt;
-      service = refl;
-      session = tt;
-      pool = tt;
-      all_served = c.take_working-ask.ensures.stays.served g.V.Service.mode_of c.requires.serving.all_served;
-      places = places-then c.write_part.ensures.stays.places
-          c.take_working-ask.ensures.stays.places;
+      replies = (stays-then c.write_part.ensures.stays
+          c.take_working-ask.ensures.stays).replies tx.items;
+      short = λ inline last fits same. cc;
     }
 
-pub returns-then-is_background-clause-replies : goal.returns-then-is_background-clause-replies
-returns-then-is_background-clause-replies g c =
-    let both = stays-then c.write_part.ensures.stays c.take_working-ask.ensures.stays in
-    both.replies
-
-pub returns-clause-leaves : goal.returns-clause-leaves
-returns-clause-leaves g c =
+pub returns-clause-does : goal.returns-clause-does
+returns-clause-does g c = λ tx.
     let found = sym c.in-Some.ensures in
     let next = rw found at c.requires.next in
     let part = next.part (sym c.is_rfr.ensures ∙ c.if-is_rfr.false) in
@@ -336,7 +338,20 @@ returns-clause-leaves g c =
     c.take_working-ask-2.result kept (sym c.in-Some-ask.ensures)
     c.take_working-ask-2.ensures.ask (omega
     (arith, c.if-from-count.false, c.from.ensures, c.count.ensures)) in
-    let answers = c.answer_inline-reply.ensures.answers in
+    let ran = c.run-reply.ensures.runs in
+    let answer = bytes_of ran.buf in
+    let put = rw c.last_given.ensures at c.put_room-answer.ensures in
+    let held = ran-once put ran in
+    let last : c.args.head.now.number + 1 ≡ packet_count c.in-Some.request.size =
+    omega (
+      arith,
+      part.within,
+      next.in_turn,
+      c.if-from-count.false,
+      c.from.ensures,
+      c.count.ensures,
+    ) in
+    let gives = held.replies c.args.head.now.number last in
     let v = shown c.args.pool.now c.args.self.now in
     let before : shown c.take_working-ask-2.new.pool c.take_working-ask-2.new.self
     ≡ gone_on_as c.in-Some.request.number (λ x. given (grown [] x)) v =
@@ -344,37 +359,62 @@ returns-clause-leaves g c =
     (gone_on_as c.in-Some.request.number (λ x. given (grown [] x)))
     c.write_part.ensures.shown in
     let same = c.bytes.ensures.message ∙ own ∙ sym asked in
+    let kind = sym c.is_rfr.ensures ∙ c.if-is_rfr.false in
+    let whole : c.args.head.now.number + 1 ≡ packet_count c.args.head.now.size =
+    rw part.size last in
     record {
-      handled = record {
-        answer = answers.answer;
-        steps = ran-gone c.args.pool.now c.args.self.now c.in-Some.request c.args.head.now
-            c.requires.ready.session found next.same c.args.body.now bytes (sym c.write_part.ensures.bytes)
-            answers.answer ∙ ap (λ w. w ∷ []) (sym
-            (answers.shown_is ∙ ap (gone_on_as c.args.head.now.request (answered answers.answer))
-            before));
-        by_service = rw same at answers.by_service;
-        grew = rw (same, c.take_working-ask-2.ensures.number) at answers.grew;
+      taken = last-inline c.args.mode c.args.head.now kind whole
+          (sym c.is_background.ensures ∙ c.if-is_background.false);
+      ring_is = refl;
+      leaves = record {
+        handled = record {
+          answer = answer;
+          steps = ran-gone c.args.pool.now c.args.self.now c.in-Some.request c.args.head.now
+              c.requires.ready.session found next.same c.args.body.now bytes
+              (sym c.write_part.ensures.bytes) answer ∙ ap (λ w. w ∷ []) (sym
+              ((rw next.same at held.shown_is)
+              ∙ ap (gone_on_as c.args.head.now.request (answered answer)) before));
+          by_service = rw same at ran.by_service;
+          grew = rw (same, put.number, c.take_working-ask-2.ensures.number) at ran.grew;
+        };
+        reply = rw (c.run-reply.ensures.reply, ← next.same) gives.reply;
+        give = tt;
+        no_bytes = rw (← next.same) held.no_bytes;
+        service = tt;
+        session = tt;
+        pool = tt;
+        all_served = gives.stays.served g.V.Service.mode_of
+            (c.take_working-ask-2.ensures.stays.served g.V.Service.mode_of
+            c.requires.serving.all_served);
+        places = places-then c.write_part.ensures.stays.places (places-then
+            c.take_working-ask-2.ensures.stays.places gives.stays.places);
       };
-      reply = c.answer_inline-reply.ensures.replies.reply;
-      give = tt;
-      no_bytes = c.answer_inline-reply.ensures.no_bytes;
-      service = tt;
-      session = tt;
-      pool = tt;
-      all_served = c.answer_inline-reply.ensures.replies.stays.served g.V.Service.mode_of
-          (c.take_working-ask-2.ensures.stays.served g.V.Service.mode_of c.requires.serving.all_served);
-      places = places-then c.write_part.ensures.stays.places (places-then
-          c.take_working-ask-2.ensures.stays.places c.answer_inline-reply.ensures.replies.stays.places);
+      replies = rw (c.run-reply.ensures.reply, ← next.same) ((stays-then c.write_part.ensures.stays
+          (stays-then c.take_working-ask-2.ensures.stays gives.stays)).replies tx.items);
+      short = λ inline last fits same. cc;
     }
 
-pub returns-clause-replies : goal.returns-clause-replies
-returns-clause-replies g c =
-    let all = stays-then c.write_part.ensures.stays
-    (stays-then c.take_working-ask-2.ensures.stays c.answer_inline-reply.ensures.replies.stays) in
-    all.replies
+pub returns-in_default-make_answer-clause-does : goal.returns-in_default-make_answer-clause-does
+returns-in_default-make_answer-clause-does g c = λ tx.
+    let next = rw (sym c.in-Some.ensures) at c.requires.next in
+    let kind = sym c.is_rfr.ensures ∙ c.if-is_rfr.false in
+    let part = next.part kind in
+    let last : c.args.head.now.number + 1 ≡ packet_count c.args.head.now.size =
+    rw part.size (omega (
+      arith,
+      part.within,
+      next.in_turn,
+      c.if-from-count.false,
+      c.from.ensures,
+      c.count.ensures,
+    )) in
+    takes-none (last-whole c.args.head.now kind last) c.write_part.ensures.shown
+    c.write_part.ensures.uses c.write_part.ensures.stays c.requires.serving.all_served
+    (λ inline is_last fits same.
+    is-given c.args.mode (sym c.is_background.ensures ∙ c.if-is_background.true) inline)
 
-pub returns-in_default-of-clause-short : goal.returns-in_default-of-clause-short
-returns-in_default-of-clause-short g c = λ inline last fits same.
+pub returns-in_default-of-clause-does : goal.returns-in_default-of-clause-does
+returns-in_default-of-clause-does g c = λ tx.
     let found = sym c.in-Some.ensures in
     let next = rw found at c.requires.next in
     let kept = found-holds (is_in_slot (c.args.head.now.request % 8))
@@ -394,7 +434,19 @@ returns-in_default-of-clause-short g c = λ inline last fits same.
     ∙ whole-bytes c.write_part.new.pool c.in-Some.request c.in-Some-ask.place
     c.get.result.now kept (sym c.in-Some-ask.ensures) c.get.ensures
     (omega (arith, c.if-from-count.false, c.from.ensures, c.count.ensures)) in
-    is-long g.V.Service.answer (g.V.Service.stands c.args.service.now) c.args.head.now.req_type
-    bytes c.room-size.result c.requires.serving.founded
+    let last : c.args.head.now.number + 1 ≡ packet_count c.args.head.now.size =
+    rw part.size (omega (
+      arith,
+      part.within,
+      next.in_turn,
+      c.if-from-count.false,
+      c.from.ensures,
+      c.count.ensures,
+    )) in
+    let kind = sym c.is_rfr.ensures ∙ c.if-is_rfr.false in
+    takes-none (last-whole c.args.head.now kind last) c.write_part.ensures.shown
+    c.write_part.ensures.uses c.write_part.ensures.stays c.requires.serving.all_served
+    (λ inline is_last fits same. is-long g.V.Service.answer
+    (g.V.Service.stands c.args.service.now) c.args.head.now.req_type bytes c.room-size.result c.requires.serving.founded
     (rw ask_is at c.room-size.ensures.length) c.in_default-of.ensures.long
-    (rw (several, asked) at fits)
+    (rw (several, asked) at fits))

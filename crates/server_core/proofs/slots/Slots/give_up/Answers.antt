@@ -18,22 +18,22 @@ pub empty_buffers-own-requires-clause-kept : goal.empty_buffers-own-requires-cla
 empty_buffers-own-requires-clause-kept c =
     let t = is_in_slot c.args.slot in
     let found = find-found t c.args.self.now c.in-Some.at (sym c.in-Some.ensures)
-    ∙ c.at-request.ensures in
-    (taken-out c.args.pool.now t c.args.self.now c.at-request.result found c.requires.keeps_pool).own
+    ∙ c.at.ensures in
+    (taken-out c.args.pool.now t c.args.self.now c.at.result.now found c.requires.keeps_pool).own
 
 pub empty_buffers-own-requires-clause-apart : goal.empty_buffers-own-requires-clause-apart
 empty_buffers-own-requires-clause-apart c = λ p.
     let t = is_in_slot c.args.slot in
     let found = find-found t c.args.self.now c.in-Some.at (sym c.in-Some.ensures)
-    ∙ c.at-request.ensures in
-    let beside = taken-out c.args.pool.now t c.args.self.now c.at-request.result found
+    ∙ c.at.ensures in
+    let beside = taken-out c.args.pool.now t c.args.self.now c.at.result.now found
     c.requires.keeps_pool in
     omega (arith, beside.apart p)
 
 pub empty_buffers-own-requires-clause-unheld : goal.empty_buffers-own-requires-clause-unheld
 empty_buffers-own-requires-clause-unheld c =
     let found = find-found (is_in_slot c.args.slot) c.args.self.now c.in-Some.at
-    (sym c.in-Some.ensures) ∙ c.at-request.ensures in
+    (sym c.in-Some.ensures) ∙ c.at.ensures in
     rw found at c.requires.unheld
 
 pub bring-requires : goal.bring-requires
@@ -44,10 +44,10 @@ invariant_of-self c =
     let t = is_in_slot c.args.slot in
     let xs = c.self.inside.items.items in
     let at = rw (← c.self.view_is) at (sym c.in-Some.ensures) in
-    let found : find t xs ≡ Some c.at-request.result =
-    find-found t xs c.in-Some.at at ∙ rw (← c.self.view_is) at c.at-request.ensures in
+    let found : find t xs ≡ Some c.at.result.now =
+    find-found t xs c.in-Some.at at ∙ rw (← c.self.view_is) at c.at.ensures in
     rw (c.bring.ensures, c.take_out.ensures, ← without_first-found t xs c.in-Some.at at)
-    (home-given c.self.inside.homes xs c.args.slot c.at-request.result
+    (home-given c.self.inside.homes xs c.args.slot c.at.result.now
     (rw (← c.self.view_is) at c.requires.apart) found c.self.invariant c.empty_buffers-own.result
     c.requires.slot c.empty_buffers-own.ensures.own)
 
@@ -60,5 +60,5 @@ returns-clause-slots c =
 pub returns-clause-pool : goal.returns-clause-pool
 returns-clause-pool c =
     let found = find-found (is_in_slot c.args.slot) c.args.self.now c.in-Some.at
-    (sym c.in-Some.ensures) ∙ c.at-request.ensures in
+    (sym c.in-Some.ensures) ∙ c.at.ensures in
     rw (c.empty_buffers-own.ensures.pool, found) refl

@@ -9,7 +9,7 @@ pub returns-in-Some : goal.returns-in-Some
 returns-in-Some c =
     rw (c.set_at.ensures, c.left-request.ensures, c.self.view_is)
     (sym (at_first-found (is_owner c.args.session c.args.owner) one_left c.args.self.now
-    c.in-Some.at c.at.result (sym c.in-Some.ensures) c.at.ensures))
+    c.in-Some.at c.at.result.now (sym c.in-Some.ensures) c.at.ensures))
 
 pub returns-in_default : goal.returns-in_default
 returns-in_default c = sym (at_first-missing _ _ _ (sym c.in_default.ensures))

@@ -1,14 +1,18 @@
-use Rattle.std.proofs.Common.{◌≡◌, ◌%◌, Some, true, false, refl, sym, ap, ◌∙◌, arith}
+use Rattle.std.proofs.Common.{◌≡◌, ℕ, ◌%◌, Some, true, false, refl, sym, ap, ◌∙◌, arith}
 use Rattle.std.specs.List.{find}
 use Rattle.message_buffer.specs.Buffer.{with_len}
 use Rattle.buffer_pool.specs.Pool.{filled}
 use Rattle.rpc_base.proofs.TablesLemmas.{at_first-replaced, find-missing}
 use Rattle.server_core.specs.Homes.{HasOwn, is_lent}
-use Rattle.server_core.specs.Reusing.{own_answer}
 use Rattle.server_core.specs.Serving.{worked}
 use Rattle.server_core.specs.Session.{is_in_slot}
+use Rattle.server_core.specs.declared.slot.Stored.{Stored}
 use Rattle.server_core.proofs.HomeLemmas.{home-lent}
 use Rattle.server_core.proofs.slots.Slots.lend.Goals as goal
+
+-- an answer in its slot's own buffer
+abbrev own_answer : (size p : ℕ) → Stored
+own_answer size p = record { place = p; size = size; own = true }
 
 pub unreachable-requires : goal.unreachable-requires
 unreachable-requires c =
@@ -51,9 +55,10 @@ returns-clause-pool c =
     rw (found, lent, there) at (c.self.invariant.each slot (omega arith)) in
     let there_is = rw (c.put_message-place.ensures.pool, c.set_len.ensures) at c.put_message-place.ensures.there in
     rw put (record {
+      lowest = c.put_message-place.ensures.place;
       buf = b;
       after_is = refl;
       there = there_is;
       size_is = (refl, omega (arith, own, c.requires.short));
-      own = own;
+      own = λ e. own;
     })
