@@ -193,6 +193,7 @@ impl Calls {
     }
 
     /// The call with this request number is taken out.
+    #[inline(always)]
     pub fn remove(&mut self, request: RequestNo)
         ensures { self.new ≡ without_first (is_request request) self.old }
     {

@@ -114,6 +114,7 @@ impl ClientSession {
     }
 
     // An active call that no queued entry names is over.
+    #[inline(always)]
     pub(super) fn end(&mut self, pool: &mut BufferPool, call: ActiveCall, outcome: Outcome) -> Done
         requires call { IsActive call self.old pool.old }
         requires unheld { IsUnheld pool.old call }
@@ -164,6 +165,7 @@ fn put_part(pool: &mut BufferPool, call: &ActiveCall, head: &MessageHeader, body
 
 // Takes the two buffers of an active call out of the pool. The response buffer has no bytes where
 // the call didn't end well.
+#[inline(always)]
 fn take_buffers(
     pool: &mut BufferPool,
     session: SessionNo,
