@@ -6,7 +6,7 @@ use Rattle.std.specs.Prelude.{count_by, map, nat_lt, position, slice_get}
 use Rattle.std.specs.List.{insert, position_or_len, remove}
 use Rattle.std.specs.List.Sorted.{IsNonDecreasing, IsPartitionPoint}
 use Rattle.std.proofs.lemmas.Bool.{and_from, and_parts, cases_lt, eqb-true}
-use Rattle.std.proofs.lemmas.List.{map_push}
+use Rattle.std.proofs.lemmas.List.{length-map, map_push}
 use Rattle.std.proofs.lemmas.List.Edits.{get_or-remove_above, get_or-remove_below, length-remove}
 use Rattle.std.proofs.lemmas.List.Sorted.{IsNonDecreasingBy-insert, IsPermutation-insert}
 use Rattle.std.proofs.lemmas.List.Sorted.{sum_by-IsPermutation}
@@ -338,3 +338,24 @@ module _ (ends : List ℕ) (servers : List Serving) (order : EndOrder ends (map 
             ));
         small = all-removed HasParts (map way_of servers) i order.small;
       })
+
+-- where each code is there as often as there are sessions with it, there are no more codes
+more-than : (ends : List ℕ) (ways : List Way)
+    → ((n : ℕ) → count_by (λ code. code == n) ends ≡ count_by (λ w. code_of w == n) ways)
+    → length ends ≤ length ways
+more-than [] ways each = omega arith
+more-than (e ∷ es) ways each =
+    let some = counted (λ (code : ℕ). code) e (e ∷ es) 0 e refl refl in
+    let h = stands code_of e ways (omega (arith, some, each e)) in
+    let rest = more-than es (remove ways h.place) (λ n. (
+    let theirs = λ (w : Way). hits n (code_of w) in
+    let same : theirs h.one ≡ hits n e = ap (hits n) h.is in
+    omega (arith, each n, sum_by-cons (hits n) e es, sum-less theirs ways h.place h.one h.at, same)
+    )) in
+    omega (arith, rest, length-remove ways h.place (slice_get_within ways h.place h.one h.at))
+
+-- and no more than sessions
+pub no-more-ends : (ends : List ℕ) (servers : List Serving) → EndOrder ends (map way_of servers)
+    → length ends ≤ length servers
+no-more-ends ends servers order =
+    omega (arith, more-than ends (map way_of servers) order.each, length-map servers way_of)

@@ -26,13 +26,14 @@ use Rattle.server_core.specs.Shown.{shown as shown_server}
 use Rattle.session_store.specs.declared.side.Side.{Side}
 use Rattle.session_store.specs.Changes.{AnswersAt, FinishesAt, is_waited}
 use Rattle.session_store.specs.Effects.{ServerFinishes}
+use Rattle.server_core.specs.Finishing.{Finishes}
 use Rattle.session_store.specs.Sides.{HasPlaces, IsOf, IsOfOwner, Kept, Rises, ServerHolds}
 use Rattle.session_store.specs.Sides.{ServerKept, ServerQueued, is_end, numbers_in, places_in}
 use Rattle.session_store.specs.Sides.{served_places, shown_side}
 use Rattle.session_store.specs.Sides.{side_handed}
 use Rattle.session_store.proofs.BesideLemmas.{rest-push}
-use Rattle.session_store.proofs.KeptLemmas.{ServerActs, clients-same, handed-same, server-acted, server-places}
-use Rattle.session_store.proofs.KeptLemmas.{servers-set}
+use Rattle.session_store.proofs.KeptLemmas.{ServerActs, clients-same, handed-same, server-acted}
+use Rattle.session_store.proofs.KeptLemmas.{server-places, servers-set}
 use Rattle.session_store.proofs.ListLemmas.{set-own}
 use Rattle.session_store.proofs.ReplyGoneLemmas.{end-at}
 use Rattle.session_store.proofs.StandLemmas.{ends-all}
@@ -44,7 +45,8 @@ pub any-set : {A : Type 0} (p : A → Bool) (xs : List A) (i : ℕ) (x y : A) �
     → p y ≡ true → list_any p (slice_set xs i y) ≡ true
 any-set p [] i x y e t = cc
 any-set p (z ∷ zs) zero x y e t = rw t refl
-any-set p (z ∷ zs) (suc i) x y e t = or-right (p z) (list_any p (slice_set zs i y)) (any-set p zs i x y e t)
+any-set p (z ∷ zs) (suc i) x y e t =
+    or-right (p z) (list_any p (slice_set zs i y)) (any-set p zs i x y e t)
 
 any-front : {A : Type 0} (p : A → Bool) (xs : List A) (y : A) → list_any p xs ≡ true
     → list_any p (xs ++ y ∷ []) ≡ true
@@ -69,6 +71,14 @@ new-stands sides servers i r v w e at own peer =
 pub own-reply : (n r : ℕ) (o : Owner) → o ≡ Reply n r → is_reply_of n o ≡ true
 own-reply n r o own = rw own (eq-eqb n n refl)
 
+-- a job of the session at a place is finished
+abbrev pub finishes-at : (i r : ℕ) (bytes : List ℕ) (o : Option EntryValue) (servers : List Serving)
+    (pool after : Pool) (x w : Serving) → slice_get servers i ≡ Some x
+    → Finishes r bytes o x w pool after
+    → ServerFinishes i r bytes o servers (slice_set servers i w) pool after
+finishes-at i r bytes o servers pool after x w at step =
+    record { server = x; at = at; later = w; step = step; changed = refl }
+
 -- an answer came
 module _ (pool after : Pool) (sides : List Side) (servers now : List Serving) (tx : Ring EntryValue)
     (i r : ℕ) (bytes : List ℕ) (e : EntryValue) (kept : Kept pool sides servers tx)
@@ -80,7 +90,8 @@ module _ (pool after : Pool) (sides : List Side) (servers now : List Serving) (t
   same-peer : h.later.peer ≡ h.server.peer
   same-peer = ap (λ (x : Server). x.way.peer) h.step.finished.shown_is
 
-  finish-acts : ServerActs pool after sides servers i h.server h.later tx (ring (tx.items ++ e ∷ []) tx.size)
+  finish-acts : ServerActs pool after sides servers i h.server h.later tx
+      (ring (tx.items ++ e ∷ []) tx.size)
   finish-acts =
       let reply = h.step.finished.reply in
       record {
@@ -99,8 +110,10 @@ module _ (pool after : Pool) (sides : List Side) (servers now : List Serving) (t
             (ends-all sides servers i h.server h.later h.at same-number same-peer tx.items
             kept.stands) (new-stands sides servers i r h.server h.later e h.at reply.owner
             reply.peer);
-        holds = h.step.holds tx.items (all-at (ServerHolds pool tx.items) servers i h.server kept.holds h.at);
-        queued = h.step.queued tx.items (all-at (ServerQueued tx.items) servers i h.server kept.replies h.at);
+        holds = h.step.holds tx.items
+            (all-at (ServerHolds pool tx.items) servers i h.server kept.holds h.at);
+        queued = h.step.queued tx.items
+            (all-at (ServerQueued tx.items) servers i h.server kept.replies h.at);
         served = places-most h.later h.step.then_sound;
         spare = h.step.places.spare;
       }
@@ -128,7 +141,9 @@ module _ (pool after : Pool) (sides : List Side) (servers now : List Serving) (t
 module _ (pool after : Pool) (sides : List Side) (servers now : List Serving) (tx : Ring EntryValue)
     (i r : ℕ) (bytes : List ℕ) (h : ServerFinishes i r bytes None servers now pool after) where
   left-servers : now ≡ servers
-  left-servers = h.changed ∙ ap (slice_set servers i) h.step.left.session ∙ set-own servers i h.server h.at
+  left-servers =
+      h.changed ∙ ap (slice_set servers i) h.step.left.session
+      ∙ set-own servers i h.server h.at
 
   pub left-kept : Kept pool sides servers tx → Kept after sides now tx
   left-kept kept = rw (left-servers, h.step.left.pool) kept
@@ -143,8 +158,12 @@ module _ (pool after : Pool) (sides : List Side) (servers now : List Serving) (t
   pub left-shown : map (shown_server after) now ≡ map (shown_server pool) servers
   left-shown = rw (left-servers, h.step.left.pool) refl
 
-  pub left-at : FinishesAt i r bytes None (map (shown_server pool) servers) (map (shown_server after) now)
-  left-at = (rw (get-map (shown_server pool) servers i h.server h.at) h.step.left.waited, left-shown)
+  pub left-at : FinishesAt i r bytes None (map (shown_server pool) servers)
+      (map (shown_server after) now)
+  left-at = (
+    rw (get-map (shown_server pool) servers i h.server h.at) h.step.left.waited,
+    left-shown,
+  )
 
 -- the newest request of a slot, as it is shown
 last-cases : (pool : Pool) (v : Serving) (r n : ℕ) → IsServing v → (o : Option SlotRequest)
@@ -161,7 +180,8 @@ module _ (pool after : Pool) (sides : List Side) (servers now : List Serving) (t
     (i r : ℕ) (bytes : List ℕ) (e : EntryValue) (kept : Kept pool sides servers tx)
     (h : ServerFinishes i r bytes (Some e) servers now pool after)
     (has-room : length tx.items < tx.size) (sound : IsServing h.server) where
-  pub finish-at : AnswersAt i r bytes e (map (shown_server pool) servers) (map (shown_server after) now)
+  pub finish-at : AnswersAt i r bytes e (map (shown_server pool) servers)
+      (map (shown_server after) now)
   finish-at =
       let f = h.step.finished in
       let number = same-number pool after sides servers now tx i r bytes e kept h has-room in

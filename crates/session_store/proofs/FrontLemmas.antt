@@ -1,19 +1,23 @@
 -- The front of the ring, as it is looked at.
-use Rattle.std.proofs.Common.{◌≡◌, ◌≢◌, ℕ, true, ◌∙◌, Option, Some, None, List, [], ◌∷◌, refl, sym, ap, subst}
-use Rattle.std.specs.Prelude.{IfNone, IfSome, map, option_map, slice_get}
+use Rattle.std.proofs.Common.{◌≡◌, ℕ, Bool, true, false, cond, ◌∙◌, Some, List, [], ◌∷◌}
+use Rattle.std.proofs.Common.{refl, sym, ap, subst}
+use Rattle.std.specs.Prelude.{map, option_map, slice_get}
+use Rattle.std.proofs.lemmas.Bool.{false≢true}
 use Rattle.std.proofs.lemmas.Option.{slice_get-map}
 use Rattle.rpc_base.specs.declared.owner.Owner.{Owner}
 use Rattle.rpc_base.specs.declared.owner.Owner.TheVariants.{Ask, Reply, Control}
 use Rattle.rpc_base.proofs.PlaceLemmas.{all-at, get-map}
 use Rattle.buffer_pool.specs.Pool.{Pool}
+use Rattle.packet_header.specs.Header.{AreBytes}
 use Rattle.packet_rings.specs.Rings.{Ring}
 use Rattle.packet_rings.specs.Values.{EntryValue}
 use Rattle.rpc_laws.specs.Packets.{IsSpelled}
+use Rattle.rpc_laws.specs.Pacing.{line}
+use Rattle.rpc_laws.specs.Queues.{is_due}
 use Rattle.rpc_laws.specs.declared.tables.Client.{Client}
 use Rattle.server_core.specs.Session.{Session as Serving}
 use Rattle.session_store.specs.declared.side.Side.{Side}
-use Rattle.session_store.specs.Queue.{IsFront, SendsFront, SpellsFront, clients_sent, packet_in}
-use Rattle.session_store.specs.Queue.{peer_in}
+use Rattle.session_store.specs.Queue.{IsFront, SendsFront, clients_sent, packet_in, peer_in}
 use Rattle.pacing_wheel.specs.Wheel.{Wheel}
 use Rattle.rpc_laws.specs.declared.tables.Queued.{Queued}
 use Rattle.session_store.specs.Joined.{is_some_due, joined, queue_of, shown_with, without_due}
@@ -32,32 +36,13 @@ module _ (pool : Pool) (sides : List Side) (servers : List Serving) (tx : Ring E
       absurd (subst (IsOfOwner sides servers e) own
       (all-at (IsOf sides servers) tx.items 0 e kept.stands front))
 
+  -- it isn't a control packet
+  pub no-control : (e : EntryValue) → slice_get tx.items 0 ≡ Some e → e.owner ≡ Control → ⊥
+  no-control e front own =
+      subst (IsOfOwner sides servers e) own
+      (all-at (IsOf sides servers) tx.items 0 e kept.stands front)
+
   module _ (seen : Shown) (view : shown_of pool sides servers tx ≡ seen) where
-    pub no-front : (o : Option EntryValue) → o ≡ slice_get tx.items 0 → IfNone o (seen.queued ≡ [])
-    no-front None is = rw (← view) (ap (λ (xs : List EntryValue). map queued_of xs) (no-first tx.items (sym is)))
-      where
-        no-first : (xs : List EntryValue) → slice_get xs 0 ≡ None → xs ≡ []
-        no-first [] h = refl
-        no-first (x ∷ xs) h = cc
-    no-front (Some e) is = tt
-
-    -- a ring with a queue has a front, which isn't a control packet
-    pub some-front : seen.queued ≢ [] → slice_get tx.items 0 ≡ None → ⊥
-    some-front some none = some (no-front None (sym none))
-
-    pub no-control : (e : EntryValue) → slice_get tx.items 0 ≡ Some e → e.owner ≡ Control → ⊥
-    no-control e front own =
-        subst (IsOfOwner sides servers e) own
-        (all-at (IsOf sides servers) tx.items 0 e kept.stands front)
-
-    pub spells-seen : (e : EntryValue) → slice_get tx.items 0 ≡ Some e → (head body : List ℕ)
-        → IsSpelled (packet_in (shown_of pool sides servers tx) e.owner e.number) head body
-        → SpellsFront seen head body
-    spells-seen e front head body h =
-        let place : slice_get (map queued_of tx.items) 0 ≡ Some (queued_of e) =
-        get-map queued_of tx.items 0 e front in
-        rw (← view, place) h
-
     pub sends-seen : (e : EntryValue) (now : ℕ) (clients : List Client)
         → slice_get tx.items 0 ≡ Some e
         → clients ≡ clients_sent now e.owner e.number (map (shown_side pool) sides)
@@ -78,14 +63,27 @@ module _ (pool : Pool) (sides : List Side) (servers : List Serving) (tx : Ring E
       ∙ ap (λ (qs : List Queued). slice_get qs 0) (queue-undue tx paced)
       ∙ get-map queued_of (joined tx paced).items 0 e front
 
-  pub fronts : (o : Option EntryValue)
-      → IfSome o (λ e. slice_get (joined tx paced).items 0 ≡ Some e)
-      → IfSome o (λ _. is_some_due now (slice_get (queue_of tx paced) 0) ≡ true)
-      → IfSome o (IsFront now seen)
-  fronts None is due = tt
-  fronts (Some e) is due =
+  -- with its header and body
+  pub fronts : (e : EntryValue) (head body : List ℕ)
+      → slice_get (joined tx paced).items 0 ≡ Some e
+      → is_some_due now (slice_get (queue_of tx paced) 0) ≡ true → AreBytes head
+      → IsSpelled (packet_in (shown_of pool sides servers (joined tx paced)) e.owner e.number)
+      head body → IsFront now seen e head body
+  fronts e head body is due bytes spells =
       rw (← view) (record {
         front = front-undue e is;
         due = due;
         peer = peer-cases pool sides servers (joined tx paced) kept e e.owner refl is;
+        spells = spells;
+        bytes = bytes;
       })
+
+-- where the first may be sent, some may
+pub some-due : (now : ℕ) (qs : List Queued) → is_some_due now (slice_get qs 0) ≡ true
+    → line now qs ≡ [] → ⊥
+some-due now [] due none = cc
+some-due now (q ∷ qs) due none = by (is_due now q.due) due none
+  where
+    by : (b : Bool) → b ≡ true → cond b (q ∷ line now qs) (line now qs) ≡ [] → ⊥
+    by true t h = cc
+    by false t h = false≢true t

@@ -1,9 +1,9 @@
--- A server session that handled a packet over the ring alone handled it over the ring with the paced
--- packets of calls behind it.
+-- A server session that handled a packet over the ring alone handled it over the ring with the
+-- paced packets of calls behind it.
 use Rattle.std.proofs.Common.{◌≡◌, ℕ, Bool, true, false, not, ◌&&◌, cond, Option, Some}
 use Rattle.std.proofs.Common.{None, List, [], ◌∷◌, ◌++◌, refl, sym, ap, subst, ◌∙◌, arith}
 use Rattle.std.proofs.Common.{append_assoc}
-use Rattle.std.specs.Prelude.{IfSome, count_by, map, option_map}
+use Rattle.std.specs.Prelude.{IfSome, count_by, map, option_map, slice_get, slice_set}
 use Rattle.std.specs.List.{AllByRecursion, filter}
 use Rattle.std.proofs.lemmas.List.Elements.{filter-append}
 use Rattle.std.proofs.lemmas.List.Sums.{sum_by-append}
@@ -33,7 +33,8 @@ use Rattle.server_core.specs.declared.slot.SlotRequest.{SlotRequest}
 use Rattle.server_core.specs.declared.slot.Stored.{Stored}
 use Rattle.server_core.specs.declared.step.Step.{Step}
 use Rattle.server_core.specs.Counting.{CountsQueued}
-use Rattle.server_core.specs.Flushing.{HoldsAll, HoldsReplies, bare, flushed_facts, flushes, has_begun}
+use Rattle.server_core.specs.Flushing.{HoldsAll, HoldsReplies, bare, flushed_facts, flushes}
+use Rattle.server_core.specs.Flushing.{has_begun}
 use Rattle.server_core.specs.Flushing.{is_reply_of, named_by, replies_of}
 use Rattle.server_core.specs.Flushing.{without_replies}
 use Rattle.server_core.specs.Handling.{Handles}
@@ -157,13 +158,14 @@ queued-by : (v : Serving) (from to : List EntryValue)
     → ((q : EntryValue → Bool) → ((e : EntryValue) → is_reply e ≡ false → q e ≡ false)
     → count_by q from ≡ count_by q to) → CountsQueued v from → CountsQueued v to
 queued-by v from to counts h = all-each _ _ v.slots
-    (λ q t. t ∙ counts (is_of (owner_of v.number q)) (λ e u. not-owned v.number q.number e.owner u)) h
+    (λ q t. t ∙ counts (is_of (owner_of v.number q))
+    (λ e u. not-owned v.number q.number e.owner u)) h
 
 -- without the paced packets, and with them
 pub holds-ready : (v : Serving) (pool : Pool) (xs ps : List EntryValue) → Calls ps
     → ServerHolds pool (xs ++ ps) v → ServerHolds pool xs v
-holds-ready v pool xs ps calls = holds-by v pool (xs ++ ps) xs (λ q none. count-front q none xs ps calls)
-    (λ q P none all. all-front _ xs ps all)
+holds-ready v pool xs ps calls = holds-by v pool (xs ++ ps) xs
+    (λ q none. count-front q none xs ps calls) (λ q P none all. all-front _ xs ps all)
 
 holds-amid : (v : Serving) (pool : Pool) (xs ps ys : List EntryValue) → Calls ps
     → HoldsAll v pool (xs ++ ys) → HoldsAll v pool ((xs ++ ps) ++ ys)
@@ -237,8 +239,9 @@ beside-replies {v} {w} {pool} {after} old new ps rs calls keeps = record {
 
 -- and the packet is handled over all of them
 module _ {V R : Type 0} {v : Service.Ghosts V} {log : R → Log} {jobs_full : Bool} {me : ℕ}
-    {h : MessageHeader} {body : List ℕ} {step : Step} {pool after : Pool} {old new : Ring EntryValue}
-    {serving then_serving : V} {rec then_rec : R} (ps : List EntryValue) (calls : Calls ps) where
+    {h : MessageHeader} {body : List ℕ} {step : Step} {pool after : Pool}
+    {old new : Ring EntryValue} {serving then_serving : V} {rec then_rec : R}
+    (ps : List EntryValue) (calls : Calls ps) where
   pub beside-one : (s w : Serving) → Handles v log packet_facts (Node me)
       (incoming h body jobs_full) step (at_desk s pool old serving rec)
       (at_desk w after new then_serving then_rec)
@@ -286,19 +289,20 @@ module _ {V R : Type 0} {v : Service.Ghosts V} {log : R → Log} {jobs_full : Bo
         short = g.short;
       }
 
-  abbrev pub beside-step : {i : ℕ} {servers now : List Serving}
-      → ServerStep i (λ s w. Handles v log packet_facts (Node me)
+  -- by the session at a place
+  abbrev pub beside-step : (i : ℕ) (servers : List Serving) (s w : Serving)
+      → slice_get servers i ≡ Some s → Handles v log packet_facts (Node me)
       (incoming h body jobs_full) step (at_desk s pool old serving rec)
-      (at_desk w after new then_serving then_rec)) servers now
-      → ServerStep i (λ s w. Handles v log packet_facts (Node me)
-      (incoming h body jobs_full) step (at_desk s pool (beside ps old) serving rec)
-      (at_desk w after (beside ps new) then_serving then_rec)) servers now
-  beside-step g = record {
-    server = g.server;
-    at = g.at;
-    later = g.later;
-    step = beside-one g.server g.later g.step;
-    changed = g.changed;
+      (at_desk w after new then_serving then_rec)
+      → ServerStep i (λ x y. Handles v log packet_facts (Node me)
+      (incoming h body jobs_full) step (at_desk x pool (beside ps old) serving rec)
+      (at_desk y after (beside ps new) then_serving then_rec)) servers (slice_set servers i w)
+  beside-step i servers s w at g = record {
+    server = s;
+    at = at;
+    later = w;
+    step = beside-one s w g;
+    changed = refl;
   }
 
 -- what is paced, as entries and as it is seen

@@ -38,3 +38,4 @@ mod NewestLemmas
 mod ShareLemmas
 mod EndOrderLemmas
 mod WayLemmas
+mod RoomLemmas

@@ -1,11 +1,11 @@
 -- What a packet to a server session does to all that always holds of a store.
 use Rattle.std.proofs.Common.{◌≡◌, ◌≢◌, ℕ, zero, suc, ◌+◌, ◌%◌, ◌≤◌, ◌<◌, Bool, true, false, not}
-use Rattle.std.proofs.Common.{cond, eqb, Option, Some, None, List, [], ◌∷◌, ◌++◌, length}
+use Rattle.std.proofs.Common.{cond, eqb, Option, Some, None, List, [], ◌∷◌, ◌++◌, get_or, length}
 use Rattle.std.proofs.Common.{length-append, refl, sym, ap, subst, ◌∙◌, arith}
 use Rattle.std.specs.Prelude.{IfSome, count_by, map, option_map, slice_get, slice_set}
 use Rattle.std.specs.List.{AllByRecursion, filter, find}
 use Rattle.std.proofs.lemmas.Bool.{and_parts, eq-eqb, eqb-true}
-use Rattle.std.proofs.lemmas.List.{append-nil}
+use Rattle.std.proofs.lemmas.List.{append-nil, length-map}
 use Rattle.std.proofs.lemmas.List.Sums.{count_by-le-length}
 use Rattle.rpc_base.specs.Owners.{same_owner}
 use Rattle.rpc_base.specs.declared.fact.Fact.{Fact}
@@ -48,7 +48,8 @@ use Rattle.server_core.specs.Noting.{packet_facts}
 use Rattle.server_core.specs.Replies.{CanHold}
 use Rattle.server_core.specs.Rows.{row_of}
 use Rattle.server_core.specs.Scene.{at_desk, incoming}
-use Rattle.server_core.specs.Session.{IsSession, Session as Serving, answer_of, is_in_slot, newest, owner_of}
+use Rattle.server_core.specs.Session.{IsSession, Session as Serving, answer_of, is_in_slot}
+use Rattle.server_core.specs.Session.{newest, owner_of}
 use Rattle.server_core.specs.Shown.{shown as shown_server, shown_request}
 use Rattle.server_core.specs.Steps.{AreServed, IfReply, IsReply, IsStepOf, asked_with}
 use Rattle.server_core.proofs.FlushLemmas.{ring-room}
@@ -57,21 +58,27 @@ use Rattle.session_store.specs.declared.side.Side.{Side}
 use Rattle.session_store.specs.Effects.{ServerStep}
 use Rattle.session_store.specs.Joined.{put_ready}
 use Rattle.session_store.specs.Queue.{is_owned}
-use Rattle.session_store.specs.Serving.{AreServedAt, HandlesAt, ServerCanHold}
-use Rattle.session_store.specs.Serving.{IsReplyOf, ServerServed, handled_facts, queue_handled}
-use Rattle.session_store.specs.Serving.{in_store, row_at, without_owned}
+use Rattle.session_store.specs.Serving.{AreServedAt, HandlesAt, IsReplyOf, handled_facts}
+use Rattle.session_store.specs.Serving.{in_store, queue_handled, row_at, without_owned}
 use Rattle.session_store.specs.Sides.{IsOf, Kept, ServerHolds, ServerQueued, Shown, places_in}
 use Rattle.session_store.specs.Sides.{queued_of, served_places, shown_of, shown_side}
 use Rattle.session_store.specs.Sides.{side_handed}
 use Rattle.session_store.proofs.BesideLemmas.{rest, rest-push}
 use Rattle.session_store.proofs.FinishLemmas.{new-stands, own-reply}
-use Rattle.session_store.proofs.KeptLemmas.{ServerActs, clients-same, handed-same, server-acted, server-places}
-use Rattle.session_store.proofs.KeptLemmas.{servers-set}
-use Rattle.session_store.proofs.ListLemmas.{all-from}
+use Rattle.session_store.proofs.KeptLemmas.{ServerActs, clients-same, handed-same, server-acted}
+use Rattle.session_store.proofs.KeptLemmas.{server-places, servers-set}
+use Rattle.session_store.proofs.ListLemmas.{all-from, get-there}
 use Rattle.session_store.proofs.StandLemmas.{ends-all}
 use Rattle.server_core.proofs.NoteLemmas.{way-of}
 
--- one reply more can be counted
+-- one reply more to each request can be counted
+abbrev pub ServerCanHold : Pool → Serving → Type 0
+ServerCanHold pool v = AllByRecursion (CanHold pool) v.slots
+
+-- all requests of a session are of types that are served
+abbrev pub ServerServed : (ℕ → Mode) → Serving → Type 0
+ServerServed mode_of v = AreServed mode_of v.slots
+
 can-slots : (pool : Pool) (entries : List EntryValue) (size n : ℕ) → Counts pool entries
     → length entries < size → size < 4294967295 → (qs : List SlotRequest)
     → AllByRecursion (λ q. q.queued ≡ count_by (is_of (owner_of n q)) entries) qs
@@ -106,7 +113,8 @@ may-hold pool sides servers tx kept room =
 newest-cases : (pool : Pool) (v : Serving) (r : ℕ) (o : Option SlotRequest) → newest r v ≡ o
     → ServerCanHold pool v → IfSome o (CanHold pool)
 newest-cases pool v r None e all = tt
-newest-cases pool v r (Some q) e all = found-holds (is_in_slot (r % 8)) (CanHold pool) v.slots q all e
+newest-cases pool v r (Some q) e all =
+    found-holds (is_in_slot (r % 8)) (CanHold pool) v.slots q all e
 
 pub newest-can : (pool : Pool) (v : Serving) (r : ℕ) → ServerCanHold pool v → IfSome (newest r v)
     (CanHold pool)
@@ -123,14 +131,16 @@ for-replies claim Q none one (Ran e) h = one e h
 for-replies claim Q none one (Give parcel) h = none
 for-replies claim Q none one (Dropped why) h = none
 
--- the entries beside a session's own, and what holds of all, once the replies to an older request are out
+-- the entries beside a session's own, and what holds of all, once the replies to an older request
+-- are out
 of-owner-own : (n r : ℕ) (e : EntryValue) (b : Bool) → is_of (Reply n r) e ≡ b → b ≡ true
     → is_reply_of n e.owner ≡ true
 of-owner-own n r e b t is = by e.owner (t ∙ is)
   where
     by : (o : Owner) → same_owner o (Reply n r) ≡ true → is_reply_of n o ≡ true
     by (Ask s q) h = cc
-    by (Reply s q) h = let parts = and_parts (eqb s n) (eqb q r) h in eq-eqb n s (sym (eqb-true s n parts.0))
+    by (Reply s q) h =
+        let parts = and_parts (eqb s n) (eqb q r) h in eq-eqb n s (sym (eqb-true s n parts.0))
     by Control h = cc
 
 module _ (n : ℕ) where
@@ -268,6 +278,12 @@ later-is {i = i} {servers = servers} g =
 
 -- server session i, as it is looked at
 module _ (pool : Pool) (servers : List Serving) (i : ℕ) where
+  pub there-server : {seen : List Server} (x : Serving) → map (shown_server pool) servers ≡ seen
+      → i < length seen → x ≡ get_or servers i x → slice_get servers i ≡ Some x
+  there-server {seen} x is known looked =
+      get-there servers i x
+      (omega (arith, known, ap length is, length-map servers (shown_server pool))) looked
+
   pub served-at : (mode_of : ℕ → Mode) → AreServedAt mode_of i (map (shown_server pool) servers)
       → IfSome (slice_get servers i) (ServerServed mode_of)
   served-at mode_of all = cases (slice_get servers i) refl
@@ -307,7 +323,8 @@ module _ {V R : Type 0} {v : Service.Ghosts V} {log : R → Log} {jobs_full : Bo
     {servers now : List Serving} (kept : Kept pool sides servers old)
     (has-room : length old.items < old.size)
     (g : ServerStep i (λ x w. Handles v log packet_facts (Node me) (incoming h body jobs_full)
-    step (at_desk x pool old serving rec) (at_desk w after new then_serving then_rec)) servers now) (sound : IsSession g.later) where
+    step (at_desk x pool old serving rec) (at_desk w after new then_serving then_rec)) servers now)
+    (sound : IsSession g.later) where
   abbrev mode : Mode
   mode = v.mode_of h.req_type
 
@@ -333,7 +350,8 @@ module _ {V R : Type 0} {v : Service.Ghosts V} {log : R → Log} {jobs_full : Bo
   same-peer : g.later.peer ≡ g.server.peer
   same-peer = ap (λ w. w.peer) same-way
 
-  pub items-are : new.items ≡ cond begins (without_replies g.server.number older old.items) old.items
+  pub items-are : new.items
+      ≡ cond begins (without_replies g.server.number older old.items) old.items
   items-are = ap (λ (r : Ring EntryValue). r.items) g.step.ring_is
 
   size-is : new.size ≡ old.size
@@ -357,18 +375,22 @@ module _ {V R : Type 0} {v : Service.Ghosts V} {log : R → Log} {jobs_full : Bo
       (own-reply g.server.number h.request e.owner
       (is.owner ∙ ap (λ n. Reply n h.request) same-number)))
       step g.step.leaves.reply
-      ∙ ap (λ xs. rest (own_entry g.server.number) xs) items-are ∙ rest-after g.server.number older old.items begins
+      ∙ ap (λ xs. rest (own_entry g.server.number) xs) items-are
+      ∙ rest-after g.server.number older old.items begins
 
-  stands-then : AllByRecursion (IsOf sides (slice_set servers i g.later)) (new.items ++ replies_of step)
+  stands-then : AllByRecursion (IsOf sides (slice_set servers i g.later))
+      (new.items ++ replies_of step)
   stands-then =
-      let was = ends-all sides servers i g.server g.later g.at same-number same-peer old.items kept.stands in
+      let was = ends-all sides servers i g.server g.later g.at same-number same-peer old.items
+      kept.stands in
       let left : AllByRecursion (IsOf sides (slice_set servers i g.later)) new.items =
       subst (λ xs. AllByRecursion (IsOf sides (slice_set servers i g.later)) xs)
       (sym items-are) (all-after (IsOf sides (slice_set servers i g.later)) g.server.number
       older old.items begins was) in
       for-replies (IsReply h.request h.number g.later after)
       (λ rs. AllByRecursion (IsOf sides (slice_set servers i g.later)) (new.items ++ rs))
-      (subst (λ xs. AllByRecursion (IsOf sides (slice_set servers i g.later)) xs) (sym (append-nil new.items)) left)
+      (subst (λ xs. AllByRecursion (IsOf sides (slice_set servers i g.later)) xs)
+      (sym (append-nil new.items)) left)
       (λ e is. all-push (IsOf sides (slice_set servers i g.later)) new.items e left
       (new-stands sides servers i h.request g.server g.later e g.at is.owner is.peer))
       step g.step.leaves.reply
@@ -389,7 +411,8 @@ module _ {V R : Type 0} {v : Service.Ghosts V} {log : R → Log} {jobs_full : Bo
         number = same-number;
         stands = stands-then;
         holds = g.step.replies.holds holds;
-        queued = g.step.replies.queued holds (all-at (ServerQueued old.items) servers i g.server kept.replies g.at);
+        queued = g.step.replies.queued holds
+            (all-at (ServerQueued old.items) servers i g.server kept.replies g.at);
         served = places-most g.later sound;
         spare = g.step.leaves.places.spare;
       }
@@ -399,10 +422,12 @@ module _ {V R : Type 0} {v : Service.Ghosts V} {log : R → Log} {jobs_full : Bo
       (server-acted pool after sides servers i g.server g.later old final g.at kept serve-acts)
 
   pub serve-clients : map (shown_side after) sides ≡ map (shown_side pool) sides
-  serve-clients = clients-same pool after sides servers i g.server g.later old final g.at kept serve-acts
+  serve-clients =
+      clients-same pool after sides servers i g.server g.later old final g.at kept serve-acts
 
   pub serve-handed : map (side_handed after) sides ≡ map (side_handed pool) sides
-  serve-handed = handed-same pool after sides servers i g.server g.later old final g.at kept serve-acts
+  serve-handed =
+      handed-same pool after sides servers i g.server g.later old final g.at kept serve-acts
 
   pub serve-places : spare_of after + places_in sides + served_places now
       ≡ spare_of pool + places_in sides + served_places servers
@@ -420,7 +445,8 @@ module _ {V R : Type 0} {v : Service.Ghosts V} {log : R → Log} {jobs_full : Bo
   pub queue-by : (queued now_queued : List Queued)
       → now_queued ≡ put_ready (replies_of step) (cond begins (without_owned g.server.number
       (option_map (shown_request pool) older) queued) queued)
-      → now_queued ≡ queue_handled (row_at mode jobs_full false h server_seen) step server_seen h queued
+      → now_queued
+      ≡ queue_handled (row_at mode jobs_full false h server_seen) step server_seen h queued
   queue-by queued now_queued is =
       is ∙ ap (λ o. put_ready (replies_of step) (cond begins
       (without_owned g.server.number o queued) queued)) (sym (older-shown pool g.server h.request))
@@ -449,7 +475,8 @@ module _ {V R : Type 0} {v : Service.Ghosts V} {log : R → Log} {jobs_full : Bo
       before.queued → HandlesAt v log me i (incoming h body jobs_full) step
       (in_store before serving rec) (in_store then then_serving then_rec)
   serve-at session before then queued now_queued was is numbers queue =
-      let view : map (shown_server pool) servers ≡ before.servers = ap (λ (x : Shown). x.servers) was in
+      let view : map (shown_server pool) servers ≡ before.servers =
+      ap (λ (x : Shown). x.servers) was in
       let later-view : map (shown_server after) now ≡ then.servers =
       ap (λ (x : Shown). x.servers) is in
       let done = g.step.leaves.handled in
@@ -494,7 +521,9 @@ module _ {V R : Type 0} {v : Service.Ghosts V} {log : R → Log} {jobs_full : Bo
       }
 
   pub final-none : replies_of step ≡ [] → final ≡ new
-  final-none e = ap (λ rs. ring (new.items ++ rs) new.size) e ∙ ap (λ xs. ring xs new.size) (append-nil new.items)
+  final-none e =
+      ap (λ rs. ring (new.items ++ rs) new.size) e
+      ∙ ap (λ xs. ring xs new.size) (append-nil new.items)
 
   pub final-one : (e : EntryValue) → replies_of step ≡ e ∷ []
       → final ≡ ring (new.items ++ e ∷ []) new.size

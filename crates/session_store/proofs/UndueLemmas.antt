@@ -1,5 +1,5 @@
 -- What is queued, looked at as if nothing were paced.
-use Rattle.std.proofs.Common.{◌≡◌, ◌≢◌, ℕ, ◌+◌, ◌<◌, ◌≤◌, Bool, true, false, cond, Option, Some}
+use Rattle.std.proofs.Common.{◌≡◌, ℕ, ◌+◌, ◌<◌, ◌≤◌, Bool, true, false, cond, Option, Some}
 use Rattle.std.proofs.Common.{None, List, [], ◌∷◌, ◌++◌, length, refl, sym, ap, ◌∙◌, arith}
 use Rattle.std.specs.Prelude.{IfSome, count_by, map, slice_get}
 use Rattle.std.specs.List.{AllByRecursion, list_any}
@@ -28,7 +28,7 @@ use Rattle.session_store.specs.Changes.{IsIdle, MayRoll, RowAt}
 use Rattle.session_store.specs.Ends.{progress_of}
 use Rattle.session_store.specs.Joined.{Paces, is_paced, joined, paced_of, queue_of, shown_with, undue}
 use Rattle.session_store.specs.Joined.{without_due}
-use Rattle.session_store.specs.Queue.{SendsFront, SpellsFront, is_owned}
+use Rattle.session_store.specs.Queue.{SendsFront, is_owned}
 use Rattle.session_store.specs.Sides.{Shown, queued_of, shown_of}
 
 -- the ring and the pacer are seen as the ring of both
@@ -104,19 +104,6 @@ row-undue now timeout i number row s h = clients (slice_get s.clients i) h
     clients (Some x) t = progress (progress_of number x) t
 
 -- and so does one that looks at the front
-pub some-undue : (qs : List Queued) → qs ≢ [] → map without_due qs ≢ []
-some-undue [] some = λ e. some refl
-some-undue (q ∷ qs) some = λ e. cc
-
-pub spells-undue : (s : Shown) (head body : List ℕ) → SpellsFront (undue s) head body
-    → SpellsFront s head body
-spells-undue s head body h = by s.queued h
-  where
-    by : (qs : List Queued) → SpellsFront (record s { queued = map without_due qs }) head body
-        → SpellsFront (record s { queued = qs }) head body
-    by [] t = tt
-    by (q ∷ qs) t = t
-
 pub sends-undue : (now : ℕ) (qs : List Queued) (old new : List Client)
     → SendsFront now (map without_due qs) old new → SendsFront now qs old new
 sends-undue now [] old new h = tt

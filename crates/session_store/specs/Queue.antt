@@ -5,6 +5,7 @@ use Rattle.rpc_base.specs.Owners.{same_owner}
 use Rattle.rpc_base.specs.Tables.{at_first}
 use Rattle.rpc_base.specs.declared.owner.Owner.{Owner}
 use Rattle.rpc_base.specs.declared.owner.Owner.TheVariants.{Ask, Reply, Control}
+use Rattle.packet_header.specs.Header.{AreBytes}
 use Rattle.packet_rings.specs.Values.{EntryValue}
 use Rattle.rpc_laws.specs.declared.tables.Client.{Client}
 use Rattle.rpc_laws.specs.declared.tables.Outgoing.{Outgoing}
@@ -27,17 +28,14 @@ peer_in s (Ask i r) = option_map (λ x. x.way.peer) (find (is_client i) s.client
 peer_in s (Reply t r) = option_map (λ v. v.way.peer) (find (is_server t) s.servers)
 peer_in s Control = None
 
--- the front of the queue: it may be sent at this clock, its session is there, and it goes to the
--- session's peer
-pub record IsFront (now : ℕ) (s : Shown) (e : EntryValue) : Type 0 where
+-- the front of the queue: it may be sent at this clock, its session is there, it goes to the
+-- session's peer, and it is sent with this header and body
+pub record IsFront (now : ℕ) (s : Shown) (e : EntryValue) (head body : List ℕ) : Type 0 where
   pub front : option_map without_due (slice_get s.queued 0) ≡ Some (queued_of e)
   pub due : is_some_due now (slice_get s.queued 0) ≡ true
   pub peer : peer_in s e.owner ≡ Some e.peer
-
--- the front's packet is sent with this header and body
-abbrev pub SpellsFront : Shown → (head body : List ℕ) → Type 0
-SpellsFront s head body =
-    IfSome (slice_get s.queued 0) (λ q. IsSpelled (packet_in s q.owner q.number) head body)
+  pub spells : IsSpelled (packet_in s e.owner e.number) head body
+  pub bytes : AreBytes head
 
 -- the client sessions once a packet was sent
 abbrev pub clients_sent : (now : ℕ) → Owner → ℕ → List Client → List Client

@@ -1,5 +1,5 @@
 -- What a Request or RFR does to the server session that it is for, and to the queue.
-use Rattle.std.specs.Prelude.{◌≡◌, ◌≢◌, ℕ, Bool, true, false, not, List, [], ◌∷◌}
+use Rattle.std.specs.Prelude.{◌≡◌, ◌≢◌, ◌<◌, ℕ, Bool, true, false, not, List, [], ◌∷◌, length}
 use Rattle.std.specs.Prelude.{Option, Some, None, IfSome, slice_get, slice_set, if◌then◌else◌}
 use Rattle.std.specs.List.{AllByRecursion, filter, find}
 use Rattle.rpc_outside.specs.Recording.{Log}
@@ -7,7 +7,6 @@ use Rattle.rpc_base.specs.declared.event.Event.TheVariants.{Dropped as DroppedEv
 use Rattle.rpc_base.specs.declared.fact.Fact.{Fact}
 use Rattle.rpc_base.specs.declared.owner.Owner.TheVariants.{Reply}
 use Rattle.rpc_base.specs.declared.state.DropReason.TheVariants.{NoMemory}
-use Rattle.buffer_pool.specs.Pool.{Pool}
 use Rattle.packet_header.specs.declared.packet.MessageHeader.{MessageHeader}
 use Rattle.packet_rings.specs.Values.{EntryValue}
 use Rattle.rpc_laws.specs.Facts.{plain}
@@ -24,26 +23,21 @@ use Rattle.rpc_outside.specs.declared.service.Service as Service
 use Rattle.server_core.specs.Flushing.{has_begun, replies_of}
 use Rattle.server_core.specs.Handling.{rule_for}
 use Rattle.server_core.specs.Noting.{Handled}
-use Rattle.server_core.specs.Replies.{CanHold}
 use Rattle.server_core.specs.Scene.{Incoming, Scene, in_scene}
-use Rattle.server_core.specs.Session.{Session as Serving}
-use Rattle.server_core.specs.Steps.{AreServed, IfGiven, IfReply, IsParcel, IsStepOf, NeedsNoMemory}
-use Rattle.server_core.specs.Steps.{UnlessRan, whole_with}
+use Rattle.server_core.specs.Steps.{IfGiven, IfReply, IsParcel, IsStepOf, NeedsNoMemory, UnlessRan}
+use Rattle.server_core.specs.Steps.{whole_with}
 use Rattle.server_core.specs.declared.step.Step.{Step}
 use Rattle.server_core.specs.declared.step.Step.TheVariants.{Took, Again, Ran, Give, Dropped}
 use Rattle.session_store.specs.Queue.{is_owned}
 use Rattle.session_store.specs.Joined.{put_ready}
-use Rattle.session_store.specs.Sides.{Shown}
+use Rattle.session_store.specs.Sides.{HasRoom, Shown}
 
--- one reply more to each request can be counted
-abbrev pub ServerCanHold : Pool → Serving → Type 0
-ServerCanHold pool v = AllByRecursion (CanHold pool) v.slots
+-- a reply finds room: for an entry more in the queue, and for the buffers of its request
+pub record CanReply (s : Shown) : Type 0 where
+  pub ring : length s.queued < s.size
+  pub room : HasRoom s
 
--- all requests of a session are of types that are served
-abbrev pub ServerServed : (ℕ → Mode) → Serving → Type 0
-ServerServed mode_of v = AreServed mode_of v.slots
-
--- the same of server session i, as it is seen
+-- all requests of server session i are of types that are served
 abbrev pub AreServedAt : (ℕ → Mode) → ℕ → List Server → Type 0
 AreServedAt mode_of i servers = IfSome (slice_get servers i)
     (λ v. AllByRecursion (λ q. mode_of q.req_type ≢ Unserved) v.slots)

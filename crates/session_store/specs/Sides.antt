@@ -234,6 +234,13 @@ pub record Kept (pool : Pool) (sides : List Side) (servers : List Serving) (tx :
   pub slots : AllByRecursion HasSlots sides
   pub served : AllByRecursion HasPlaces servers
 
+-- the lists of client sessions, of server sessions and of their codes have room for half as many as
+-- the ring for packets
+pub record HasSessionRoom (size sides servers ends : ℕ) : Type 0 where
+  pub for_clients : size ≤ 2 * sides
+  pub for_servers : size ≤ 2 * servers
+  pub for_ends : size ≤ 2 * ends
+
 -- the credits of the live sessions are counted, and none has more than a session may
 pub record CountsShares (count : ℕ) (clients : List Client) (servers : List Server) : Type 0 where
   pub all : count ≡ sum_by live_credits clients + sum_by (λ v. v.credits) servers

@@ -9,6 +9,7 @@ mod side;
 mod stage;
 mod store;
 
+pub use queue::Front;
 pub use server::ServerEnd;
 pub use side::{ClientEnd, Side};
 pub use stage::Stage;

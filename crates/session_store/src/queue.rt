@@ -18,6 +18,13 @@ use pacing_wheel::Pacer;
 use packet_rings::{Entry, TxRing};
 use rpc_base::Owner;
 
+/// The packet in front of a queue: its entry, and its body where it lies.
+#[derive(Drop)]
+pub struct Front<'a> {
+    pub entry: Entry,
+    pub body: &'a [u8],
+}
+
 /// What is queued: a ring of what is ready, and behind it a pacer of what has a time when it is
 /// due.
 #[derive(Drop)]
@@ -27,19 +34,9 @@ pub struct Queue {
 }
 
 impl Queue {
-    /// The first entry: the oldest one of the ring or, where that is empty, the one of the pacer
-    /// that is due first. None comes exactly where both are empty.
-    pub fn first(&self) -> Option<Entry>
-        ensures { result ≡ slice_get (joined_in self.now).items 0 }
-    {
-        match self.tx.front() {
-            Some(entry) => Some(*entry),
-            None => paced_first(&self.pacer),
-        }
-    }
-
-    /// The first entry where it may be sent at `now`: what is in the ring, or is due. None comes
-    /// exactly where none may.
+    /// The first entry where it may be sent at `now`, in microseconds: the oldest one of the ring
+    /// or, where that is empty, the one of the pacer that is due first. None comes exactly where
+    /// none may.
     pub fn front(&self, now: u64) -> Option<Entry>
         ensures front { IfSome result (λ e. slice_get (joined_in self.now).items 0 ≡ Some e) }
         ensures due { IfSome result
@@ -52,8 +49,9 @@ impl Queue {
         }
     }
 
-    /// Takes the first entry out. None comes exactly where both are empty.
-    pub fn pop(&mut self) -> Option<Entry>
+    /// Takes the first entry out. None comes exactly where both are empty. An entry of the pacer
+    /// is looked for up to `now` first, in microseconds, and the next look begins where it stood.
+    pub fn pop(&mut self, now: u64) -> Option<Entry>
         requires paces { PacesIn self.old }
         ensures front { result ≡ slice_get (joined_in self.old).items 0 }
         ensures rest { joined_in self.new
@@ -63,7 +61,7 @@ impl Queue {
     {
         match self.tx.pop() {
             Some(entry) => Some(entry),
-            None => self.pacer.pop(),
+            None => take_first(&mut self.pacer, now),
         }
     }
 
@@ -144,22 +142,16 @@ impl Queue {
     }
 }
 
-// The entry of the pacer that is due first.
-fn paced_first(pacer: &Pacer) -> Option<Entry>
-    ensures { result ≡ slice_get (map entry_of pacer.now.items) 0 }
-{
-    match pacer.front() {
-        Some(paced) => Some(paced.entry),
-        None => None,
-    }
-}
-
-// The same where it is due at `now`.
+// The entry of the pacer that is due first, where it is due at `now`.
 fn paced_due(pacer: &Pacer, now: u64) -> Option<Entry>
-    ensures first { IfSome result (λ e. option_map entry_of (slice_get pacer.now.items 0) ≡ Some e) }
+    ensures first { IfSome result
+        (λ e. option_map entry_of (slice_get pacer.now.items 0) ≡ Some e) }
     ensures due { IfSome result (λ _. option_is (is_due now) (slice_get pacer.now.items 0) ≡ true) }
     ensures none { IfNone result (list_any (is_due now) pacer.now.items ≡ false) }
 {
+    if pacer.is_empty() {
+        return None;
+    }
     pacer.sound();
     let Some(paced) = pacer.first_due(now) else {
         return None;
@@ -169,12 +161,28 @@ fn paced_due(pacer: &Pacer, now: u64) -> Option<Entry>
 
 // Takes the entry of the pacer that is due first out, where it is due at `now`.
 fn take_due(pacer: &mut Pacer, now: u64) -> Option<Entry>
-    ensures first { IfSome result (λ e. option_map entry_of (slice_get pacer.old.items 0) ≡ Some e) }
+    ensures first { IfSome result
+        (λ e. option_map entry_of (slice_get pacer.old.items 0) ≡ Some e) }
     ensures due { IfSome result (λ _. option_is (is_due now) (slice_get pacer.old.items 0) ≡ true) }
     ensures left { IfSome result (λ _. pacer.new ≡ wheel (drop 1 pacer.old.items) pacer.old.size) }
     ensures none { IfNone result (list_any (is_due now) pacer.old.items ≡ false) }
     ensures unchanged { IfNone result (pacer.new ≡ pacer.old) }
 {
+    if pacer.is_empty() {
+        return None;
+    }
     pacer.sound();
     pacer.release(now)
+}
+
+// Takes the entry of the pacer that is due first out: by a look that ends at `now`, where it is due
+// by then.
+fn take_first(pacer: &mut Pacer, now: u64) -> Option<Entry>
+    ensures front { result ≡ option_map entry_of (slice_get pacer.old.items 0) }
+    ensures rest { pacer.new ≡ wheel (drop 1 pacer.old.items) pacer.old.size }
+{
+    match take_due(pacer, now) {
+        Some(entry) => Some(entry),
+        None => pacer.pop(),
+    }
 }

@@ -1,6 +1,6 @@
 //! A client session with its peer.
 ghost use Rattle.std.specs.Prelude.{◌≡◌, ◌<◌, ◌≤◌, length, slice_get, IfErr, IfSome, IsSome, OnErr};
-ghost use Rattle.std.specs.Prelude.{OnOk};
+ghost use Rattle.std.specs.Prelude.{OnOk, vec_capacity};
 ghost use Rattle.std.specs.List.{AllByRecursion};
 ghost use Rattle.memory_count.specs.Faults.{HasCause};
 ghost use Rattle.buffer_pool.specs.Pool.{spare_of};
@@ -77,7 +77,8 @@ impl Side {
 pub fn post_at(sides: &mut Vec<Side>, i: usize, pool: &mut BufferPool) -> Option<Entry>
     requires known { i < length sides.old.items }
     requires keeps { AllByRecursion (MayPost pool.old) sides.old.items }
-    ensures { SidePosts i result sides.old.items sides.new.items pool.old pool.new }
+    ensures posts { SidePosts i result sides.old.items sides.new.items pool.old pool.new }
+    ensures room { vec_capacity sides.new ≡ vec_capacity sides.old }
 {
     let side = &mut sides[i];
     let peer = side.peer;
@@ -93,7 +94,8 @@ pub fn begin_at(
     requires known { i < length sides.old.items }
     requires keeps { AllByRecursion (SideKept pool.old) sides.old.items }
     requires spare { 2 ≤ spare_of pool.old }
-    ensures { SideBegins i result sides.old.items sides.new.items pool.old pool.new }
+    ensures begins { SideBegins i result sides.old.items sides.new.items pool.old pool.new }
+    ensures room { vec_capacity sides.new ≡ vec_capacity sides.old }
 {
     let side = &mut sides[i];
     side.session.begin(pool)
@@ -121,7 +123,8 @@ pub fn sent_at(sides: &mut Vec<Side>, i: usize, pool: &mut BufferPool, entry: &E
     requires known { i < length sides.old.items }
     requires keeps { AllByRecursion (SideKept pool.old) sides.old.items }
     requires held { IsHeld pool.old entry.now.place }
-    ensures { SideSends entry.now now i sides.old.items sides.new.items pool.old pool.new }
+    ensures sends { SideSends entry.now now i sides.old.items sides.new.items pool.old pool.new }
+    ensures room { vec_capacity sides.new ≡ vec_capacity sides.old }
 {
     let side = &mut sides[i];
     side.session.sent(pool, entry, now);
@@ -132,7 +135,8 @@ pub fn flushed_at(sides: &mut Vec<Side>, i: usize, pool: &mut BufferPool, entry:
     requires known { i < length sides.old.items }
     requires keeps { AllByRecursion (SideKept pool.old) sides.old.items }
     requires held { IsHeld pool.old entry.now.place }
-    ensures { SideFlushes entry.now i sides.old.items sides.new.items pool.old pool.new }
+    ensures flushes { SideFlushes entry.now i sides.old.items sides.new.items pool.old pool.new }
+    ensures room { vec_capacity sides.new ≡ vec_capacity sides.old }
 {
     let side = &mut sides[i];
     side.session.flushed(pool, entry);
@@ -152,6 +156,7 @@ pub fn enqueue_at(
     ensures waits { OnOk result (SideWaits i waiting sides.old.items sides.new.items) }
     ensures unchanged { OnErr result (sides.new.items ≡ sides.old.items) }
     ensures handed_back { IfErr result (λ back. back ≡ waiting) }
+    ensures room { vec_capacity sides.new ≡ vec_capacity sides.old }
     ensures cause { HasCause memory.old memory.new result }
 {
     let side = &mut sides[i];
@@ -176,8 +181,9 @@ pub fn heard_at(
         (λ s. head.now.session ≡ s.session.number) }
     requires unheld { IfSome (slice_get sides.old.items i) (λ s. NextIsUnheld pool.old is_waiting
         head.now.number (call_as head.now.request s.session)) }
-    ensures { SideChanges i (λ s later. RepliesTo now head.now body.now is_waiting result s.session
-        later pool.old pool.new) sides.old.items sides.new.items }
+    ensures replies { SideChanges i (λ s later. RepliesTo now head.now body.now is_waiting result
+        s.session later pool.old pool.new) sides.old.items sides.new.items }
+    ensures room { vec_capacity sides.new ≡ vec_capacity sides.old }
 {
     let side = &mut sides[i];
     side.session.on_reply(pool, head, body, is_waiting, now)
@@ -192,7 +198,8 @@ pub fn roll_at(sides: &mut Vec<Side>, i: usize, call: CallNo)
         (λ s. IfSome (call_numbered call s.session) (λ c. c.rolls < 8)) }
     requires idle { IfSome (slice_get sides.old.items i)
         (λ s. IfSome (call_numbered call s.session) (λ c. c.queued ≡ 0)) }
-    ensures { SideRolls i call sides.old.items sides.new.items }
+    ensures rolls { SideRolls i call sides.old.items sides.new.items }
+    ensures room { vec_capacity sides.new ≡ vec_capacity sides.old }
 {
     let side = &mut sides[i];
     side.session.roll(call);
@@ -204,7 +211,8 @@ pub fn lose_at(sides: &mut Vec<Side>, i: usize, pool: &mut BufferPool) -> Option
     requires keeps { AllByRecursion (SideKept pool.old) sides.old.items }
     requires unheld { IfSome (slice_get sides.old.items i)
         (λ s. AllByRecursion (IsUnheld pool.old) s.session.active) }
-    ensures { SideLoses i result sides.old.items sides.new.items pool.old pool.new }
+    ensures loses { SideLoses i result sides.old.items sides.new.items pool.old pool.new }
+    ensures room { vec_capacity sides.new ≡ vec_capacity sides.old }
 {
     let side = &mut sides[i];
     side.session.lose(pool)

@@ -1,7 +1,7 @@
 //! The client sessions: calls are asked, begin and are answered.
 ghost use Rattle.std.specs.Prelude.{◌≡◌, ◌<◌, ◌≤◌, ◌+◌, ◌*◌, [], length};
 ghost use Rattle.std.specs.Prelude.{option_and_then, option_map, slice_get, IfErr, IfSome, OnErr};
-ghost use Rattle.std.specs.Prelude.{IsSome, List, OnOk};
+ghost use Rattle.std.specs.Prelude.{IsOk, IsSome, List, OnOk};
 ghost use Rattle.std.specs.List.{AllByRecursion, list_any};
 ghost use Rattle.memory_count.specs.Faults.{HasCause};
 ghost use Rattle.rpc_base.specs.declared.owner.Owner.TheVariants.{Ask};
@@ -93,7 +93,8 @@ impl Store {
 
     /// A client session is made that is connected from the start, with 1 to 256 credits; its number
     /// is its place, the server's is below 65,535, and the life of the server's endpoint isn't 0.
-    /// `NoMemory` comes only where memory was refused.
+    /// `NoMemory` comes only where memory was refused, and never while there are fewer client
+    /// sessions than half as many as packets have room in the ring, those that are over included.
     pub fn pair_client(
         &mut self,
         memory: &mut Memory,
@@ -109,6 +110,7 @@ impl Store {
         requires most { credits ≤ MOST_CREDITS }
         ensures made { MakesClient (client_end (length self.old.clients) peer server credits life)
             result self.old self.new }
+        ensures succeeds { 2 * length self.old.clients < self.old.size → IsOk result }
         ensures cause { HasCause memory.old memory.new result }
     {
         let shares = self.shares_with(credits);
@@ -119,7 +121,9 @@ impl Store {
             stage: Stage::Connected,
             session,
         };
-        memory.push(&mut self.sides, side)?;
+        // There is room for the session before anything changes.
+        memory.of(self.sides.reserve(1))?;
+        self.sides.push(side).unwrap();
         self.shares = shares;
         Ok(())
     }
@@ -277,6 +281,7 @@ impl Store {
 
     // Whether this packet of a call of session `i` is queued. The ring and the pacer are looked at
     // only where its call has a packet there.
+    #[inline(always)]
     pub(super) fn is_waiting(&self, i: usize, request: RequestNo, number: u16) -> bool
         requires known { i < length self.now.clients }
         ensures { result ≡ list_any (is_queued (Ask i request) number) self.now.queued }

@@ -1,6 +1,6 @@
 //! Client sessions are opened, connected and closed.
-ghost use Rattle.std.specs.Prelude.{◌≡◌, ◌<◌, ◌≤◌, ◌+◌, ◌^◌, ◌++◌, [], ◌∷◌, length, slice_get};
-ghost use Rattle.std.specs.Prelude.{IfSome};
+ghost use Rattle.std.specs.Prelude.{◌≡◌, ◌<◌, ◌≤◌, ◌+◌, ◌*◌, ◌^◌, ◌++◌, [], ◌∷◌, length};
+ghost use Rattle.std.specs.Prelude.{slice_get, IfSome, IsOk};
 ghost use Rattle.memory_count.specs.Faults.{HasCause};
 ghost use Rattle.rpc_base.specs.declared.state.SessionState.TheVariants.{Closed, Closing};
 ghost use Rattle.rpc_base.specs.declared.state.SessionState.TheVariants.{Connecting, Failed};
@@ -29,13 +29,16 @@ pub struct OwnRequests {
 
 impl Store {
     /// A client session is opened to a peer, with 1 to 256 credits: it is Connecting, and its
-    /// number is its place. `NoMemory` comes only where memory was refused.
+    /// number is its place. `NoMemory` comes only where memory was refused, and never while there
+    /// are fewer client sessions than half as many as packets have room in the ring, those that are
+    /// over included.
     pub fn open(&mut self, memory: &mut Memory, peer: Peer, credits: u16) -> Result<(), NoMemory>
         requires numbers { length self.old.clients < SESSION_NUMBERS }
         requires some { 1 ≤ credits }
         requires most { credits ≤ MOST_CREDITS }
         ensures made { MakesClient (opened_end (length self.old.clients) peer credits) result
             self.old self.new }
+        ensures succeeds { 2 * length self.old.clients < self.old.size → IsOk result }
         ensures cause { HasCause memory.old memory.new result }
     {
         let shares = self.shares_with(credits);
@@ -56,7 +59,9 @@ impl Store {
             },
             session,
         };
-        memory.push(&mut self.sides, side)?;
+        // There is room for the session before anything changes.
+        memory.of(self.sides.reserve(1))?;
+        self.sides.push(side).unwrap();
         self.shares = shares;
         Ok(())
     }

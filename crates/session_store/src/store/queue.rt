@@ -1,32 +1,60 @@
 //! The queue: its front is sent, packets are taken out unsent, and what is due is made ready.
-ghost use Rattle.std.specs.Prelude.{◌≡◌, ◌≢◌, ◌<◌, ◌*◌, [], drop, length, option_map, IfNone};
-ghost use Rattle.std.specs.Prelude.{IfSome, map};
+ghost use Rattle.std.specs.Prelude.{◌≡◌, ◌≢◌, ◌<◌, ◌↔◌, [], drop, length, option_map, IfNone};
+ghost use Rattle.std.specs.Prelude.{IfSome, IsTrue, map};
 ghost use Rattle.rpc_base.specs.Least.{least, without_least};
 ghost use Rattle.rpc_base.specs.declared.owner.Owner.TheVariants.{Ask, Reply as OfReply};
-ghost use Rattle.packet_header.specs.Header.{AreBytes};
 ghost use Rattle.rpc_laws.specs.Pacing.{line};
 ghost use Rattle.rpc_laws.specs.Queues.{made_ready, replies};
 ghost use Rattle.session_store.specs.Joined.{without_due};
 ghost use Rattle.session_store.specs.Leaving.{ChangesQueue, ChangesQueued};
-ghost use Rattle.session_store.specs.Queue.{IsFront, SendsFront, SpellsFront, is_owned};
-ghost use Rattle.session_store.specs.Queue.{queued_number};
+ghost use Rattle.session_store.specs.Queue.{IsFront, SendsFront, is_owned, queued_number};
 ghost use Rattle.session_store.specs.Sides.{queued_of};
 
 use super::Store;
+use crate::queue::Front;
 use crate::server::{reply_at, reply_flushed_at, reply_sent_at};
 use crate::side::{flushed_at, packet_at, sent_at};
-use client_core::Reply;
 use packet_rings::Entry;
 use rpc_base::{HEAD_BYTES, Owner, RequestNo, SessionNo};
 
 impl Store {
-    /// The entry in front of the queue where it may be sent at `now`, in microseconds: it is ready,
-    /// or due by then. None comes exactly where nothing that is queued may be sent.
-    pub fn front(&self, now: u64) -> Option<Entry>
-        ensures front { IfSome result (IsFront now self.now) }
+    /// The packet in front of the queue where it may be sent at `now`, in microseconds: it is
+    /// ready, or due by then. Its header is written into `head`, and its body is lent. None comes
+    /// exactly where nothing that is queued may be sent.
+    pub fn front<'a>(&'a self, now: u64, head: &mut [u8; HEAD_BYTES]) -> Option<Front<'a>>
+        ensures front { IfSome result (λ f. IsFront now self.now f.entry head.new f.body.now) }
         ensures none { IfNone result (line now self.now.queued ≡ []) }
     {
-        self.queue.front(now)
+        let Some(entry) = self.queue.front(now) else {
+            return None;
+        };
+        match &entry.owner {
+            Owner::Ask { session, .. } => {
+                let body = packet_at(
+                    &self.sides,
+                    usize::from(session.0),
+                    &self.pool,
+                    &entry,
+                    head,
+                );
+                Some(Front { entry, body })
+            }
+            Owner::Reply { session, .. } => {
+                let body = reply_at(&self.servers, *session, &self.pool, &entry, head);
+                Some(Front { entry, body })
+            }
+            Owner::Control => unreachable!(),
+        }
+    }
+
+    /// Whether nothing that is queued may be sent at `now`, in microseconds.
+    pub fn rests(&self, now: u64) -> bool
+        ensures { IsTrue result ↔ (line now self.now.queued ≡ []) }
+    {
+        match self.queue.front(now) {
+            Some(_first) => false,
+            None => true,
+        }
     }
 
     /// How many packets are queued.
@@ -43,42 +71,12 @@ impl Store {
         self.queue.tx.replies()
     }
 
-    /// Writes the header of the entry in front of the queue, and lends its body.
-    pub fn packet<'a>(&'a self, head: &mut [u8; HEAD_BYTES]) -> &'a [u8]
-        requires some { self.now.queued ≢ [] }
-        ensures spells { SpellsFront self.now head.new result.now }
-        ensures bytes { AreBytes head.new }
-    {
-        let Some(entry) = self.queue.first() else {
-            unreachable!()
-        };
-        match &entry.owner {
-            Owner::Ask { session, .. } => {
-                packet_at(
-                    &self.sides,
-                    usize::from(session.0),
-                    &self.pool,
-                    &entry,
-                    head,
-                )
-            }
-            Owner::Reply { session, .. } => reply_at(
-                &self.servers,
-                *session,
-                &self.pool,
-                &entry,
-                head,
-            ),
-            Owner::Control => unreachable!(),
-        }
-    }
-
     /// The entry in front of the queue was sent at `now`, in microseconds.
     pub fn sent(&mut self, now: u64)
         requires some { self.old.queued ≢ [] }
         ensures { ChangesQueue (SendsFront now self.old.queued) (drop 1) self.old self.new }
     {
-        let Some(entry) = self.queue.pop() else {
+        let Some(entry) = self.queue.pop(now) else {
             unreachable!()
         };
         match &entry.owner {

@@ -1,6 +1,6 @@
 //! The server sessions: packets and the answers of workers.
-ghost use Rattle.std.specs.Prelude.{◌≡◌, ◌<◌, ◌≤◌, None, length, slice_get};
-ghost use Rattle.std.specs.Prelude.{IfSome};
+ghost use Rattle.std.specs.Prelude.{◌≡◌, ◌<◌, ◌≤◌, ◌*◌, [], None, length, slice_get};
+ghost use Rattle.std.specs.Prelude.{IfSome, IsOk};
 ghost use Rattle.std.specs.List.{AllByRecursion, position};
 ghost use Rattle.memory_count.specs.Faults.{HasCause, HasRisenBy};
 ghost use Rattle.rpc_outside.specs.Served.{StandsForSome};
@@ -11,14 +11,13 @@ ghost use Rattle.rpc_laws.specs.Requests.{is_server, server_end};
 ghost use Rattle.server_core.specs.Lacks.{lacks_of};
 ghost use Rattle.server_core.specs.Scene.{incoming};
 ghost use Rattle.server_core.specs.Steps.{IsAsking};
-ghost use Rattle.session_store.specs.Serving.{AreServedAt, HandlesAt, in_store};
+ghost use Rattle.session_store.specs.Serving.{AreServedAt, CanReply, HandlesAt, in_store};
 ghost use Rattle.session_store.specs.Changes.{IsEnd};
-ghost use Rattle.session_store.specs.Sides.{HasRoom};
 ghost use Rattle.session_store.specs.Leaving.{FinishesServer, MakesServer};
 
 use super::Store;
 use crate::ends::{code_at, end_in, older_in, place_in};
-use crate::server::{ServerEnd, asked_at, finished_at, place_of, reply_of};
+use crate::server::{ServerEnd, place_of, reply_of};
 use memory_count::{Memory, NoMemory};
 use packet_header::{Life, MessageHeader};
 use packet_rings::Entry;
@@ -81,9 +80,43 @@ impl Store {
         self.servers[i].peer()
     }
 
+    /// A server session in which no request began is taken in: its number is above those of the
+    /// others. `NoMemory` comes only where memory was refused, and never while there are fewer
+    /// server sessions than half as many as packets have room in the ring; the session is gone then.
+    pub fn take_server(
+        &mut self,
+        memory: &mut Memory,
+        server: ServerSession,
+    ) -> Result<(), NoMemory>
+        requires fresh { server.slots ≡ [] }
+        requires above { AllByRecursion (λ v. v.way.number < server.number) self.old.servers }
+        ensures made { MakesServer (server_end server.number server.peer server.client
+            server.credits server.life) result self.old self.new }
+        ensures succeeds { 2 * length self.old.servers < self.old.size → IsOk result }
+        ensures cause { HasCause memory.old memory.new result }
+    {
+        server.sound();
+        let shares = self.shares_with(server.credits());
+        let code = code_at(
+            server.peer(),
+            server.life(),
+            server.client(),
+            server.session(),
+        );
+        let place = place_in(&self.ends, code);
+        // There is room for the session before anything changes.
+        memory.of(self.servers.reserve(1))?;
+        memory.of(self.ends.reserve(1))?;
+        self.ends.insert(place, code).unwrap();
+        self.servers.push(server).unwrap();
+        self.shares = shares;
+        Ok(())
+    }
+
     /// A server session is made that is connected from the start, with 1 to 256 credits. Its number
     /// is above those of the others, the client's is below 65,535, and the life of the client's
-    /// endpoint isn't 0. `NoMemory` comes only where memory was refused.
+    /// endpoint isn't 0. `NoMemory` comes only where memory was refused: for the slots' own buffers
+    /// of the session, or as `take_server` answers it.
     pub fn pair_server(
         &mut self,
         memory: &mut Memory,
@@ -103,17 +136,8 @@ impl Store {
             self.new }
         ensures cause { HasCause memory.old memory.new result }
     {
-        let shares = self.shares_with(credits);
-        let session = ServerSession::new(memory, number, client, life, peer, credits)?;
-        let code = code_at(peer, life, client, number);
-        let place = place_in(&self.ends, code);
-        // There is room for the session before anything changes.
-        memory.of(self.servers.reserve(1))?;
-        memory.of(self.ends.reserve(1))?;
-        self.ends.insert(place, code).unwrap();
-        self.servers.push(session).unwrap();
-        self.shares = shares;
-        Ok(())
+        let server = ServerSession::new(memory, number, client, life, peer, credits)?;
+        self.take_server(memory, server)
     }
 
     /// The server session at place `i` handles a Request or RFR as the node `me`, by the server
@@ -136,27 +160,19 @@ impl Store {
         requires session { IfSome (slice_get self.old.servers i)
             (λ v. head.now.session ≡ v.way.number) }
         requires asking { IsAsking head.now (length body.now) }
-        requires ring { length self.old.queued < self.old.size }
-        requires room { HasRoom self.old }
+        requires reply { CanReply self.old }
         requires all_served { AreServedAt V.mode_of i self.old.servers }
         requires founded { StandsForSome (V.stands service.old) }
         ensures handles { HandlesAt V.Service R.log me i (incoming head.now body.now jobs_full)
             result (in_store self.old service.old rec.old) (in_store self.new service.new rec.new) }
         ensures cause { HasRisenBy (lacks_of result) memory.old memory.new }
     {
-        let step = asked_at(
-            memory,
-            &mut self.servers,
-            i,
-            &mut self.pool,
-            &mut self.queue.tx,
-            service,
-            head,
-            body,
-            jobs_full,
-            Who::Node(me),
-            rec,
-        );
+        let server = &mut self.servers[i];
+        let pool = &mut self.pool;
+        let tx = &mut self.queue.tx;
+        let who = Who::Node(me);
+        let step = server.on_packet(memory, pool, tx, service, head, body, jobs_full, who, rec);
+        server.sound();
         let Some(reply) = reply_of(&step) else {
             return step;
         };
@@ -172,12 +188,11 @@ impl Store {
         requires session { IfSome (slice_get self.old.servers i)
             (λ v. parcel.session ≡ v.way.number) }
         requires answer { IsMessage parcel.out.len }
-        requires ring { length self.old.queued < self.old.size }
-        requires room { HasRoom self.old }
+        requires reply { CanReply self.old }
         ensures { FinishesServer i parcel.request (bytes_of parcel.out) result self.old self.new }
     {
-        let reply = finished_at(&mut self.servers, i, &mut self.pool, parcel);
-        let Some(entry) = reply else {
+        let server = &mut self.servers[i];
+        let Some(entry) = server.on_finished(&mut self.pool, parcel) else {
             return None;
         };
         self.queue.tx.push(entry);

@@ -20,8 +20,8 @@ sent-requires c =
       held = c.requires.held;
     }
 
-pub returns : goal.returns
-returns c =
+pub returns-clause-gone : goal.returns-clause-gone
+returns-clause-gone c =
     let first = sym c.place_of.ensures ∙ c.in-Some.is in
     record {
       place = c.in-Some.place;

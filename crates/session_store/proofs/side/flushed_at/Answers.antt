@@ -14,8 +14,8 @@ flushed-requires c =
       held = c.requires.held;
     }
 
-pub returns : goal.returns
-returns c = record {
+pub returns-clause-flushes : goal.returns-clause-flushes
+returns-clause-flushes c = record {
   side = c.index_mut-side.result.now;
   at = get-there c.args.sides.now.items c.args.i c.index_mut-side.result.now c.requires.known
       c.index_mut-side.ensures.value;

@@ -14,8 +14,8 @@ sent-requires c =
       held = c.requires.held;
     }
 
-pub returns : goal.returns
-returns c = record {
+pub returns-clause-sends : goal.returns-clause-sends
+returns-clause-sends c = record {
   side = c.index_mut-side.result.now;
   at = get-there c.args.sides.now.items c.args.i c.index_mut-side.result.now c.requires.known
       c.index_mut-side.ensures.value;

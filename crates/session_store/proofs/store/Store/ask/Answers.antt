@@ -6,6 +6,7 @@ use Rattle.rpc_laws.specs.Sessions.{asks}
 use Rattle.session_store.specs.Effects.{asking_in}
 use Rattle.session_store.specs.Sides.{Shown}
 use Rattle.session_store.proofs.ShareLemmas.{asks-kept, clients-kept, unchanged-shown}
+use Rattle.session_store.proofs.RoomLemmas.{room-stays}
 use Rattle.session_store.proofs.store.Store.ask.Goals as goal
 
 pub enqueue_at-requires-clause-turns : goal.enqueue_at-requires-clause-turns
@@ -39,6 +40,7 @@ invariant_of-self c = (
       c.enqueue_at.new.sides.items c.enqueue_at.result c.enqueue_at.ensures.unchanged))
       c.self.invariant.2,
   c.self.invariant.3,
+  room-stays refl c.enqueue_at.ensures.room refl refl c.self.invariant.4,
 )
 
 pub returns-clause-asks : goal.returns-clause-asks

@@ -8,6 +8,7 @@ use Rattle.session_store.proofs.ShareLemmas.{begins-kept, clients-kept}
 use Rattle.session_store.proofs.ChangesLemmas.{changes-clients}
 use Rattle.session_store.specs.Changes.{BeginsAt}
 use Rattle.std.proofs.Common.{refl}
+use Rattle.session_store.proofs.RoomLemmas.{room-stays}
 use Rattle.session_store.proofs.store.Store.begin.Goals as goal
 
 pub begin_at-requires-clause-spare : goal.begin_at-requires-clause-spare
@@ -19,7 +20,7 @@ begin_at-requires-clause-spare c =
 
 pub invariant_of-self : goal.invariant_of-self
 invariant_of-self c =
-    let h = c.begin_at.ensures in
+    let h = c.begin_at.ensures.begins in
     let connected = connected-at c.self.inside.sides.items c.args.i c.index.result.now h.side
     c.index.ensures h.at (sym c.is_connected.ensures ∙ c.if-not-is_connected.false) in (
       kept-begin c.self.inside.pool c.begin_at.new.pool c.self.inside.sides.items
@@ -33,12 +34,13 @@ invariant_of-self c =
           c.self.inside.servers.items (joined c.self.inside.queue.tx c.self.inside.queue.pacer) c.args.i
           c.self.invariant.0 c.begin_at.result h connected)) c.self.invariant.2,
       c.self.invariant.3,
+      room-stays refl c.begin_at.ensures.room refl refl c.self.invariant.4,
     )
 
 pub returns : goal.returns
 returns c =
     let s = c.self.inside in
-    let h = c.begin_at.ensures in
+    let h = c.begin_at.ensures.begins in
     let connected = connected-at s.sides.items c.args.i c.index.result.now h.side
     c.index.ensures h.at (sym c.is_connected.ensures ∙ c.if-not-is_connected.false) in
     changes-clients s.pool c.begin_at.new.pool s.sides.items c.begin_at.new.sides.items

@@ -25,6 +25,7 @@ invariant_of-self c =
           c.index_mut-side.result.now at s.queue.tx s.queue.pacer c.args.self.now c.self.view_is
           (live-connected _ c.requires.connected) _ refl,
       c.self.invariant.3,
+      c.self.invariant.4,
     )
 
 pub returns : goal.returns

@@ -26,6 +26,7 @@ invariant_of-self c =
           c.index_mut-side.result.now at s.queue.tx s.queue.pacer c.args.self.now c.self.view_is
           (live-in SessionState.Connecting refl _ c.requires.connecting) _ (rw c.connected.ensures refl),
       c.self.invariant.3,
+      c.self.invariant.4,
     )
 
 pub returns : goal.returns

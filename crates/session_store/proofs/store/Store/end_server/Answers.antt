@@ -9,6 +9,7 @@ use Rattle.session_store.proofs.ShareLemmas.{server-ended, server-within}
 use Rattle.server_core.specs.Shown.{way_of}
 use Rattle.session_store.specs.EndOrder.{code_of}
 use Rattle.session_store.proofs.EndOrderLemmas.{end-left, end-there}
+use Rattle.session_store.proofs.RoomLemmas.{room-stays}
 use Rattle.session_store.proofs.store.Store.end_server.Goals as goal
 
 pub overflow_sub-self : goal.overflow_sub-self
@@ -77,18 +78,19 @@ invariant_of-self c =
     ) in
     let h = ended s.pool s.sides.items s.servers.items s.queue.tx s.queue.pacer c.self.invariant.0 c.args.self.now
     c.self.view_is c.args.i c.requires.drained c.end_at.new.pool c.end_at.new.servers.items
-    c.end_at.ensures in (
+    c.end_at.ensures.ends in (
       h.kept,
       c.self.invariant.1,
       server-ended s.shares s.pool c.end_at.new.pool s.sides.items s.servers.items
-          c.self.invariant.2 c.args.i c.end_at.ensures.server c.end_at.ensures.at
+          c.self.invariant.2 c.args.i c.end_at.ensures.ends.server c.end_at.ensures.ends.at
           c.from.result (c.from.ensures ∙ c.credits.ensures ∙ ap (λ (v : Serving). v.credits)
-          (c.index.ensures ∙ got-same s.servers.items c.args.i c.end_at.ensures.server
-          c.index.result.now c.end_at.ensures.at)) c.end_at.new.servers.items
-          c.end_at.ensures.changed,
-      rw (c.end_at.ensures.changed, c.remove.ensures.items) (end-left s.ends.items s.servers.items
-          c.self.invariant.3 c.place_in-place.result c.code_at-code.result c.args.i w at own
-          c.place_in-place.ensures.parts),
+          (c.index.ensures ∙ got-same s.servers.items c.args.i c.end_at.ensures.ends.server
+          c.index.result.now c.end_at.ensures.ends.at)) c.end_at.new.servers.items
+          c.end_at.ensures.ends.changed,
+      rw (c.end_at.ensures.ends.changed, c.remove.ensures.items) (end-left s.ends.items
+          s.servers.items c.self.invariant.3 c.place_in-place.result c.code_at-code.result
+          c.args.i w at own c.place_in-place.ensures.parts),
+      room-stays refl refl c.end_at.ensures.room c.remove.ensures.capacity c.self.invariant.4,
     )
 
 pub returns : goal.returns
@@ -96,7 +98,7 @@ returns c =
     let s = c.self.inside in
     let h = ended s.pool s.sides.items s.servers.items s.queue.tx s.queue.pacer c.self.invariant.0 c.args.self.now
     c.self.view_is c.args.i c.requires.drained c.end_at.new.pool c.end_at.new.servers.items
-    c.end_at.ensures in
+    c.end_at.ensures.ends in
     record {
       servers = h.left;
       clients = rw (← c.self.view_is) h.clients;

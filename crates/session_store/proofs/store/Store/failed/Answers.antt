@@ -40,6 +40,7 @@ invariant_of-self c =
           c.from.result (c.from.ensures ∙ c.limit.ensures)
           (record c.index_mut-side.result.now { stage = Failed }) refl,
       c.self.invariant.3,
+      c.self.invariant.4,
     )
 
 pub returns : goal.returns

@@ -1,5 +1,5 @@
 use Rattle.std.proofs.Common.{subst, sym, ap, ◌∙◌}
-use Rattle.packet_rings.specs.Rings.{ring}
+use Rattle.packet_rings.specs.Rings.{Ring, ring}
 use Rattle.session_store.specs.Sides.{Kept}
 use Rattle.std.specs.Prelude.{option_map}
 use Rattle.rpc_base.specs.Least.{least, without_least}
@@ -20,8 +20,8 @@ use Rattle.session_store.proofs.ShareLemmas.{clients-kept}
 use Rattle.session_store.proofs.ChangesLemmas.{changes-queue, servers-released}
 use Rattle.std.proofs.Common.{◌≡◌, refl}
 use Rattle.session_store.specs.Sides.{Shown}
-use Rattle.packet_rings.specs.Rings.{Ring}
 use Rattle.packet_rings.specs.Values.{EntryValue}
+use Rattle.session_store.proofs.RoomLemmas.{room-stays}
 use Rattle.session_store.proofs.store.Store.flush.Goals as goal
 
 pub returns-in_default-clause-taken : goal.returns-in_default-clause-taken
@@ -70,7 +70,7 @@ invariant_of-self-2 c =
           s.servers.items (joined s.queue.tx s.queue.pacer) c.args.i c.args.request c.in-Some.entry
           (is_entry (Ask c.session.result c.args.request) c.in-Some.entry.number)
           (joined c.flush-flushed.new.self.tx c.flush-flushed.new.self.pacer).items
-          c.self.invariant.0 h.nearest own c.flushed_at.ensures),
+          c.self.invariant.0 h.nearest own c.flushed_at.ensures.flushes),
       h.paces,
       clients-kept s.shares s.pool c.flushed_at.new.pool s.sides.items c.flushed_at.new.sides.items
           s.servers.items (ap (map live_credits) (flushed-clients s.pool c.flushed_at.new.pool
@@ -78,8 +78,10 @@ invariant_of-self-2 c =
           c.args.request c.in-Some.entry
           (is_entry (Ask c.session.result c.args.request) c.in-Some.entry.number)
           (joined c.flush-flushed.new.self.tx c.flush-flushed.new.self.pacer).items c.self.invariant.0
-          h.nearest own c.flushed_at.ensures)) c.self.invariant.2,
+          h.nearest own c.flushed_at.ensures.flushes)) c.self.invariant.2,
       c.self.invariant.3,
+      room-stays (ap (λ (r : Ring EntryValue). r.size) h.left) c.flushed_at.ensures.room
+          refl refl c.self.invariant.4,
     )
 
 pub returns-clause-taken : goal.returns-clause-taken
@@ -134,20 +136,20 @@ returns-clause-left c =
     c.flushed_at.new.sides.items s.servers.items (joined s.queue.tx s.queue.pacer) c.args.i c.args.request
     c.in-Some.entry (is_entry (Ask c.session.result c.args.request) c.in-Some.entry.number)
     (joined c.flush-flushed.new.self.tx c.flush-flushed.new.self.pacer).items c.self.invariant.0
-    h.nearest own c.flushed_at.ensures ∙ ap (λ (v : Shown). v.clients) c.self.view_is)
-    (rw c.flushed_at.ensures.step.leaves.pool (servers-released s.pool s.servers.items
+    h.nearest own c.flushed_at.ensures.flushes ∙ ap (λ (v : Shown). v.clients) c.self.view_is)
+    (rw c.flushed_at.ensures.flushes.step.leaves.pool (servers-released s.pool s.servers.items
     c.in-Some.entry.place)) (flushed-places s.pool c.flushed_at.new.pool s.sides.items
     c.flushed_at.new.sides.items s.servers.items (joined s.queue.tx s.queue.pacer) c.args.i c.args.request
     c.in-Some.entry (is_entry (Ask c.session.result c.args.request) c.in-Some.entry.number)
     (joined c.flush-flushed.new.self.tx c.flush-flushed.new.self.pacer).items c.self.invariant.0
-    h.nearest own c.flushed_at.ensures)
+    h.nearest own c.flushed_at.ensures.flushes)
     (without_least (is_owned (Ask c.args.i c.args.request))
     queued_number)
     (flushed-handed s.pool c.flushed_at.new.pool s.sides.items
     c.flushed_at.new.sides.items s.servers.items (joined s.queue.tx s.queue.pacer) c.args.i c.args.request
     c.in-Some.entry (is_entry (Ask c.session.result c.args.request) c.in-Some.entry.number)
     (joined c.flush-flushed.new.self.tx c.flush-flushed.new.self.pacer).items c.self.invariant.0
-    h.nearest own c.flushed_at.ensures)
+    h.nearest own c.flushed_at.ensures.flushes)
     (h.queue ∙ ap (λ n. without_least (is_owned (Ask n c.args.request)) queued_number
     (queue_of s.queue.tx s.queue.pacer)) number)
     (ap (λ r. r.size) h.left)

@@ -1,5 +1,5 @@
 use Rattle.std.proofs.Common.{subst, sym, ap, ◌∙◌}
-use Rattle.packet_rings.specs.Rings.{ring}
+use Rattle.packet_rings.specs.Rings.{Ring, ring}
 use Rattle.session_store.specs.Sides.{Kept}
 use Rattle.std.specs.Prelude.{option_map}
 use Rattle.rpc_base.specs.declared.owner.Owner.TheVariants.{Reply}
@@ -15,10 +15,10 @@ use Rattle.session_store.proofs.WayLemmas.{ends-kept, gone-ways}
 use Rattle.session_store.proofs.ChangesLemmas.{changes-queue}
 use Rattle.std.proofs.Common.{◌≡◌, refl}
 use Rattle.session_store.specs.Sides.{Shown}
-use Rattle.packet_rings.specs.Rings.{Ring}
 use Rattle.packet_rings.specs.Values.{EntryValue}
 use Rattle.session_store.specs.Queue.{is_owned, queued_number}
 use Rattle.rpc_base.specs.Least.{without_least}
+use Rattle.session_store.proofs.RoomLemmas.{room-stays}
 use Rattle.session_store.proofs.store.Store.flush_reply.Goals as goal
 
 pub returns-in_default-clause-taken : goal.returns-in_default-clause-taken
@@ -64,16 +64,18 @@ invariant_of-self-2 c =
           c.reply_flushed_at.new.servers.items (joined s.queue.tx s.queue.pacer) c.args.session c.args.request c.in-Some.entry
           (is_entry (Reply c.args.session c.args.request) c.in-Some.entry.number)
           (joined c.flush-flushed.new.self.tx c.flush-flushed.new.self.pacer).items
-          c.self.invariant.0 h.nearest own c.reply_flushed_at.ensures),
+          c.self.invariant.0 h.nearest own c.reply_flushed_at.ensures.gone),
       h.paces,
       servers-kept s.shares s.pool c.reply_flushed_at.new.pool s.sides.items s.servers.items
           c.reply_flushed_at.new.servers.items (gone-kept c.args.session c.in-Some.entry
           s.servers.items c.reply_flushed_at.new.servers.items s.pool c.reply_flushed_at.new.pool
-          c.reply_flushed_at.ensures) c.self.invariant.2,
+          c.reply_flushed_at.ensures.gone) c.self.invariant.2,
       ends-kept s.ends.items s.servers.items c.reply_flushed_at.new.servers.items
           (gone-ways c.args.session c.in-Some.entry s.servers.items
           c.reply_flushed_at.new.servers.items s.pool c.reply_flushed_at.new.pool
-          c.reply_flushed_at.ensures) c.self.invariant.3,
+          c.reply_flushed_at.ensures.gone) c.self.invariant.3,
+      room-stays (ap (λ (r : Ring EntryValue). r.size) h.left) refl
+          c.reply_flushed_at.ensures.room refl c.self.invariant.4,
     )
 
 pub returns-clause-taken : goal.returns-clause-taken
@@ -110,22 +112,22 @@ returns-clause-left c =
     s.servers.items c.reply_flushed_at.new.servers.items (joined s.queue.tx s.queue.pacer) c.args.session
     c.args.request c.in-Some.entry (is_entry (Reply c.args.session c.args.request)
     c.in-Some.entry.number) (joined c.flush-flushed.new.self.tx c.flush-flushed.new.self.pacer).items
-    c.self.invariant.0 h.nearest own c.reply_flushed_at.ensures
+    c.self.invariant.0 h.nearest own c.reply_flushed_at.ensures.gone
     ∙ ap (λ (v : Shown). v.clients) c.self.view_is)
     (reply-servers s.pool c.reply_flushed_at.new.pool s.sides.items
     s.servers.items c.reply_flushed_at.new.servers.items (joined s.queue.tx s.queue.pacer) c.args.session
     c.args.request c.in-Some.entry (is_entry (Reply c.args.session c.args.request)
     c.in-Some.entry.number) (joined c.flush-flushed.new.self.tx c.flush-flushed.new.self.pacer).items
-    c.self.invariant.0 h.nearest own c.reply_flushed_at.ensures)
+    c.self.invariant.0 h.nearest own c.reply_flushed_at.ensures.gone)
     (reply-places s.pool c.reply_flushed_at.new.pool s.sides.items
     s.servers.items c.reply_flushed_at.new.servers.items (joined s.queue.tx s.queue.pacer) c.args.session
     c.args.request c.in-Some.entry (is_entry (Reply c.args.session c.args.request)
     c.in-Some.entry.number) (joined c.flush-flushed.new.self.tx c.flush-flushed.new.self.pacer).items
-    c.self.invariant.0 h.nearest own c.reply_flushed_at.ensures) (without_least
+    c.self.invariant.0 h.nearest own c.reply_flushed_at.ensures.gone) (without_least
     (is_owned (Reply c.args.session c.args.request)) queued_number)
     (reply-handed s.pool c.reply_flushed_at.new.pool s.sides.items
     s.servers.items c.reply_flushed_at.new.servers.items (joined s.queue.tx s.queue.pacer) c.args.session
     c.args.request c.in-Some.entry (is_entry (Reply c.args.session c.args.request)
     c.in-Some.entry.number) (joined c.flush-flushed.new.self.tx c.flush-flushed.new.self.pacer).items
-    c.self.invariant.0 h.nearest own c.reply_flushed_at.ensures) h.queue
+    c.self.invariant.0 h.nearest own c.reply_flushed_at.ensures.gone) h.queue
     (ap (λ r. r.size) h.left)

@@ -13,6 +13,7 @@ use Rattle.session_store.proofs.ChangesLemmas.{changes-calls}
 use Rattle.session_store.specs.Changes.{LosesAt}
 use Rattle.session_store.specs.Handing.{HandsBackIf}
 use Rattle.std.proofs.Common.{refl}
+use Rattle.session_store.proofs.RoomLemmas.{room-stays}
 use Rattle.session_store.proofs.store.Store.lose.Goals as goal
 
 pub lose_at-requires-clause-unheld : goal.lose_at-requires-clause-unheld
@@ -26,7 +27,7 @@ lose_at-requires-clause-unheld c =
 pub invariant_of-self : goal.invariant_of-self
 invariant_of-self c =
     let s = c.self.inside in
-    let h = c.lose_at.ensures in
+    let h = c.lose_at.ensures.loses in
     let broken = lost-broken s.pool s.sides.items s.servers.items (joined s.queue.tx s.queue.pacer) c.self.invariant.0
     (undue c.args.self.now) (flat c.self.inside.pool c.self.inside.sides.items
     c.self.inside.servers.items c.self.inside.queue.tx c.self.inside.queue.pacer c.args.self.now
@@ -48,17 +49,18 @@ invariant_of-self c =
           ∙ ap (λ (v : Shown). map live_credits v.clients) (sym c.self.view_is))
           c.self.invariant.2,
       c.self.invariant.3,
+      room-stays refl c.lose_at.ensures.room refl refl c.self.invariant.4,
     )
 
 pub returns-clause-ended_as : goal.returns-clause-ended_as
 returns-clause-ended_as c =
-    let h = c.lose_at.ensures in
+    let h = c.lose_at.ensures.loses in
     lost-as h.side.session h.later c.self.inside.pool c.lose_at.new.pool c.lose_at.result h.step
 
 pub returns-clause-loses : goal.returns-clause-loses
 returns-clause-loses c =
     let s = c.self.inside in
-    let h = c.lose_at.ensures in
+    let h = c.lose_at.ensures.loses in
     let seen = flat s.pool s.sides.items s.servers.items s.queue.tx s.queue.pacer c.args.self.now c.self.view_is in
     let idle = idle-undue c.args.i c.args.self.now.queued c.requires.idle in
     let broken = lost-broken s.pool s.sides.items s.servers.items (joined s.queue.tx s.queue.pacer)

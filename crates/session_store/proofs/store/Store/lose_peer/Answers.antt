@@ -42,6 +42,7 @@ invariant_of-self c =
           c.from.result (c.from.ensures ∙ c.limit.ensures)
           (record c.index_mut-side.result.now { stage = Broken }) refl,
       c.self.invariant.3,
+      c.self.invariant.4,
     )
 
 pub returns : goal.returns

@@ -19,6 +19,7 @@ use Rattle.session_store.proofs.ChangesLemmas.{changes-calls}
 use Rattle.session_store.specs.Hearing.{RepliesAt}
 use Rattle.session_store.specs.Handing.{HandsBackIf, ended_by}
 use Rattle.std.proofs.Common.{refl}
+use Rattle.session_store.proofs.RoomLemmas.{room-stays}
 use Rattle.session_store.proofs.store.Store.on_reply.Goals as goal
 
 pub heard_at-requires-clause-unheld : goal.heard_at-requires-clause-unheld
@@ -39,7 +40,7 @@ heard_at-requires-clause-unheld c =
 pub invariant_of-self : goal.invariant_of-self
 invariant_of-self c =
     let s = c.self.inside in
-    let h = c.heard_at.ensures in
+    let h = c.heard_at.ensures.replies in
     let connected = connected-at s.sides.items c.args.i c.index.result.now h.side c.index.ensures
     h.at (sym c.is_connected.ensures ∙ c.if-not-is_connected.false) in
     let windows = seen-windows s.pool s.sides.items s.servers.items (joined s.queue.tx s.queue.pacer)
@@ -70,6 +71,7 @@ invariant_of-self c =
           c.is_waiting-is_waiting.result c.heard_at.result c.self.invariant.0 h connected
           c.requires.session windows waits c.args.peer peer)) c.self.invariant.2,
       c.self.invariant.3,
+      room-stays refl c.heard_at.ensures.room refl refl c.self.invariant.4,
     )
 
 pub returns-then-not-is_connected : goal.returns-then-not-is_connected
@@ -116,7 +118,7 @@ returns-then-ne c =
 pub returns : goal.returns
 returns c =
     let s = c.self.inside in
-    let h = c.heard_at.ensures in
+    let h = c.heard_at.ensures.replies in
     let connected = connected-at s.sides.items c.args.i c.index.result.now h.side c.index.ensures
     h.at (sym c.is_connected.ensures ∙ c.if-not-is_connected.false) in
     let windows = seen-windows s.pool s.sides.items s.servers.items (joined s.queue.tx s.queue.pacer)

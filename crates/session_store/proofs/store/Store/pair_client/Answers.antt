@@ -1,4 +1,4 @@
-use Rattle.std.proofs.Common.{ℕ, refl, ◌≡◌, length, ap, ◌∙◌, arith}
+use Rattle.std.proofs.Common.{ℕ, refl, ◌≡◌, length, ap, ◌∙◌, ◌++◌, List, [], ◌∷◌, arith}
 use Rattle.std.specs.Vec.{vec_len}
 use Rattle.client_core.specs.Session.{Session, new_session}
 use Rattle.session_store.specs.declared.side.Side.{Side}
@@ -13,19 +13,32 @@ made peer session = record { peer = peer; stage = Connected; session = session }
 
 pub invariant_of-self-2 : goal.invariant_of-self-2
 invariant_of-self-2 c =
-    let long : vec_len c.self.inside.sides ≡ length c.self.inside.sides.items = omega arith in (
-      rw c.in_ok-push.ensures.pushed (kept-paired c.self.inside.pool c.self.inside.sides.items
-          c.self.inside.servers.items (joined c.self.inside.queue.tx c.self.inside.queue.pacer) _ c.args.server
-          _ c.args.credits c.self.invariant.0
-          (c.new-session.ensures.session ∙ ap (λ n. new_session n c.args.server c.args.life c.args.credits)
+    let s = c.self.inside in
+    let long : vec_len s.sides ≡ length s.sides.items = omega arith in
+    let side = made c.args.peer c.new-session.result in
+    let pushed : c.push.new.self.items ≡ s.sides.items ++ side ∷ [] =
+    (rw c.unwrap.ensures at c.push.ensures.items)
+    ∙ ap (λ (xs : List Side). xs ++ side ∷ []) c.reserve.ensures.items in (
+      rw pushed (kept-paired s.pool s.sides.items s.servers.items
+          (joined s.queue.tx s.queue.pacer) _ c.args.server _ c.args.credits c.self.invariant.0
+          (c.new-session.ensures.session
+          ∙ ap (λ n. new_session n c.args.server c.args.life c.args.credits)
           (c.len.ensures ∙ long))),
       c.self.invariant.1,
-      rw c.in_ok-push.ensures.pushed (client-added c.self.inside.shares c.self.inside.pool
-          c.self.inside.sides.items c.self.inside.servers.items c.self.invariant.2
-          c.self.inside.queue.tx c.self.inside.queue.pacer c.args.self.now c.self.view_is
-          c.shares_with-shares.result c.args.credits c.shares_with-shares.ensures c.requires.most
-          (made c.args.peer c.new-session.result)
-          (paired-share c.self.inside.pool (made c.args.peer c.new-session.result)
-          _ c.args.server _ c.args.credits refl c.new-session.ensures.session)),
+      rw pushed (client-added s.shares s.pool s.sides.items s.servers.items c.self.invariant.2
+          s.queue.tx s.queue.pacer c.args.self.now c.self.view_is c.shares_with-shares.result
+          c.args.credits c.shares_with-shares.ensures c.requires.most side
+          (paired-share s.pool side _ c.args.server _ c.args.credits refl
+          c.new-session.ensures.session)),
       c.self.invariant.3,
+      record {
+        for_clients = omega (
+          arith,
+          c.self.invariant.4.for_clients,
+          c.reserve.ensures.capacity,
+          c.push.ensures.capacity,
+        );
+        for_servers = c.self.invariant.4.for_servers;
+        for_ends = c.self.invariant.4.for_ends;
+      },
     )

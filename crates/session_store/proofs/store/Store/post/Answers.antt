@@ -16,6 +16,7 @@ use Rattle.session_store.proofs.ChangesLemmas.{changes-queue, servers-held}
 use Rattle.session_store.specs.Changes.{PostsAt}
 use Rattle.session_store.specs.Joined.{put_listed}
 use Rattle.std.proofs.Common.{refl}
+use Rattle.session_store.proofs.RoomLemmas.{room-stays}
 use Rattle.session_store.proofs.store.Store.post.Goals as goal
 
 pub post_at-posted-requires-clause-keeps : goal.post_at-posted-requires-clause-keeps
@@ -26,7 +27,7 @@ post_at-posted-requires-clause-keeps c =
 pub invariant_of-self : goal.invariant_of-self
 invariant_of-self c =
     let s = c.self.inside in
-    let h = rw c.in_default.is at c.post_at-posted.ensures in
+    let h = rw c.in_default.is at c.post_at-posted.ensures.posts in
     let connected = connected-at s.sides.items c.args.i c.index.result.now h.side c.index.ensures
     h.at (sym c.is_connected.ensures ∙ c.if-not-is_connected.false) in (
       unposted-kept s.pool c.post_at-posted.new.pool s.sides.items
@@ -39,12 +40,13 @@ invariant_of-self c =
           c.post_at-posted.new.sides.items s.servers.items (joined s.queue.tx s.queue.pacer) c.args.i h
           connected)) c.self.invariant.2,
       c.self.invariant.3,
+      room-stays refl c.post_at-posted.ensures.room refl refl c.self.invariant.4,
     )
 
 pub put-requires : goal.put-requires
 put-requires c =
     let s = c.self.inside in
-    let h = rw c.in-Some.is at c.post_at-posted.ensures in
+    let h = rw c.in-Some.is at c.post_at-posted.ensures.posts in
     let connected = connected-at s.sides.items c.args.i c.index.result.now h.side c.index.ensures
     h.at (sym c.is_connected.ensures ∙ c.if-not-is_connected.false) in
     record {
@@ -77,7 +79,7 @@ put-requires c =
 pub invariant_of-self-2 : goal.invariant_of-self-2
 invariant_of-self-2 c =
     let s = c.self.inside in
-    let h = rw c.in-Some.is at c.post_at-posted.ensures in
+    let h = rw c.in-Some.is at c.post_at-posted.ensures.posts in
     let connected = connected-at s.sides.items c.args.i c.index.result.now h.side c.index.ensures
     h.at (sym c.is_connected.ensures ∙ c.if-not-is_connected.false) in
     let room = room-there s.pool c.post_at-posted.new.pool s.sides.items
@@ -100,12 +102,13 @@ invariant_of-self-2 c =
           (joined s.queue.tx s.queue.pacer) c.args.i c.in-Some.entry c.self.invariant.0 h connected room))
           c.self.invariant.2,
       c.self.invariant.3,
+      room-stays c.put.ensures.size c.post_at-posted.ensures.room refl refl c.self.invariant.4,
     )
 
 pub returns-in_default-clause-posts : goal.returns-in_default-clause-posts
 returns-in_default-clause-posts c =
     let s = c.self.inside in
-    let h = rw c.in_default.is at c.post_at-posted.ensures in
+    let h = rw c.in_default.is at c.post_at-posted.ensures.posts in
     let connected = connected-at s.sides.items c.args.i c.index.result.now h.side
     c.index.ensures h.at (sym c.is_connected.ensures ∙ c.if-not-is_connected.false) in
     changes-queue s.pool c.post_at-posted.new.pool s.sides.items c.post_at-posted.new.sides.items
@@ -123,7 +126,7 @@ returns-in_default-clause-posts c =
 pub returns-clause-posts : goal.returns-clause-posts
 returns-clause-posts c =
     let s = c.self.inside in
-    let h = rw c.in-Some.is at c.post_at-posted.ensures in
+    let h = rw c.in-Some.is at c.post_at-posted.ensures.posts in
     let connected = connected-at s.sides.items c.args.i c.index.result.now h.side
     c.index.ensures h.at (sym c.is_connected.ensures ∙ c.if-not-is_connected.false) in
     let room = room-there s.pool c.post_at-posted.new.pool s.sides.items

@@ -35,6 +35,7 @@ invariant_of-self c =
           c.index_mut-side.result.now at s.queue.tx s.queue.pacer c.args.self.now c.self.view_is
           (live-asking _ c.requires.asking) c.args.now c.asked-side.result c.asked-side.ensures,
       c.self.invariant.3,
+      c.self.invariant.4,
     )
 
 pub returns : goal.returns

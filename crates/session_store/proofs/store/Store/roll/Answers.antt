@@ -11,6 +11,7 @@ use Rattle.session_store.proofs.ShareLemmas.{clients-kept, rolls-kept}
 use Rattle.session_store.proofs.ChangesLemmas.{changes-clients}
 use Rattle.session_store.specs.Changes.{RollsAt}
 use Rattle.std.proofs.Common.{refl}
+use Rattle.session_store.proofs.RoomLemmas.{room-stays}
 use Rattle.session_store.proofs.store.Store.roll.Goals as goal
 
 pub roll_at-requires-clause-active : goal.roll_at-requires-clause-active
@@ -45,7 +46,7 @@ invariant_of-self c = (
       (flat c.self.inside.pool c.self.inside.sides.items c.self.inside.servers.items
       c.self.inside.queue.tx c.self.inside.queue.pacer c.args.self.now c.self.view_is)
       (may-undue c.args.i c.args.call c.args.self.now c.requires.may)
-      c.roll_at.new.sides.items c.self.invariant.0 c.roll_at.ensures,
+      c.roll_at.new.sides.items c.self.invariant.0 c.roll_at.ensures.rolls,
   c.self.invariant.1,
   clients-kept c.self.inside.shares c.self.inside.pool c.self.inside.pool
       c.self.inside.sides.items c.roll_at.new.sides.items c.self.inside.servers.items
@@ -55,10 +56,11 @@ invariant_of-self c = (
       (flat c.self.inside.pool c.self.inside.sides.items c.self.inside.servers.items
       c.self.inside.queue.tx c.self.inside.queue.pacer c.args.self.now c.self.view_is)
       (may-undue c.args.i c.args.call c.args.self.now c.requires.may)
-      c.roll_at.new.sides.items c.self.invariant.0 c.roll_at.ensures)
+      c.roll_at.new.sides.items c.self.invariant.0 c.roll_at.ensures.rolls)
       ∙ ap (λ (v : Shown). map live_credits v.clients) (sym c.self.view_is))
       c.self.invariant.2,
   c.self.invariant.3,
+  room-stays refl c.roll_at.ensures.room refl refl c.self.invariant.4,
 )
 
 pub returns : goal.returns
@@ -69,8 +71,11 @@ returns c =
     changes-clients s.pool s.pool s.sides.items c.roll_at.new.sides.items s.servers.items
     s.servers.items s.queue.tx s.queue.tx s.queue.pacer s.queue.pacer c.args.self.now c.self.view_is
     (RollsAt c.args.i c.args.call) (rolled-clients s.pool s.sides.items s.servers.items (joined s.queue.tx s.queue.pacer) c.args.i c.args.call
-    (undue c.args.self.now) seen may c.roll_at.new.sides.items c.self.invariant.0 c.roll_at.ensures)
+    (undue c.args.self.now) seen may c.roll_at.new.sides.items c.self.invariant.0
+    c.roll_at.ensures.rolls)
     refl (places-roll s.pool s.sides.items s.servers.items (joined s.queue.tx s.queue.pacer) c.args.i c.args.call
-    (undue c.args.self.now) seen may c.roll_at.new.sides.items c.self.invariant.0 c.roll_at.ensures)
+    (undue c.args.self.now) seen may c.roll_at.new.sides.items c.self.invariant.0
+    c.roll_at.ensures.rolls)
     (handed-roll s.pool s.sides.items s.servers.items (joined s.queue.tx s.queue.pacer) c.args.i c.args.call
-    (undue c.args.self.now) seen may c.roll_at.new.sides.items c.self.invariant.0 c.roll_at.ensures) refl refl
+    (undue c.args.self.now) seen may c.roll_at.new.sides.items c.self.invariant.0
+    c.roll_at.ensures.rolls) refl refl

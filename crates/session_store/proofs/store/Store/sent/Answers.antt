@@ -1,4 +1,4 @@
-use Rattle.std.proofs.Common.{◌≡◌, false, drop, sym, ap, ◌∙◌}
+use Rattle.std.proofs.Common.{◌≡◌, false, drop, refl, sym, ap, ◌∙◌}
 use Rattle.rpc_base.specs.declared.owner.Owner.TheVariants.{Ask, Reply}
 use Rattle.packet_rings.specs.Values.{EntryValue}
 use Rattle.std.specs.Prelude.{map}
@@ -18,6 +18,8 @@ use Rattle.session_store.proofs.ShareLemmas.{clients-kept, gone-kept, sends-kept
 use Rattle.session_store.proofs.WayLemmas.{ends-kept, gone-ways}
 use Rattle.session_store.proofs.ChangesLemmas.{changes-queue, servers-released}
 use Rattle.session_store.specs.Queue.{SendsFront}
+use Rattle.packet_rings.specs.Rings.{Ring}
+use Rattle.session_store.proofs.RoomLemmas.{room-stays}
 use Rattle.session_store.proofs.store.Store.sent.Goals as goal
 
 pub invariant_of-self : goal.invariant_of-self
@@ -30,7 +32,8 @@ invariant_of-self c =
       rw c.pop.ensures.rest (sent-kept s.pool c.sent_at.new.pool s.sides.items
           c.sent_at.new.sides.items s.servers.items (joined s.queue.tx s.queue.pacer) c.from.result c.in-Ask.request
           c.in-Some.entry (λ d. false) (drop 1 (joined s.queue.tx s.queue.pacer).items) c.self.invariant.0
-          (front-taken (joined s.queue.tx s.queue.pacer).items c.in-Some.entry front) own c.args.now c.sent_at.ensures),
+          (front-taken (joined s.queue.tx s.queue.pacer).items c.in-Some.entry front) own
+          c.args.now c.sent_at.ensures.sends),
       c.pop.ensures.paces,
       clients-kept s.shares s.pool c.sent_at.new.pool s.sides.items c.sent_at.new.sides.items
           s.servers.items (ap (map live_credits) (sent-clients s.pool c.sent_at.new.pool
@@ -38,9 +41,11 @@ invariant_of-self c =
           c.from.result c.in-Ask.request c.in-Some.entry (λ d. false)
           (drop 1 (joined s.queue.tx s.queue.pacer).items) c.self.invariant.0
           (front-taken (joined s.queue.tx s.queue.pacer).items c.in-Some.entry front) own c.args.now
-          c.sent_at.ensures) ∙ sends-kept c.args.now (Ask c.from.result c.in-Ask.request)
+          c.sent_at.ensures.sends) ∙ sends-kept c.args.now (Ask c.from.result c.in-Ask.request)
           c.in-Some.entry.number (map (shown_side s.pool) s.sides.items)) c.self.invariant.2,
       c.self.invariant.3,
+      room-stays (ap (λ (r : Ring EntryValue). r.size) c.pop.ensures.rest)
+          c.sent_at.ensures.room refl refl c.self.invariant.4,
     )
 
 pub reply_sent_at-requires-clause-there : goal.reply_sent_at-requires-clause-there
@@ -65,16 +70,19 @@ invariant_of-self-in-Reply c =
       rw c.pop.ensures.rest (reply-kept s.pool c.reply_sent_at.new.pool s.sides.items s.servers.items
           c.reply_sent_at.new.servers.items (joined s.queue.tx s.queue.pacer) c.in-Reply.session c.in-Reply.request c.in-Some.entry
           (λ d. false) (drop 1 (joined s.queue.tx s.queue.pacer).items) c.self.invariant.0
-          (front-taken (joined s.queue.tx s.queue.pacer).items c.in-Some.entry front) own c.reply_sent_at.ensures),
+          (front-taken (joined s.queue.tx s.queue.pacer).items c.in-Some.entry front) own
+          c.reply_sent_at.ensures.gone),
       c.pop.ensures.paces,
       servers-kept s.shares s.pool c.reply_sent_at.new.pool s.sides.items s.servers.items
           c.reply_sent_at.new.servers.items (gone-kept c.in-Reply.session c.in-Some.entry
           s.servers.items c.reply_sent_at.new.servers.items s.pool c.reply_sent_at.new.pool
-          c.reply_sent_at.ensures) c.self.invariant.2,
+          c.reply_sent_at.ensures.gone) c.self.invariant.2,
       ends-kept s.ends.items s.servers.items c.reply_sent_at.new.servers.items
           (gone-ways c.in-Reply.session c.in-Some.entry s.servers.items
           c.reply_sent_at.new.servers.items s.pool c.reply_sent_at.new.pool
-          c.reply_sent_at.ensures) c.self.invariant.3,
+          c.reply_sent_at.ensures.gone) c.self.invariant.3,
+      room-stays (ap (λ (r : Ring EntryValue). r.size) c.pop.ensures.rest) refl
+          c.reply_sent_at.ensures.room refl c.self.invariant.4,
     )
 
 pub returns-in-Ask : goal.returns-in-Ask
@@ -95,20 +103,20 @@ returns-in-Ask c =
     c.sent_at.new.sides.items s.servers.items (joined s.queue.tx s.queue.pacer) c.from.result c.in-Ask.request
     c.in-Some.entry (λ d. false) (drop 1 (joined s.queue.tx s.queue.pacer).items) c.self.invariant.0
     (front-taken (joined s.queue.tx s.queue.pacer).items c.in-Some.entry front) own c.args.now
-    c.sent_at.ensures
+    c.sent_at.ensures.sends
     ∙ ap (λ o. clients_sent c.args.now o c.in-Some.entry.number
     (map (shown_side s.pool) s.sides.items)) (sym own))))
-    (rw c.sent_at.ensures.step.leaves.pool (servers-released s.pool s.servers.items
+    (rw c.sent_at.ensures.sends.step.leaves.pool (servers-released s.pool s.servers.items
     c.in-Some.entry.place)) (sent-places s.pool c.sent_at.new.pool s.sides.items
     c.sent_at.new.sides.items s.servers.items (joined s.queue.tx s.queue.pacer) c.from.result c.in-Ask.request
     c.in-Some.entry (λ d. false) (drop 1 (joined s.queue.tx s.queue.pacer).items) c.self.invariant.0
     (front-taken (joined s.queue.tx s.queue.pacer).items c.in-Some.entry front) own c.args.now
-    c.sent_at.ensures) (drop 1)
+    c.sent_at.ensures.sends) (drop 1)
     (sent-handed s.pool c.sent_at.new.pool s.sides.items
     c.sent_at.new.sides.items s.servers.items (joined s.queue.tx s.queue.pacer) c.from.result c.in-Ask.request
     c.in-Some.entry (λ d. false) (drop 1 (joined s.queue.tx s.queue.pacer).items) c.self.invariant.0
     (front-taken (joined s.queue.tx s.queue.pacer).items c.in-Some.entry front) own c.args.now
-    c.sent_at.ensures) c.pop.ensures.queue
+    c.sent_at.ensures.sends) c.pop.ensures.queue
     (ap (λ r. r.size) c.pop.ensures.rest)
 
 pub returns-in-Reply : goal.returns-in-Reply
@@ -129,22 +137,22 @@ returns-in-Reply c =
     s.servers.items c.reply_sent_at.new.servers.items (joined s.queue.tx s.queue.pacer) c.in-Reply.session
     c.in-Reply.request c.in-Some.entry (λ d. false) (drop 1 (joined s.queue.tx s.queue.pacer).items)
     c.self.invariant.0 (front-taken (joined s.queue.tx s.queue.pacer).items c.in-Some.entry front) own
-    c.reply_sent_at.ensures
+    c.reply_sent_at.ensures.gone
     ∙ ap (λ o. clients_sent c.args.now o c.in-Some.entry.number
     (map (shown_side s.pool) s.sides.items)) (sym own))))
     (reply-servers s.pool c.reply_sent_at.new.pool s.sides.items
     s.servers.items c.reply_sent_at.new.servers.items (joined s.queue.tx s.queue.pacer) c.in-Reply.session
     c.in-Reply.request c.in-Some.entry (λ d. false) (drop 1 (joined s.queue.tx s.queue.pacer).items)
     c.self.invariant.0 (front-taken (joined s.queue.tx s.queue.pacer).items c.in-Some.entry front) own
-    c.reply_sent_at.ensures)
+    c.reply_sent_at.ensures.gone)
     (reply-places s.pool c.reply_sent_at.new.pool s.sides.items
     s.servers.items c.reply_sent_at.new.servers.items (joined s.queue.tx s.queue.pacer) c.in-Reply.session
     c.in-Reply.request c.in-Some.entry (λ d. false) (drop 1 (joined s.queue.tx s.queue.pacer).items)
     c.self.invariant.0 (front-taken (joined s.queue.tx s.queue.pacer).items c.in-Some.entry front) own
-    c.reply_sent_at.ensures) (drop 1)
+    c.reply_sent_at.ensures.gone) (drop 1)
     (reply-handed s.pool c.reply_sent_at.new.pool s.sides.items
     s.servers.items c.reply_sent_at.new.servers.items (joined s.queue.tx s.queue.pacer) c.in-Reply.session
     c.in-Reply.request c.in-Some.entry (λ d. false) (drop 1 (joined s.queue.tx s.queue.pacer).items)
     c.self.invariant.0 (front-taken (joined s.queue.tx s.queue.pacer).items c.in-Some.entry front) own
-    c.reply_sent_at.ensures) c.pop.ensures.queue
+    c.reply_sent_at.ensures.gone) c.pop.ensures.queue
     (ap (λ r. r.size) c.pop.ensures.rest)
