@@ -30,7 +30,6 @@ use Rattle.rpc_laws.specs.declared.tables.Queued.{Queued}
 use Rattle.rpc_laws.specs.declared.tables.Way.{Way}
 use Rattle.session_store.specs.Changes.{calls_in}
 use Rattle.session_store.specs.Ends.{Ascends, is_above, progress_of}
-use Rattle.session_store.specs.Joined.{is_some_due}
 use Rattle.session_store.specs.OwnRequests.{CountsRequests}
 use Rattle.session_store.specs.declared.store.control.OwnRequests.{OwnRequests}
 use Rattle.session_store.specs.Sides.{are_calls, has_calls}
@@ -364,13 +363,3 @@ module _ (S : ℕ → Client → Type 0) (xs : List Client) where
       let no : S i here.0 → ⊥ = rw here.1 at late in
       let own : S i here.0 = rw here.1 at rests in
       no own
-
--- a queue whose front may be sent
-pub front-due : (t : ℕ) (qs : List Queued) → is_some_due t (slice_get qs 0) ≡ true
-    → line t qs ≡ [] → ⊥
-front-due t [] e h = cc
-front-due t (q ∷ qs) e h = by (is_due t q.due) e h
-  where
-    by : (b : Bool) → b ≡ true → cond b (q ∷ line t qs) (line t qs) ≡ [] → ⊥
-    by true f g = cc
-    by false f g = false≢true f

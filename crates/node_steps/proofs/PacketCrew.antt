@@ -1,7 +1,7 @@
 -- A packet is handled, and the job that it makes is given to workers that have the node's jobs.
 use Rattle.std.proofs.Common.{◌≡◌, ◌≢◌, ◌<◌, ◌+◌, ℕ, Bool, true, false, cond, Option, Some, None}
-use Rattle.std.proofs.Common.{List, [], ◌∷◌, ◌++◌, length, drop, map, refl, sym, ap, ap₂, subst, ◌∙◌}
-use Rattle.std.proofs.Common.{append-nil, append_assoc, arith, IsPermutation, inl, inr}
+use Rattle.std.proofs.Common.{List, [], ◌∷◌, ◌++◌, length, drop, map, refl, sym, ap, ap₂, subst}
+use Rattle.std.proofs.Common.{◌∙◌, append-nil, append_assoc, arith, IsPermutation, inl, inr}
 use Rattle.std.specs.Prelude.{◌==◌, ◌&&◌, ◌↔◌, nat_le, IsErr, IsTrue, OnOk, Result, Ok, Err}
 use Rattle.std.specs.Prelude.{count_by, option_map, sum_by}
 use Rattle.std.specs.List.{AllByRecursion, filter, list_any}
@@ -24,7 +24,7 @@ use Rattle.rpc_laws.specs.declared.tables.Jobs.{Jobs}
 use Rattle.rpc_laws.specs.declared.tables.Timed.{Timed}
 use Rattle.rpc_laws.specs.Jobs.{are_full, is_job}
 use Rattle.rpc_laws.specs.PollOrder.{Handles, HandlesAll, NoMoreToHandle}
-use Rattle.rpc_laws.specs.Service.{Serving, served_after_all}
+use Rattle.rpc_laws.specs.Service.{Serving, rules_of, served_after_all}
 use Rattle.rpc_laws.specs.Steps.{Rel, Chain, none, more}
 use Rattle.rpc_laws.proofs.AnswerLemmas.{answers-append, served-append}
 use Rattle.rpc_outside.specs.Served.{Served, StandsForSome}
@@ -42,16 +42,17 @@ use Rattle.node_steps.proofs.HandedBack.{gives-more}
 use Rattle.node_steps.proofs.HandedGiven.{gave-none, gave-then}
 use Rattle.node_steps.specs.Changes.{◌⟶◌, Change}
 use Rattle.node_steps.specs.Jobs.{AreStaffed, CanFinish, Staff, asked_job}
-use Rattle.node_steps.specs.Fronts.{LeavesHandled}
-use Rattle.node_steps.specs.Handed.{Holding}
+use Rattle.node_steps.specs.Fronts.{HasFront, LeavesHandled}
+use Rattle.node_steps.specs.Handed.{GivesBackTo, Holding, timed_of}
 use Rattle.node_steps.specs.Lacks.{is_lack, lacks_in}
-use Rattle.node_steps.specs.Packets.{HandlesWith, MakesAllHandled, MakesHandled}
+use Rattle.node_steps.specs.Packets.{HandlesWith, MakesAllHandled}
 use Rattle.node_steps.specs.Packets.{WorksFor, with_all_given}
 use Rattle.node_steps.specs.Notes.{is_end}
 use Rattle.node_steps.specs.Seen.{Asks, arrival_of, asking, with_ask}
-use Rattle.node_steps.specs.Requests.{IsGiven, SparesShort, job_named, ring_left, with_given}
+use Rattle.node_steps.specs.Requests.{AllServed, IsGiven, SparesShort, job_named, ring_left}
+use Rattle.node_steps.specs.Requests.{service_change, with_given}
 use Rattle.node_steps.proofs.ShortLemmas.{left-append, left-goes, spares-append}
-use Rattle.node_steps.proofs.PacketSteps.{asks-as, asks-of}
+use Rattle.node_steps.proofs.PacketSteps.{MakesHandled, asks-as, asks-of}
 use Rattle.node_steps.proofs.NoteCounts.{many-append}
 use Rattle.node_steps.specs.Requests.{serves_by}
 use Rattle.node_steps.specs.Jobs.{staffed_by}
@@ -193,7 +194,8 @@ module _ (answer : ℕ → List ℕ → List ℕ) (asks : Asks) (old new : Staff
           (sym (own-asks p asks)) (subst IsMessage (sym room) most)));
     };
     limit_is = limit ∙ staffed.limit_is ∙ ap (λ (js : Jobs). js.limit) (sym given);
-    given_is = one-more ∙ ap (λ n. n + 1) staffed.given_is ∙ ap (λ (js : Jobs). js.given) (sym given);
+    given_is = one-more ∙ ap (λ n. n + 1) staffed.given_is
+        ∙ ap (λ (js : Jobs). js.given) (sym given);
   }
 
 -- such workers are full only where the node's jobs are
@@ -501,6 +503,28 @@ module _ {R K W : Type 0} (log : R → Log)
     spared = p.spared;
     wants = p.wants;
   }
+
+-- what a packet leaves, by what was made of it
+pub leaves-handled : {V W K R : Type 0} (v : Service.Ghosts V) (w : Workers.Ghosts W)
+    (given : K → List Done → Type 0) (log : R → Log) (o : Option Parcel) (a b : Holding) (f g : V)
+    (x y : W) (p q : R) (j k : K) (memory : Change ℕ) → HasFront v f a
+    → MakesHandled log given (service_change v (f ⟶ g)) (Handles v.mode_of) o
+    (timed_of a ⟶ timed_of b) (p ⟶ q) (j ⟶ k) memory
+    → AllServed v.mode_of b.lists.servers → GivesBackTo given a.handed b.handed j k
+    → w.worked y ≡ w.worked x → w.looks y ≡ w.looks x → w.team y ≡ w.team x
+    → LeavesHandled v w given (a ⟶ b) (f ⟶ g) (x ⟶ y) (j ⟶ k)
+leaves-handled v w given log o a b f g x y p q j k memory front handles served handed worked looks
+    team = record {
+      served = served;
+      founded = still-founded log given (rules_of v) (v.stands f) (v.stands g) o (timed_of a)
+          (timed_of b) p q j k memory handles front.serving.founded;
+      me = me-handled log given (rules_of v) (v.stands f) (v.stands g) o (timed_of a) (timed_of b)
+          p q j k memory handles;
+      worked = worked;
+      looks = looks;
+      team = team;
+      handed = handed;
+    }
 
 -- what packets leave, one after another
 pub leaves-handled-then : {V W K : Type 0} (v : Service.Ghosts V) (w : Workers.Ghosts W)

@@ -125,41 +125,31 @@ pub the-job : (t r : ℕ) (servers : List Server) (v : Server) (q : Served)
     ≡ record { session = t; request = q.number; req_type = q.req_type; ask = q.ask } ∷ []
 the-job t r servers v q server request = rw (server, request) refl
 
--- the name of a job that is given
-module _ (limit given : ℕ) (names : List JobName) (n : JobName) (p : Parcel)
-    (session : n.session ≡ p.session) (request : n.request ≡ p.request)
-    (req_type : n.req_type ≡ p.req_type) where
-  pub named-one : unasked n ≡ job_named p
-  named-one = rw (session, request, req_type) refl
-
-  pub named : (ms : List JobName) → ms ≡ names ++ n ∷ [] → map unasked ms
-      ≡ map unasked names ++ job_named p ∷ []
-  named ms is = ap (map unasked) is ∙ map-append unasked names (n ∷ [])
-      ∙ ap (λ j. map unasked names ++ j ∷ []) named-one
-
-  pub asking-one : (asks : Asks) (ms : List JobName) → ms ≡ names ++ n ∷ []
-      → asks p.session p.request ≡ bytes_of p.ask → asking_jobs asks (jobs_in limit (given + 1) ms)
-      ≡ record (asking_jobs asks (jobs_in limit given names)) {
-        given = given + 1;
-        out = (asking_jobs asks (jobs_in limit given names)).out
-            ++ record {
-              session = p.session;
-              request = p.request;
-              req_type = p.req_type;
-              ask = bytes_of p.ask;
-            } ∷ [];
-      }
-  asking-one asks ms is asked =
-      ap (λ (js : List Job). record { limit = limit; given = given + 1; out = js })
-      (ap (map (with_ask asks)) (named ms is)
-      ∙ map-append (with_ask asks) (map unasked names) (job_named p ∷ [])
-      ∙ ap (λ (b : List ℕ). map (with_ask asks) (map unasked names)
-      ++ record {
-        session = p.session;
-        request = p.request;
-        req_type = p.req_type;
-        ask = b;
-      } ∷ []) asked)
+-- what the jobs ask, with one that is given
+pub asking-one : (limit given : ℕ) (names : List JobName) (p : Parcel) (asks : Asks)
+    (ms : List JobName) → map unasked ms ≡ map unasked names ++ job_named p ∷ []
+    → asks p.session p.request ≡ bytes_of p.ask → asking_jobs asks (jobs_in limit (given + 1) ms)
+    ≡ record (asking_jobs asks (jobs_in limit given names)) {
+      given = given + 1;
+      out = (asking_jobs asks (jobs_in limit given names)).out
+          ++ record {
+            session = p.session;
+            request = p.request;
+            req_type = p.req_type;
+            ask = bytes_of p.ask;
+          } ∷ [];
+    }
+asking-one limit given names p asks ms named asked =
+    ap (λ (js : List Job). record { limit = limit; given = given + 1; out = js })
+    (ap (map (with_ask asks)) named
+    ∙ map-append (with_ask asks) (map unasked names) (job_named p ∷ [])
+    ∙ ap (λ (b : List ℕ). map (with_ask asks) (map unasked names)
+    ++ record {
+      session = p.session;
+      request = p.request;
+      req_type = p.req_type;
+      ask = b;
+    } ∷ []) asked)
 
 -- where the jobs aren't full, there is room for a name, and for a count
 pub has-job-room : (limit given capacity : ℕ) (names : List JobName) (full : Bool)

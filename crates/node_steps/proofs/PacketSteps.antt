@@ -1,7 +1,8 @@
 -- The packet in front of the receive ring is handled: by the server rule where it asks, and by the
 -- client rule where it replies.
-use Rattle.std.proofs.Common.{◌≡◌, ◌≢◌, ◌<◌, ℕ, Bool, true, false, cond, Option, Some, None, List, []}
-use Rattle.std.proofs.Common.{◌∷◌, ◌++◌, map, drop, length, refl, sym, ap, subst, ◌∙◌, inl, inr}
+use Rattle.std.proofs.Common.{◌≡◌, ◌≢◌, ◌<◌, ℕ, Bool, true, false, cond, Option, Some, None}
+use Rattle.std.proofs.Common.{List, [], ◌∷◌, ◌++◌, map, drop, length, refl, sym, ap, subst, ◌∙◌}
+use Rattle.std.proofs.Common.{inl, inr}
 use Rattle.std.specs.Prelude.{◌==◌, ◌⊎◌, ◌||◌, is_none, is_some, nat_le, nat_lt, not}
 use Rattle.std.specs.Prelude.{option_to_list, slice_get}
 use Rattle.std.specs.List.{AllByRecursion, filter, find, list_any}
@@ -24,7 +25,8 @@ use Rattle.rpc_base.specs.declared.state.DropReason.TheVariants.{Ahead, Mismatch
 use Rattle.rpc_base.specs.declared.state.DropReason.TheVariants.{Queued as StillQueued, StaleLife}
 use Rattle.rpc_base.specs.declared.state.DropReason.TheVariants.{WrongPeer}
 use Rattle.rpc_laws.specs.declared.rows.ClientRow.{ClientRow}
-use Rattle.rpc_laws.specs.declared.rows.ClientRow.TheVariants.{Drops as DropsReply, Takes as TakesReply}
+use Rattle.rpc_laws.specs.declared.rows.ClientRow.TheVariants.{Drops as DropsReply}
+use Rattle.rpc_laws.specs.declared.rows.ClientRow.TheVariants.{Takes as TakesReply}
 use Rattle.rpc_laws.specs.declared.rows.EndRow.{EndRow}
 use Rattle.rpc_laws.specs.declared.rows.EndRow.TheVariants.{GoesOn, EndsOk, EndsTooSmall}
 use Rattle.rpc_laws.specs.declared.rows.ServerRow.{ServerRow}
@@ -52,6 +54,7 @@ use Rattle.rpc_laws.specs.Sessions.{is_client, is_connected}
 use Rattle.rpc_laws.specs.ServerTable.{flushes, flushes_older, makes_job, served_facts}
 use Rattle.rpc_laws.specs.ServerTable.{took_facts, whole_ask}
 use Rattle.rpc_laws.specs.Service.{Answers, Serving, served_after_all}
+use Rattle.rpc_laws.specs.Steps.{Rel}
 use Rattle.rpc_outside.specs.Served.{Served}
 use Rattle.rpc_outside.specs.declared.service.Mode.{Mode}
 use Rattle.worker_board.specs.declared.Parcel.{Parcel}
@@ -60,17 +63,26 @@ use Rattle.memory_count.proofs.Risen.{none-risen}
 use Rattle.node_laws.specs.Kept.{IsPacket}
 use Rattle.node_steps.specs.Given.{Gave}
 use Rattle.node_steps.proofs.HandedGiven.{gave-same}
-use Rattle.node_steps.specs.Packets.{MakesHandled}
 use Rattle.node_steps.specs.Replies.{Drops as DropsFor, HearsReply, over_facts}
 use Rattle.node_steps.specs.Notes.{Makes, is_end}
 use Rattle.node_steps.specs.Seen.{Asks, asking}
 use Rattle.node_steps.specs.Changes.{◌⟶◌, Change}
 use Rattle.node_steps.specs.Lacks.{is_lack}
-use Rattle.node_steps.specs.Requests.{AsksAs, MakesServed, ServesRequest}
+use Rattle.node_steps.specs.Requests.{AsksAs, MakesServed, ServesRequest, ServiceChange}
 use Rattle.node_steps.proofs.NoteCounts.{many-none}
 use Rattle.node_steps.proofs.NoteStill.{AllStill}
 use Rattle.node_steps.specs.Requests.{serves_by}
 use Rattle.node_steps.proofs.ShortLemmas.{calm-still, spares-calm}
+
+-- a step that may run a handler, make a job, or end calls: the calls that the continuation was
+-- given are those whose ends were noted, in order
+pub record MakesHandled {R K : Type 0} (log : R → Log) (given : K → List Done → Type 0)
+    (service : ServiceChange) (P : Rel) (job : Option Parcel) (node : Change Timed) (rec : Change R)
+    (k : Change K) (memory : Change ℕ) : Type 0 where
+  pub serves : MakesServed log service P job node rec memory
+  pub dones : List Done
+  pub ends : filter is_end serves.makes.noted ≡ map (done_fact node.old.lists.me) dones
+  pub gave : Gave given k.old k.new dones
 
 -- what stands in front of the ring is a packet
 pub packet-there : (ring : List Arrival) (o : Option MessageHeader) → o ≡ front_header ring
@@ -79,7 +91,8 @@ packet-there [] o e none some all = some refl
 packet-there (a ∷ ring) o e none some all =
     let clash : false ≡ true = ap is_some (sym none ∙ e) ∙ all.0 in cc
 
-reads-front : (xs : List Arrival) (front : Arrival) (h : MessageHeader) → slice_get xs 0 ≡ Some front
+reads-front : (xs : List Arrival) (front : Arrival) (h : MessageHeader)
+    → slice_get xs 0 ≡ Some front
     → front_header xs ≡ Some h → message_of front.bytes ≡ Some h
 reads-front [] front h e reads = cc
 reads-front (x ∷ xs) front h e reads =
@@ -149,7 +162,8 @@ older-ends : (me : ℕ) (queued : List Queued) (v : Option Server) (r : ℕ)
 older-ends me queued None r = refl
 older-ends me queued (Some v) r = flushes-ends me queued v.way.number (find (in_slot_of r) v.slots)
 
-brings-by : (b c : Bool) (me : ℕ) (f g p : Fact) → NoEnds (f ∷ []) → NoEnds (g ∷ []) → NoEnds (p ∷ [])
+brings-by : (b c : Bool) (me : ℕ) (f g p : Fact) → NoEnds (f ∷ []) → NoEnds (g ∷ [])
+    → NoEnds (p ∷ [])
     → NoEnds (cond b (f ∷ []) (cond c (g ∷ []) [] ++ p ∷ []))
 brings-by true c me f g p one two three = one
 brings-by false true me f g p one two three = ends-append (g ∷ []) (p ∷ []) two three
@@ -166,13 +180,15 @@ served-ends mode me answer queued v h body (Drops why) = refl
 served-ends mode me answer queued v h body Begins =
     ends-append (flushes_older me queued v h.request) (took_facts mode me answer h body)
     (older-ends me queued v h.request) (took-ends mode me answer h body)
-served-ends mode me answer queued v h body Takes = took-ends mode me answer h (whole_ask v h.request body)
+served-ends mode me answer queued v h body Takes =
+    took-ends mode me answer h (whole_ask v h.request body)
 served-ends mode me answer queued v h body Repeats = refl
 
 -- the facts of a reply: the first ends no call, and the others are ends and run no handler
 abbrev AreEnds : List Fact → Type 0
 AreEnds x = (filter is_end x ≡ x)
-    × ((v : Serving) (served : Served) → Answers v served x × (served_after_all v.mode served x ≡ served))
+    × ((v : Serving) (served : Served) → Answers v served x
+    × (served_after_all v.mode served x ≡ served))
 
 abbrev IsOver : List Fact → Type 0
 IsOver [] = ⊥

@@ -12,7 +12,7 @@ use Rattle.rpc_base.specs.declared.limits.Limits.{Limits}
 use Rattle.rpc_base.specs.declared.owner.Owner.{Owner}
 use Rattle.rpc_base.specs.declared.owner.Owner.TheVariants.{Ask, Reply, Control}
 use Rattle.rpc_base.proofs.FirstLemmas.{all-kept, counted-cons}
-use Rattle.packet_header.specs.Header.{AreBytes, HasHead, InRange}
+use Rattle.packet_header.specs.Header.{HasHead, InRange}
 use Rattle.packet_rings.specs.Rings.{Ring}
 use Rattle.packet_rings.specs.Values.{DatagramValue, EntryValue}
 use Rattle.client_core.proofs.CallsLemmas.{length-at_first}
@@ -39,7 +39,7 @@ use Rattle.rpc_laws.specs.Queues.{is_due, is_queued, is_reply, made_ready, repli
 use Rattle.rpc_laws.specs.Requests.{is_request, is_server}
 use Rattle.rpc_laws.specs.Sessions.{is_client, sends}
 use Rattle.node_laws.proofs.KeptLemmas.{kept-after}
-use Rattle.session_store.specs.Queue.{IsFront, SendsFront, SpellsFront, clients_sent, packet_in}
+use Rattle.session_store.specs.Queue.{IsFront, SendsFront, clients_sent, packet_in}
 use Rattle.session_store.specs.Queue.{peer_in}
 use Rattle.session_store.specs.Sides.{Shown, queued_of}
 use Rattle.session_store.proofs.AscendsLemmas.{ascends-changed}
@@ -180,13 +180,6 @@ front-clients : (clock : ℕ) (q : Queued) (qs : List Queued) (xs ys : List Clie
 front-clients clock q [] xs ys e h = cc
 front-clients clock q (p ∷ ps) xs ys e h = let same : p ≡ q = cc in subst (λ (z : Queued). ys ≡ clients_sent clock z.owner z.number xs) same h
 
-front-spells : (s : Shown) (q : Queued) (qs : List Queued) (head body : List ℕ)
-    → slice_get qs 0 ≡ Some q → IfSome (slice_get qs 0)
-    (λ p. IsSpelled (packet_in s p.owner p.number) head body)
-    → IsSpelled (packet_in s q.owner q.number) head body
-front-spells s q [] head body e h = cc
-front-spells s q (p ∷ ps) head body e h = let same : p ≡ q = cc in subst (λ (z : Queued). IsSpelled (packet_in s z.owner z.number) head body) same h
-
 module _ (me : ℕ) (limits : Limits) (tallies : Tallies) (paces : List Pace) (jobs : Jobs)
     (clock : ℕ) (rx : Ring DatagramValue) (s t : Shown) where
   abbrev seen : Shown → Timed
@@ -220,7 +213,8 @@ module _ (me : ℕ) (limits : Limits) (tallies : Tallies) (paces : List Pace) (j
   sent-long (Reply i r) k xs = refl
   sent-long Control k xs = refl
 
-  module _ (fits : Fits (seen s) s.size s.places) (e : EntryValue) (front : IsFront clock s e)
+  module _ (fits : Fits (seen s) s.size s.places) (e : EntryValue) (head body : List ℕ)
+      (front : IsFront clock s e head body)
       (went : SendsFront clock s.queued s.clients t.clients) (servers : t.servers ≡ s.servers)
       (queued : t.queued ≡ drop 1 s.queued) where
     first : First clock s.queued e
@@ -242,23 +236,19 @@ module _ (me : ℕ) (limits : Limits) (tallies : Tallies) (paces : List Pace) (j
         ∙ ap (λ k. without_first (is_queued q.owner k) s.queued) (sym first.number)
         ∙ front-out q s.queued first.at
 
-    goes : (js : Jobs) (p : ℕ) (head body : List ℕ)
+    goes : (js : Jobs) (p : ℕ)
         → seen_with js t ≡ record {
           lists = after clock (seen_with js s).lists
               (with_two me (Sent p e.owner e.number) head body);
           clock = clock;
         }
-    goes js p head body =
+    goes js p =
         goes-by js e.owner e.number p head body (ap is_of_call (sym first.owner) ∙ ready.0) changed
         servers (out ∙ sym queued)
 
-    module _ (head body : List ℕ) (long : length head ≡ HEAD_BYTES) (bytes : AreBytes head)
-        (spells : SpellsFront s head body) where
+    module _ (long : length head ≡ HEAD_BYTES) where
       spelled : Spelled (packet_in s e.owner e.number) head body
-      spelled = spelled-out (packet_in s e.owner e.number) head body
-          (subst (λ k. IsSpelled (packet_in s e.owner k) head body) first.number
-          (subst (λ o. IsSpelled (packet_in s o q.number) head body) first.owner
-          (front-spells s q s.queued head body first.at spells)))
+      spelled = spelled-out (packet_in s e.owner e.number) head body front.spells
 
       packet-is : (js : Jobs) (o : Owner) (k : ℕ) (due : Option ℕ) → packet_in s o k
           ≡ outgoing (seen_with js s).lists (record { owner = o; number = k; due = due })
@@ -295,7 +285,7 @@ module _ (me : ℕ) (limits : Limits) (tallies : Tallies) (paces : List Pace) (j
                 in_range = spelled.in_range;
                 has_head = spelled.has_head;
                 long = long;
-                bytes = bytes;
+                bytes = front.bytes;
                 facts = ap (λ (b : List ℕ). with_two me (Sent p o k) head b ∷ []) spelled.same
                     ∙ ap (λ (z : ℕ). with_two me (Sent z o k) head spelled.out.body ∷ []) (sym peer)
                     ∙ ap (λ (z : Owner). with_two me (Sent spelled.out.peer z k) head
@@ -316,7 +306,7 @@ module _ (me : ℕ) (limits : Limits) (tallies : Tallies) (paces : List Pace) (j
                           (with_two me (Sent p e.owner z) head body);
                       clock = clock;
                     }) (sym number-is)
-                    (goes js p head body));
+                    (goes js p));
               };
             };
             took = took;
@@ -335,9 +325,9 @@ module _ (me : ℕ) (limits : Limits) (tallies : Tallies) (paces : List Pace) (j
 
     pub fits-sent : t.size ≡ s.size → t.places ≡ s.places → Fits (seen t) t.size t.places
     fits-sent size places = record {
-      kept = rw (ap (λ (u : Timed). u.lists) (goes jobs 0 [] []))
-          (kept-after clock (seen s).lists (with_two me (Sent 0 e.owner e.number) [] []) fits.kept
-          tt);
+      kept = rw (ap (λ (u : Timed). u.lists) (goes jobs 0))
+          (kept-after clock (seen s).lists (with_two me (Sent 0 e.owner e.number) head body)
+          fits.kept tt);
       ascends = rw changed (sent-kept CallsAscend
           (λ r k x up. ascends-changed (is_active r) (moved (sent_packet clock k))
           (λ d. refl) x.calls up) e.owner e.number s.clients fits.ascends);
@@ -374,8 +364,9 @@ front-fewer clock e [] rs is left = cc
 front-fewer clock e (p ∷ ps) rs is left = omega (arith, ap (λ (xs : List Queued). length xs) left)
 
 -- where the store has a front, something is queued
-pub front-there : (clock : ℕ) (e : EntryValue) (s : Shown) → IsFront clock s e → s.queued ≢ []
-front-there clock e s front = there s.queued front.front
+pub front-there : (clock : ℕ) (e : EntryValue) (head body : List ℕ) (s : Shown)
+    → IsFront clock s e head body → s.queued ≢ []
+front-there clock e head body s front = there s.queued front.front
   where
     there : (qs : List Queued) → option_map without_due (slice_get qs 0) ≡ Some (queued_of e)
         → qs ≢ []

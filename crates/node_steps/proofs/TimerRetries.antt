@@ -579,3 +579,17 @@ own-told xs i x place numbered own state end is told =
     (let at = numbered-at client_no 0 i xs x numbered place in omega (arith, at)) in
     rw (told, is.peer, is.server, is.life, is.credits, sym named)
     (told-request own x.state x.asked x.way x.limit)
+
+-- a session in another state has none
+unasked : (own : ℕ) (state : SessionState) (way : Way) (credits : ℕ) → has_request state ≡ false
+    → request_by own state way credits ≡ None
+unasked own Connecting way credits e = cc
+unasked own Closing way credits e = cc
+unasked own _ way credits e = refl
+
+pub none-told : (own : ℕ) (x : Client) (state : SessionState)
+    → state ≡ told_state x.state x.asked → has_request state ≡ false → None ≡ own_request own x
+none-told own x state told none =
+    sym (unasked own state x.way x.limit none)
+    ∙ ap (λ (s : SessionState). request_by own s x.way x.limit) told
+    ∙ told-request own x.state x.asked x.way x.limit

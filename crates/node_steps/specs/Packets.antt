@@ -1,4 +1,4 @@
--- What a node does with the packet in front of its receive ring.
+-- What a node does with the packets of its receive ring.
 use Rattle.std.specs.Prelude.{◌≡◌, ℕ, Option, Some, option_map, List, [], ◌∷◌, ◌++◌, map}
 use Rattle.std.specs.List.{AllByRecursion, filter}
 use Rattle.client_core.specs.Shown.{done_fact}
@@ -19,18 +19,8 @@ use Rattle.node_steps.specs.Jobs.{AreStaffed, Staff, StaffChange}
 use Rattle.node_steps.specs.Lacks.{lacks_in}
 use Rattle.node_steps.specs.Notes.{is_end}
 use Rattle.node_steps.specs.Seen.{Asks, asking}
-use Rattle.node_steps.specs.Requests.{MakesServed, RunsHandlers, ServiceChange, SparesShort}
-use Rattle.node_steps.specs.Requests.{ring_left, with_given}
-
--- a step that may run a handler, make a job, or end calls: the calls that the continuation was given
--- are those whose ends were noted, in order
-pub record MakesHandled {R K : Type 0} (log : R → Log) (given : K → List Done → Type 0)
-    (service : ServiceChange) (P : Rel) (job : Option Parcel) (node : Change Timed) (rec : Change R)
-    (k : Change K) (memory : Change ℕ) : Type 0 where
-  pub serves : MakesServed log service P job node rec memory
-  pub dones : List Done
-  pub ends : filter is_end serves.makes.noted ≡ map (done_fact node.old.lists.me) dones
-  pub gave : Gave given k.old k.new dones
+use Rattle.node_steps.specs.Requests.{RunsHandlers, ServiceChange, SparesShort, ring_left}
+use Rattle.node_steps.specs.Requests.{with_given}
 
 -- an endpoint's workers answer background requests as its service does
 abbrev pub WorksFor : (ℕ → List ℕ → List ℕ) → Serving → Type 0
