@@ -89,7 +89,7 @@ impl Model for Node {
     ghost use Rattle.node_steps.specs.Fits.{Fits};
     ghost use Rattle.node_steps.specs.Handed.{Holding, holding};
     ghost use Rattle.node_steps.specs.Seen.{jobs_in, seen_node};
-    ghost use Rattle.std.specs.Prelude.{◌≤◌};
+    ghost use Rattle.std.specs.Prelude.{◌≤◌, vec_capacity};
     ghost use Rattle.std.specs.VecDeque.{deque_capacity};
 
     ghost Value = { Holding };
@@ -113,13 +113,14 @@ impl Model for Node {
       counts = n.counts;
     }) n.paces.items (jobs_in n.limits.jobs n.given n.jobs.items) n.clock n.rx
         n.store) n.store.size n.store.places
-        × (n.limits.jobs ≤ deque_capacity n.jobs)
+        × ((n.limits.jobs ≤ deque_capacity n.jobs) × (n.rx.size ≤ vec_capacity n.paces))
         × Covers n.callers n.store.clients };
 }
 
 impl Node {
     /// Node `me` in a life of 1 or more, with these limits, which are in their ranges. Its lists
-    /// are empty. `NoMemory` comes where there is no memory for its rings, its inbox and its pool.
+    /// are empty. `NoMemory` comes where there is no memory for its rings, its inbox, its pool and
+    /// as many sessions of each kind as the receive ring is long.
     pub fn new(
         memory: &mut Memory,
         me: NodeId,
@@ -145,7 +146,7 @@ impl Node {
                 dropped: 0,
                 overflowed: 0,
             },
-            paces: Vec::new(memory.alloc()),
+            paces: memory.list(limits.ring as usize)?,
             given: 0,
             jobs: memory.queue(limits.jobs as usize)?,
             clock: 0,

@@ -1,11 +1,10 @@
 //! When the timers next have something to do.
-ghost use Rattle.std.specs.Prelude.{◌≡◌, ◌<◌, ◌≤◌, ◌+◌, ◌-◌, [], Some, length, slice_get, IfSome};
+ghost use Rattle.std.specs.Prelude.{◌≡◌, ◌<◌, ◌≤◌, ◌+◌, ◌-◌, Some, length, slice_get, IfSome};
 ghost use Rattle.node_steps.specs.Due.{CallsRest, DueUnless, IsBetween, IsFirstDue};
 ghost use Rattle.node_steps.specs.Due.{RequestRests};
 ghost use Rattle.node_steps.specs.Due.{RestsAt, SessionRests};
 ghost use Rattle.node_steps.specs.Wants.{HasActive};
 ghost use Rattle.rpc_laws.specs.GoBackN.{row_of};
-ghost use Rattle.rpc_laws.specs.Pacing.{line};
 ghost use Rattle.rpc_laws.specs.declared.rows.TimerRow.TheVariants.{Waits};
 ghost use Rattle.session_store.specs.Ends.{progress_of};
 
@@ -82,22 +81,12 @@ impl Node {
         self.is_call_due(i, at)
     }
 
-    // Whether a queued packet may be sent at this moment, in microseconds.
-    fn is_packet_due(&self, at: u64) -> bool
-        ensures { DueUnless (line at self.now.lists.queued ≡ []) result }
-    {
-        match self.store.front(at) {
-            Some(_front) => true,
-            None => false,
-        }
-    }
-
     /// Whether at this moment, in microseconds, a session's own request is to be sent or given up,
     /// a call times out, or a queued packet may be sent.
     pub fn is_due(&self, at: u64) -> bool
         ensures { DueUnless (RestsAt at self.now.lists) result }
     {
-        if self.is_packet_due(at) {
+        if !self.store.rests(at) {
             return true;
         }
         let count = self.store.clients();

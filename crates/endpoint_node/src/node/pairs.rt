@@ -6,7 +6,7 @@ ghost use Rattle.memory_count.specs.Faults.{HasCause, HasRisenBy};
 ghost use Rattle.node_laws.specs.NodeRun.{IsCredits};
 ghost use Rattle.node_steps.specs.Handed.{timed_of};
 ghost use Rattle.std.specs.Prelude.{◌≡◌, ◌<◌, ◌≤◌, [], None, Some, length, IfErr, IfSome, IsSome};
-ghost use Rattle.std.specs.Prelude.{OnOk};
+ghost use Rattle.std.specs.Prelude.{IsOk, OnOk};
 ghost use Rattle.node_steps.specs.Pairs.{PairsClient, PairsServer, Refuses};
 ghost use Rattle.node_steps.specs.Notes.{Makes};
 ghost use Rattle.rpc_base.specs.declared.event.Event.TheVariants.{PairedClient, PairedServer};
@@ -79,7 +79,8 @@ impl Node {
         SessionNo(self.store.clients() as u16)
     }
 
-    // The client end is made, for which the node has room. Want of memory changes nothing.
+    // The client end is made, for which the node has room. Want of memory changes nothing, and
+    // comes only where as many client sessions were made before as the ring is long.
     fn add_client<R: Recorder>(
         &mut self,
         memory: &mut Memory,
@@ -94,6 +95,7 @@ impl Node {
         requires server { server < SESSION_NUMBERS }
         ensures adds { AddsClient R.log (NotesNext (λ s. Some (PairedClient (length s.clients) peer
             server credits life))) result (self.old ⟶ self.new) (rec.old ⟶ rec.new) }
+        ensures succeeds { length self.old.lists.clients < self.old.lists.room → IsOk result }
         ensures cause { HasCause memory.old memory.new result }
     {
         let session = self.next_client();
@@ -102,11 +104,10 @@ impl Node {
             rate: 0,
             next: 0,
         };
-        memory.push(&mut self.paces, pace)?;
-        if let Err(wanting) = self.store.pair_client(memory, peer, life, server, credits) {
-            let _pace = self.paces.pop();
-            return Err(wanting);
-        }
+        // There is room for its pace before anything changes.
+        memory.of(self.paces.reserve(1))?;
+        self.store.pair_client(memory, peer, life, server, credits)?;
+        self.paces.push(pace).unwrap();
         self.known.raise(peer, life);
         let event = Event::PairedClient {
             session,
@@ -157,7 +158,8 @@ impl Node {
     /// of its endpoint, 1 or more, which comes to be known. `NumbersSpent` comes exactly where
     /// 65,535 numbers of client sessions were used, then `RingFull` exactly where the credits of
     /// the live sessions and these are more than the ring is long; both are noted. `NoMemory` is
-    /// noted nowhere. A refusal makes no session.
+    /// noted nowhere, and comes only where as many client sessions were made before as the ring is
+    /// long: the room for these was taken with the node. A refusal makes no session.
     pub fn pair_client<R: Recorder>(
         &mut self,
         memory: &mut Memory,
@@ -172,6 +174,8 @@ impl Node {
         requires credits { IsCredits credits }
         ensures makes { MakesClient R.log credits (PairsClient peer server credits life) result
             (self.old ⟶ self.new) (rec.old ⟶ rec.new) }
+        ensures never_memory { length self.old.lists.clients < self.old.lists.room
+            → IfErr result (λ why. IsSome (refused why)) }
         ensures cause { HasRisenBy (lacks result) memory.old memory.new }
     {
         let spent = usize::from(SESSION_NUMBERS) <= self.store.clients();

@@ -2,7 +2,7 @@
 ghost use Rattle.node_steps.specs.Wants.{HasPace};
 ghost use Rattle.node_steps.specs.Steps.{Steps};
 ghost use Rattle.node_steps.specs.Changes.{◌⟶◌};
-ghost use Rattle.std.specs.Prelude.{◌≡◌, ◌<◌, false, true, OnErr};
+ghost use Rattle.std.specs.Prelude.{◌≡◌, ◌<◌, false, true, vec_capacity, OnErr};
 ghost use Rattle.std.specs.List.{find};
 ghost use Rattle.node_steps.specs.Rates.{RatedAs};
 ghost use Rattle.rpc_base.specs.Tables.{at_first};
@@ -31,8 +31,9 @@ pub(super) fn lives(state: SessionState) -> bool
 // Session `i` has this rate from now on.
 fn set_rate_at(paces: &mut Vec<Pace>, i: usize, rate: u32)
     requires { HasPace i paces.old.items }
-    ensures { paces.new.items
+    ensures rated { paces.new.items
         ≡ at_first (is_pace_of i) (λ p. record p { rate = rate }) paces.old.items }
+    ensures room { vec_capacity paces.new ≡ vec_capacity paces.old }
 {
     let pace = &mut paces[i];
     pace.rate = rate;

@@ -6,7 +6,7 @@ ghost use Rattle.node_laws.specs.NodeRun.{IsCredits};
 ghost use Rattle.node_steps.specs.Steps.{Steps};
 ghost use Rattle.node_steps.specs.Changes.{◌⟶◌};
 ghost use Rattle.std.specs.Prelude.{◌≡◌, ◌<◌, ◌++◌, [], ◌∷◌, Some, true, length, IfErr, OnErr};
-ghost use Rattle.std.specs.Prelude.{OnOk};
+ghost use Rattle.std.specs.Prelude.{IsOk, IsSome, OnOk};
 ghost use Rattle.std.specs.List.{find};
 ghost use Rattle.node_steps.specs.Pairs.{StartsRate};
 ghost use Rattle.rpc_base.specs.declared.event.Event.TheVariants.{Closing, Opened};
@@ -37,7 +37,7 @@ fn is_connected(state: SessionState) -> bool
 
 impl Node {
     // The next client session is opened, for which the node has room. Want of memory changes
-    // nothing.
+    // nothing, and comes only where as many sessions were made before as the ring is long.
     fn open_client<R: Recorder>(
         &mut self,
         memory: &mut Memory,
@@ -51,6 +51,7 @@ impl Node {
         ensures clients { OnOk result (self.new.lists.clients ≡ self.old.lists.clients
             ++ opened_end (length self.old.lists.clients) peer credits ∷ []) }
         ensures me { self.new.lists.me ≡ self.old.lists.me }
+        ensures succeeds { length self.old.lists.clients < self.old.lists.room → IsOk result }
         ensures cause { HasCause memory.old memory.new result }
     {
         let session = self.next_client();
@@ -59,11 +60,10 @@ impl Node {
             rate: 0,
             next: 0,
         };
-        memory.push(&mut self.paces, pace)?;
-        if let Err(wanting) = self.store.open(memory, peer, credits) {
-            let _pace = self.paces.pop();
-            return Err(wanting);
-        }
+        // There is room for its pace before anything changes.
+        memory.of(self.paces.reserve(1))?;
+        self.store.open(memory, peer, credits)?;
+        self.paces.push(pace).unwrap();
         self.callers.enter(session.0);
         let event = Event::Opened {
             session,
@@ -91,7 +91,8 @@ impl Node {
     /// request to connect goes out in the next poll. `NumbersSpent` comes exactly where 65,535
     /// numbers of client sessions were used, then `RingFull` exactly where the credits of the live
     /// sessions and these are more than the ring is long; both are noted. `NoMemory` is noted
-    /// nowhere. A refusal opens no session.
+    /// nowhere, and comes only where as many client sessions were made before as the ring is long:
+    /// the room for these was taken with the node. A refusal opens no session.
     pub fn connect<R: Recorder>(
         &mut self,
         memory: &mut Memory,
@@ -103,6 +104,8 @@ impl Node {
         requires credits { IsCredits credits }
         ensures makes { MakesClient R.log credits (Connects peer credits rate) result
             (self.old ⟶ self.new) (rec.old ⟶ rec.new) }
+        ensures never_memory { length self.old.lists.clients < self.old.lists.room
+            → IfErr result (λ why. IsSome (refused why)) }
         ensures cause { HasRisenBy (lacks result) memory.old memory.new }
     {
         let spent = usize::from(SESSION_NUMBERS) <= self.store.clients();

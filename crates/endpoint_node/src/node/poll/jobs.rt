@@ -3,11 +3,13 @@ ghost use Rattle.node_steps.specs.Steps.{LeavesJobs, StepsJobs};
 ghost use Rattle.node_steps.specs.Changes.{◌⟶◌};
 ghost use Rattle.node_steps.specs.Handed.{timed_of};
 ghost use Rattle.std.specs.Prelude.{◌≡◌, ◌<◌, ◌≤◌, ◌⊎◌, true, false, None, length, [], slice_get};
+ghost use Rattle.std.specs.Prelude.{◌++◌, ◌∷◌, map};
 ghost use Rattle.std.specs.List.{find, position, remove};
 ghost use Rattle.std.specs.VecDeque.{deque_capacity};
 ghost use Rattle.node_steps.specs.Jobs.{AnswersTo, AsksOf, NoneBack, is_named};
 ghost use Rattle.node_steps.specs.Notes.{MakesWhere};
-ghost use Rattle.node_steps.specs.Requests.{FinishesWith};
+ghost use Rattle.node_steps.specs.Requests.{FinishesWith, job_named};
+ghost use Rattle.node_steps.specs.Seen.{unasked};
 ghost use Rattle.message_buffer.specs.Buffer.{bytes_of};
 ghost use Rattle.node_laws.specs.Kept.{Kept};
 ghost use Rattle.packet_header.specs.Parts.{IsMessage};
@@ -17,7 +19,7 @@ ghost use Rattle.rpc_laws.specs.Queues.{replies};
 ghost use Rattle.rpc_laws.specs.Requests.{is_server};
 ghost use Rattle.session_store.specs.Handing.{AreOfCalls};
 ghost use Rattle.session_store.specs.Joined.{put_listed};
-ghost use Rattle.session_store.specs.Sides.{HasRoom};
+ghost use Rattle.session_store.specs.Serving.{CanReply};
 
 use crate::node::Node;
 use node_steps::JobName;
@@ -68,12 +70,25 @@ fn take_job(jobs: &mut VecDeque<JobName>, session: SessionNo, request: RequestNo
     take_at(jobs, place)
 }
 
+/// The job of a parcel is one more of those that are out.
+pub fn put_job(jobs: &mut VecDeque<JobName>, parcel: &Parcel)
+    requires room { length jobs.old.items < deque_capacity jobs.old }
+    ensures named { map unasked jobs.new.items
+        ≡ map unasked jobs.old.items ++ job_named parcel.now ∷ [] }
+    ensures capacity { deque_capacity jobs.new ≡ deque_capacity jobs.old }
+{
+    jobs.push_back_reserved(JobName {
+        session: parcel.session,
+        request: parcel.request,
+        req_type: parcel.req_type,
+    });
+}
+
 // The answer of a job goes to its session, and the reply behind what is ready where its request
 // waits for it.
 fn post_answer(store: &mut Store, parcel: Parcel) -> Option<Entry>
     requires answer { IsMessage parcel.out.len }
-    requires ring { length store.old.queued < store.old.size }
-    requires room { HasRoom store.old }
+    requires reply { CanReply store.old }
     ensures servers { AnswersTo (position (is_server parcel.session) store.old.servers)
         parcel.request (bytes_of parcel.out) result store.old.servers store.new.servers }
     ensures clients { store.new.clients ≡ store.old.clients }

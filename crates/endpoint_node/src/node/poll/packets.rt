@@ -3,11 +3,11 @@ ghost use Rattle.node_steps.specs.Fronts.{HasFront, LeavesHandled, CanServe};
 ghost use Rattle.node_steps.specs.Changes.{◌⟶◌};
 ghost use Rattle.node_steps.specs.Jobs.{staff_change};
 ghost use Rattle.rpc_laws.specs.Service.{rules_of};
-ghost use Rattle.node_steps.specs.Handed.{GivesBackTo, timed_of};
+ghost use Rattle.node_steps.specs.Handed.{timed_of};
 ghost use Rattle.std.specs.Prelude.{◌≡◌, ◌≢◌, ◌<◌, ◌≤◌, ◌+◌, ◌==◌, not, [], true, false, drop};
 ghost use Rattle.std.specs.Prelude.{length};
-ghost use Rattle.node_steps.specs.Packets.{MakesAllHandled, MakesHandled, WorksFor};
-ghost use Rattle.node_steps.specs.Requests.{AllServed, service_change};
+ghost use Rattle.node_steps.specs.Packets.{MakesAllHandled, WorksFor};
+ghost use Rattle.node_steps.specs.Requests.{service_change};
 ghost use Rattle.rpc_laws.specs.PollOrder.{Handles, HandlesAll, NoMoreToHandle};
 ghost use Rattle.rpc_laws.specs.Queues.{replies};
 
@@ -20,7 +20,6 @@ use memory_count::Memory;
 use packet_header::{Kind, MessageHeader};
 use rpc_base::{DropReason, MOST_RING};
 use rpc_outside::{Recorder, Service};
-use worker_board::Parcel;
 use worker_crew::Workers;
 
 impl Node {
@@ -33,55 +32,9 @@ impl Node {
 
     /// A turn of step 3 of a poll: handles the packet in front of the receive ring, while fewer
     /// replies are queued than the ring is long. One for another life is dropped, before anything
-    /// else is looked at. A call that ends goes to the continuation. What is given out is the job
-    /// that a request made, for a worker.
-    pub fn handle_front<V: Service, K: Continuation, R: Recorder>(
-        &mut self,
-        memory: &mut Memory,
-        service: &mut V,
-        k: &mut K,
-        rec: &mut R,
-    ) -> Option<Parcel>
-        requires { HasFront V.Service service.old self.old }
-        ensures handles { MakesHandled R.log K.given
-            (service_change V.Service (service.old ⟶ service.new)) (Handles V.mode_of) result
-            (timed_of self.old ⟶ timed_of self.new) (rec.old ⟶ rec.new) (k.old ⟶ k.new)
-            (memory.old ⟶ memory.new) }
-        ensures ring { self.new.lists.ring ≡ drop 1 self.old.lists.ring }
-        ensures served { AllServed V.mode_of self.new.lists.servers }
-        ensures handed { GivesBackTo K.given self.old.handed self.new.handed k.old k.new }
-    {
-        let Some(head) = self.front_head() else {
-            unreachable!()
-        };
-        if self.is_stale(&head) {
-            self.drop_front(DropReason::StaleLife, rec);
-            return None;
-        }
-        match head.kind {
-            Kind::Request | Kind::Rfr => self.handle_request(memory, service, &head, rec),
-            Kind::Cr | Kind::Response => match self.hear_reply(&head, rec) {
-                None => None,
-                Some(done) => {
-                    k.done(done);
-                    None
-                }
-            },
-        }
-    }
-
-    // Whether a packet can be handled: there is one, and fewer replies are queued than the ring is
-    // long.
-    fn can_handle(&self) -> bool
-        ensures some { result ≡ true → self.now.lists.ring ≢ [] }
-        ensures room { result ≡ true → replies self.now.lists.queued < self.now.lists.room }
-        ensures over { result ≡ false → NoMoreToHandle (timed_of self.now) }
-    {
-        !self.rx.is_empty() && self.has_room()
-    }
-
-    // A turn of step 3 of a poll. A job that the packet makes is given to the workers.
-    fn handle_next<V: Service, W: Workers, K: Continuation, R: Recorder>(
+    /// else is looked at. A call that ends goes to the continuation, and a job that a request makes
+    /// to the workers.
+    pub fn handle_front<V: Service, W: Workers, K: Continuation, R: Recorder>(
         &mut self,
         memory: &mut Memory,
         service: &mut V,
@@ -96,16 +49,42 @@ impl Node {
             (staff_change W.Workers (workers.old ⟶ workers.new)) (Handles V.mode_of)
             (timed_of self.old ⟶ timed_of self.new) (rec.old ⟶ rec.new) (k.old ⟶ k.new)
             (memory.old ⟶ memory.new) }
-        ensures fewer { length self.new.lists.ring < length self.old.lists.ring }
+        ensures ring { self.new.lists.ring ≡ drop 1 self.old.lists.ring }
         ensures rest { LeavesHandled V.Service W.Workers K.given (self.old ⟶ self.new)
             (service.old ⟶ service.new) (workers.old ⟶ workers.new) (k.old ⟶ k.new) }
     {
-        let Some(parcel) = self.handle_front(memory, service, k, rec) else {
-            return;
+        let Some(head) = self.front_head() else {
+            unreachable!()
         };
-        self.sound();
-        // Workers that have the jobs of the node aren't full: the node counts them.
-        let _given = workers.give(parcel);
+        if self.is_stale(&head) {
+            self.drop_front(DropReason::StaleLife, rec);
+            return;
+        }
+        match head.kind {
+            Kind::Request | Kind::Rfr => {
+                let Some(parcel) = self.handle_request(memory, service, &head, rec) else {
+                    return;
+                };
+                self.sound();
+                // Workers that have the jobs of the node aren't full: the node counts them.
+                let _given = workers.give(parcel);
+            }
+            Kind::Cr | Kind::Response => {
+                if let Some(done) = self.hear_reply(&head, rec) {
+                    k.done(done);
+                }
+            }
+        }
+    }
+
+    // Whether a packet can be handled: there is one, and fewer replies are queued than the ring is
+    // long.
+    fn can_handle(&self) -> bool
+        ensures some { result ≡ true → self.now.lists.ring ≢ [] }
+        ensures room { result ≡ true → replies self.now.lists.queued < self.now.lists.room }
+        ensures over { result ≡ false → NoMoreToHandle (timed_of self.now) }
+    {
+        !self.rx.is_empty() && self.has_room()
     }
 
     /// Step 3 of a poll: the packets of the receive ring are handled in the order of their arrival,
@@ -134,7 +113,7 @@ impl Node {
     {
         let before = self.rx.len();
         'packets: while self.can_handle() {
-            self.handle_next(memory, service, workers, k, rec);
+            self.handle_front(memory, service, workers, k, rec);
         }
         before - self.rx.len()
     }

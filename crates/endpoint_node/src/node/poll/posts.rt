@@ -4,7 +4,7 @@ ghost use Rattle.node_steps.specs.Steps.{Steps};
 ghost use Rattle.node_steps.specs.Changes.{◌⟶◌};
 ghost use Rattle.node_steps.specs.Handed.{timed_of};
 ghost use Rattle.node_steps.specs.Leaves.{LeavesServing};
-ghost use Rattle.std.specs.Prelude.{◌≡◌, ◌<◌, ◌≤◌, option_map, true};
+ghost use Rattle.std.specs.Prelude.{◌≡◌, ◌<◌, ◌≤◌, option_map, true, vec_capacity};
 ghost use Rattle.std.specs.List.{find};
 ghost use Rattle.rpc_base.specs.Tables.{at_first};
 ghost use Rattle.node_steps.specs.Measures.{free_at, waiting_at};
@@ -52,7 +52,8 @@ fn due_of(paces: &Vec<Pace>, i: usize, clock: u64) -> Option<u64>
 fn delay(paces: &mut Vec<Pace>, i: usize, clock: u64, size: u64)
     requires pace { HasPace i paces.old.items }
     requires size { size ≤ MOST_DATAGRAM_BYTES }
-    ensures { paces.new.items ≡ at_first (is_paced i) (delayed clock size) paces.old.items }
+    ensures delays { paces.new.items ≡ at_first (is_paced i) (delayed clock size) paces.old.items }
+    ensures room { vec_capacity paces.new ≡ vec_capacity paces.old }
 {
     let pace = &mut paces[i];
     if pace.rate == 0 {

@@ -13,7 +13,7 @@ ghost use Rattle.rpc_outside.specs.declared.link.Taken.TheVariants.{Busy, Whole}
 
 use crate::node::Node;
 use node_steps::Sending;
-use rpc_base::{Event, HEAD_BYTES, MOST_RING, Who};
+use rpc_base::{Event, HEAD_BYTES, Who};
 use rpc_outside::{Failed, Link, Recorder, Taken};
 
 impl Node {
@@ -43,12 +43,12 @@ impl Node {
         ensures lists { NoneComes L.waiting L.received link.old link.new }
         ensures cause { HasCause (L.faults link.old) (L.faults link.new) result }
     {
-        let Some(entry) = self.store.front(self.clock) else {
+        let mut head = [0u8; HEAD_BYTES];
+        let Some(packet) = self.store.front(self.clock, &mut head) else {
             return Ok(None);
         };
-        let mut head = [0u8; HEAD_BYTES];
-        let body = self.store.packet(&mut head);
-        match link.send(entry.peer, &head, body)? {
+        let entry = packet.entry;
+        match link.send(entry.peer, &head, packet.body)? {
             Taken::Busy => Ok(Some(Taken::Busy)),
             Taken::Whole => {
                 let event = Event::Sent {
@@ -56,15 +56,15 @@ impl Node {
                     owner: entry.owner,
                     number: entry.number,
                 };
-                rec.note(Who::Node(self.me), event, &head, body);
+                rec.note(Who::Node(self.me), event, &head, packet.body);
                 self.store.sent(self.clock);
                 Ok(Some(Taken::Whole))
             }
         }
     }
 
-    // What is ready is sent, the oldest first, and then what is due by now, until none of it is left
-    // or the link is busy or fails.
+    // What is ready is sent, the oldest first, and then what is due by now, until none of it is
+    // left, or the link is busy or fails.
     fn send_ready<L: Link, R: Recorder>(
         &mut self,
         link: &mut L,

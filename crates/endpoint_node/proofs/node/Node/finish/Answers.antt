@@ -14,7 +14,7 @@ invariant_of-self g c =
     c.args.parcel.request) c.self.inside.jobs.items (sym c.take_job.ensures.found ∙
     c.in_default.is) in (
       rw same c.self.invariant.0,
-      omega (arith, c.take_job.ensures.capacity, c.self.invariant.1),
+      (omega (arith, c.take_job.ensures.capacity, c.self.invariant.1.0), c.self.invariant.1.1),
       c.self.invariant.2,
     )
 
@@ -29,34 +29,32 @@ returns-in_default-clause-none g c = λ none.
           c.self.inside.jobs.items None (sym c.in_default.is ∙ c.take_job.ensures.found)),
     )
 
-pub post_answer-requires-clause-ring : goal.post_answer-requires-clause-ring
-post_answer-requires-clause-ring g c =
-    ring-room c.self.inside.me c.self.inside.limits
-    (record {
-      life = c.self.inside.life;
-      known = c.self.inside.known;
-      asked = c.self.inside.asked;
-      server_numbers = c.self.inside.server_numbers;
-      inbox = c.self.inside.inbox;
-      counts = c.self.inside.counts;
-    }) c.self.inside.paces.items (jobs_in c.self.inside.limits.jobs c.self.inside.given
-    c.self.inside.jobs.items)
-    c.self.inside.clock c.self.inside.rx c.self.inside.store c.self.invariant.0
-    (rw (← c.self.view_is) at c.requires.room)
-
-pub post_answer-requires-clause-room : goal.post_answer-requires-clause-room
-post_answer-requires-clause-room g c =
-    pool-room c.self.inside.me c.self.inside.limits
-    (record {
-      life = c.self.inside.life;
-      known = c.self.inside.known;
-      asked = c.self.inside.asked;
-      server_numbers = c.self.inside.server_numbers;
-      inbox = c.self.inside.inbox;
-      counts = c.self.inside.counts;
-    }) c.self.inside.paces.items (jobs_in c.self.inside.limits.jobs c.self.inside.given
-    c.self.inside.jobs.items)
-    c.self.inside.clock c.self.inside.rx c.self.inside.store c.self.invariant.0
+pub post_answer-requires-clause-reply : goal.post_answer-requires-clause-reply
+post_answer-requires-clause-reply g c = record {
+  ring = ring-room c.self.inside.me c.self.inside.limits
+      (record {
+        life = c.self.inside.life;
+        known = c.self.inside.known;
+        asked = c.self.inside.asked;
+        server_numbers = c.self.inside.server_numbers;
+        inbox = c.self.inside.inbox;
+        counts = c.self.inside.counts;
+      }) c.self.inside.paces.items (jobs_in c.self.inside.limits.jobs c.self.inside.given
+      c.self.inside.jobs.items)
+      c.self.inside.clock c.self.inside.rx c.self.inside.store c.self.invariant.0
+      (rw (← c.self.view_is) at c.requires.room);
+  room = pool-room c.self.inside.me c.self.inside.limits
+      (record {
+        life = c.self.inside.life;
+        known = c.self.inside.known;
+        asked = c.self.inside.asked;
+        server_numbers = c.self.inside.server_numbers;
+        inbox = c.self.inside.inbox;
+        counts = c.self.inside.counts;
+      }) c.self.inside.paces.items (jobs_in c.self.inside.limits.jobs c.self.inside.given
+      c.self.inside.jobs.items)
+      c.self.inside.clock c.self.inside.rx c.self.inside.store c.self.invariant.0;
+}
 
 pub invariant_of-self-in_default-post_answer : goal.invariant_of-self-in_default-post_answer
 invariant_of-self-in_default-post_answer g c = (
@@ -79,7 +77,7 @@ invariant_of-self-in_default-post_answer g c = (
       (Some c.in-Some.job) (sym c.in-Some.is ∙ c.take_job.ensures.found))
       (rw c.in_default-post_answer.is at c.post_answer.ensures.servers)
       (rw c.in_default-post_answer.is at c.post_answer.ensures.queued),
-  omega (arith, c.take_job.ensures.capacity, c.self.invariant.1),
+  (omega (arith, c.take_job.ensures.capacity, c.self.invariant.1.0), c.self.invariant.1.1),
   rw c.post_answer.ensures.clients c.self.invariant.2,
 )
 
@@ -103,7 +101,8 @@ returns-in_default-post_answer-clause-done g c = λ yes.
     (job-found _ _ c.self.inside.limits.jobs c.self.inside.given c.self.inside.jobs.items
     (Some c.in-Some.job) (sym c.in-Some.is ∙ c.take_job.ensures.found))
     (rw c.in_default-post_answer.is at c.post_answer.ensures.servers)
-    (rw c.in_default-post_answer.is at c.post_answer.ensures.queued) g.R.Recorder.log c.args.rec.now c.note.new.self
+    (rw c.in_default-post_answer.is at c.post_answer.ensures.queued) g.R.Recorder.log
+    c.args.rec.now c.note.new.self
     _ _ c.bytes-ask.ensures.message c.bytes-answer.ensures.message c.note.ensures)
 
 pub returns-in_default-post_answer-clause-jobs : goal.returns-in_default-post_answer-clause-jobs
@@ -134,7 +133,7 @@ invariant_of-self-2 g c = (
       (rw c.in-Some-post_answer.is at c.post_answer.ensures.servers)
       (rw c.in-Some-post_answer.is at c.post_answer.ensures.queued) (rw (← c.self.view_is) at
       c.requires.room),
-  omega (arith, c.take_job.ensures.capacity, c.self.invariant.1),
+  (omega (arith, c.take_job.ensures.capacity, c.self.invariant.1.0), c.self.invariant.1.1),
   rw c.post_answer.ensures.clients c.self.invariant.2,
 )
 
@@ -159,7 +158,8 @@ returns-clause-done g c = λ yes.
     (Some c.in-Some.job) (sym c.in-Some.is ∙ c.take_job.ensures.found))
     c.in-Some-post_answer.entry
     (rw c.in-Some-post_answer.is at c.post_answer.ensures.servers)
-    (rw c.in-Some-post_answer.is at c.post_answer.ensures.queued) g.R.Recorder.log c.args.rec.now c.note.new.self c.note-2.new.self
+    (rw c.in-Some-post_answer.is at c.post_answer.ensures.queued) g.R.Recorder.log
+    c.args.rec.now c.note.new.self c.note-2.new.self
     _ _ _ c.bytes-ask.ensures.message c.bytes-answer.ensures.message
     (ap (λ e. e.number) c.entry.view_is) c.note.ensures c.note-2.ensures)
 
@@ -174,8 +174,8 @@ returns-in_default-clause-rest g c = record {
   served = λ mode served. rw (← c.self.view_is) at served;
   background = λ mode all.
       still-background mode _ _ _ _ (ap (λ (js : Jobs). js.out) (jobs-left _ _
-      c.self.inside.limits.jobs c.self.inside.given c.self.inside.jobs.items c.take_job.new.jobs.items
-      c.take_job.ensures.left)) (rw (← c.self.view_is) at all);
+      c.self.inside.limits.jobs c.self.inside.given c.self.inside.jobs.items
+      c.take_job.new.jobs.items c.take_job.ensures.left)) (rw (← c.self.view_is) at all);
   handed = ap (λ (n : Holding). n.handed) c.self.view_is;
 }
 
@@ -186,8 +186,8 @@ returns-in_default-post_answer-clause-rest g c = record {
       still-served mode _ _ _ _ _ _ c.post_answer.ensures.servers (rw (← c.self.view_is) at served);
   background = λ mode all.
       still-background mode _ _ _ _ (ap (λ (js : Jobs). js.out) (jobs-left _ _
-      c.self.inside.limits.jobs c.self.inside.given c.self.inside.jobs.items c.take_job.new.jobs.items
-      c.take_job.ensures.left)) (rw (← c.self.view_is) at all);
+      c.self.inside.limits.jobs c.self.inside.given c.self.inside.jobs.items
+      c.take_job.new.jobs.items c.take_job.ensures.left)) (rw (← c.self.view_is) at all);
   handed = c.post_answer.ensures.handed ∙ ap (λ (n : Holding). n.handed) c.self.view_is;
 }
 
@@ -198,7 +198,7 @@ returns-clause-rest g c = record {
       still-served mode _ _ _ _ _ _ c.post_answer.ensures.servers (rw (← c.self.view_is) at served);
   background = λ mode all.
       still-background mode _ _ _ _ (ap (λ (js : Jobs). js.out) (jobs-left _ _
-      c.self.inside.limits.jobs c.self.inside.given c.self.inside.jobs.items c.take_job.new.jobs.items
-      c.take_job.ensures.left)) (rw (← c.self.view_is) at all);
+      c.self.inside.limits.jobs c.self.inside.given c.self.inside.jobs.items
+      c.take_job.new.jobs.items c.take_job.ensures.left)) (rw (← c.self.view_is) at all);
   handed = c.post_answer.ensures.handed ∙ ap (λ (n : Holding). n.handed) c.self.view_is;
 }

@@ -2,7 +2,7 @@ use Rattle.std.proofs.Common.{refl, arith}
 use Rattle.node_steps.specs.Jobs.{staff_of}
 use Rattle.rpc_laws.specs.Service.{rules_of}
 use Rattle.node_steps.proofs.PacketCrew.{all-handled-more, all-handled-none, all-handled-over}
-use Rattle.node_steps.proofs.PacketCrew.{leaves-handled-then}
+use Rattle.node_steps.proofs.PacketCrew.{leaves-handled-then, ring-fewer}
 use Rattle.node_steps.proofs.HandedBack.{gives-none}
 use Rattle.endpoint_node.proofs.node.Node.handle_all.Goals as goal
 
@@ -26,14 +26,15 @@ packets-init g c = record {
 pub packets-preserved : goal.packets-preserved
 packets-preserved g c =
     let i = c.packets.invariant in
-    let h = c.handle_next.ensures in
+    let h = c.handle_front.ensures in
+    let one = ring-fewer _ _ (c.can_handle.ensures.some c.packets-test.true) h.ring in
     record {
       handles = all-handled-more g.R.Recorder.log g.K.Continuation.given
           (staff_of g.W.Workers) (rules_of g.V.Service)
           g.W.Workers.answer _ _ _ _ _ _ _ _ _ _ _ _ _ _ _ _ _ _ _ i.rest.me i.handles h.handles;
       rest = leaves-handled-then g.V.Service g.W.Workers g.K.Continuation.given
           _ _ _ _ _ _ _ _ _ _ _ _ i.rest h.rest;
-      fewer = omega (arith, h.fewer, i.fewer);
+      fewer = omega (arith, one, i.fewer);
     }
 
 pub returns-clause-handles : goal.returns-clause-handles

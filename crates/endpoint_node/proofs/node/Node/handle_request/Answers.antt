@@ -1,8 +1,18 @@
-use Rattle.std.proofs.Common.{sym, ap, ◌∙◌, rules}
+use Rattle.std.proofs.Common.{◌+◌, ℕ, List, length, refl, sym, ap, subst, ◌∙◌, arith, rules}
+use Rattle.rpc_base.specs.declared.limits.TheConstants.{HEAD_BYTES}
 use Rattle.std.specs.Option.{option_copied}
-use Rattle.node_steps.proofs.PacketReplies.{some-front}
-use Rattle.node_steps.proofs.PacketRequests.{node-stranger, node-unknown}
-use Rattle.node_steps.proofs.PacketServers.{alike, differ, number-there, peer-there}
+use Rattle.packet_header.specs.Header.{MessageLength}
+use Rattle.packet_header.specs.Reading.{body_of}
+use Rattle.node_steps.proofs.NodeFits.{has-places}
+use Rattle.node_steps.proofs.PacketReplies.{body-there, ring-left, some-front}
+use Rattle.node_steps.proofs.PacketJobs.{asking-one, has-job-room}
+use Rattle.node_steps.proofs.PacketRequests.{fits-again, fits-drop, fits-give, fits-ran}
+use Rattle.node_steps.proofs.PacketRequests.{fits-took-it, node-again, node-drop, node-give}
+use Rattle.node_steps.proofs.PacketRequests.{node-ran, node-stranger, node-took-it, node-unknown}
+use Rattle.node_steps.proofs.PacketRequests.{unfull-of}
+use Rattle.node_steps.proofs.PacketServers.{alike, as-asked, differ, has-reply-room, number-there}
+use Rattle.node_steps.proofs.PacketServers.{peer-there, served-then, served-there}
+use Rattle.node_steps.specs.Changes.{◌⟶◌}
 use Rattle.node_steps.specs.Seen.{jobs_in}
 use Rattle.node_steps.specs.Handed.{timed_of}
 use Rattle.endpoint_node.proofs.node.Node.handle_request.Goals as goal
@@ -28,7 +38,8 @@ returns-in_default-place_of_server g c = record {
         counts = c.self.inside.counts;
       }) c.self.inside.paces.items (jobs_in c.self.inside.limits.jobs c.self.inside.given
       c.self.inside.jobs.items) c.self.inside.clock c.self.inside.rx c.self.inside.store
-      c.self.invariant.0 c.args.head.now c.in-Some.front.now front c.requires.asking here g.V.Service
+      c.self.invariant.0 c.args.head.now c.in-Some.front.now front c.requires.asking here
+      g.V.Service
       g.R.Recorder.log c.args.rec.now c.drop_front.new.rec g.V.Service.answer
       (g.V.Service.stands c.args.service.now) (g.V.Service.stands c.args.service.now)
       (timed_of c.drop_front.new.self) c.args.memory.now
@@ -58,7 +69,8 @@ returns-then-ne g c = record {
         counts = c.self.inside.counts;
       }) c.self.inside.paces.items (jobs_in c.self.inside.limits.jobs c.self.inside.given
       c.self.inside.jobs.items) c.self.inside.clock c.self.inside.rx c.self.inside.store
-      c.self.invariant.0 c.args.head.now c.in-Some.front.now front c.requires.asking here g.V.Service
+      c.self.invariant.0 c.args.head.now c.in-Some.front.now front c.requires.asking here
+      g.V.Service
       g.R.Recorder.log c.args.rec.now c.drop_front-then-ne.new.rec
       g.V.Service.answer (g.V.Service.stands c.args.service.now) (g.V.Service.stands
       c.args.service.now) (timed_of c.drop_front-then-ne.new.self) c.args.memory.now
@@ -72,10 +84,521 @@ returns-then-ne g c = record {
   handed = search rules;
 }
 
-pub handle_at-requires-clause-peer : goal.handle_at-requires-clause-peer
-handle_at-requires-clause-peer g c =
+pub on_packet-step-requires-clause-session : goal.on_packet-step-requires-clause-session
+on_packet-step-requires-clause-session g c =
+    let place = sym c.place_of_server.ensures ∙ c.in-Some-place_of_server.is in
+    (number-there c.args.head.now.session c.in-Some-place_of_server.i c.self.inside.store.servers
+    place).1
+
+pub on_packet-step-requires-clause-asking : goal.on_packet-step-requires-clause-asking
+on_packet-step-requires-clause-asking g c =
     let here = sym c.front.ensures ∙ ap option_copied c.in-Some.is in
-    rw (← c.self.view_is) (peer-there c.self.inside.store.servers c.in-Some-place_of_server.i
+    let asked = c.body-asked.ensures ∙ ap body_of c.bytes.ensures.bytes in
+    let long = rw (← c.self.view_is) at c.requires.long in
+    let same = body-there c.self.inside.rx.items c.in-Some.front.now here ∙ sym asked in
+    record {
+      kind = c.requires.asking;
+      in_range = c.requires.in_range;
+      body = subst (λ (b : List ℕ). MessageLength c.args.head.now.kind c.args.head.now.size
+          c.args.head.now.number (HEAD_BYTES + length b)) same long;
+    }
+
+pub on_packet-step-requires-clause-reply : goal.on_packet-step-requires-clause-reply
+on_packet-step-requires-clause-reply g c =
+    let fits = c.self.invariant.0 in
+    let few = rw (← c.self.view_is) at c.requires.room in
+    record {
+      ring = has-reply-room _ _ fits.kept fits.sendable few fits.packets;
+      room = has-places _ _ fits.kept fits.settled fits.credits fits.jobs fits.buffers;
+    }
+
+pub on_packet-step-requires-clause-all_served : goal.on_packet-step-requires-clause-all_served
+on_packet-step-requires-clause-all_served g c =
+    let served = rw (← c.self.view_is) at c.requires.serving.served in
+    served-there g.V.Service.mode_of c.self.inside.store.servers c.in-Some-place_of_server.i served
+
+pub invariant_of-self : goal.invariant_of-self
+invariant_of-self g c =
+    let front = rw (← c.self.view_is) at c.requires.front in
+    let here = sym c.front.ensures ∙ ap option_copied c.in-Some.is in
+    let full = rw (← c.self.view_is) at c.jobs_full-full.ensures in
+    let served = rw (← c.self.view_is) at c.requires.serving.served in
+    let place = sym c.place_of_server.ensures ∙ c.in-Some-place_of_server.is in
+    let peer = peer-there c.self.inside.store.servers c.in-Some-place_of_server.i
     c.peer_of_server.result c.self.inside.rx.items c.in-Some.front.now here
     c.peer_of_server.ensures (alike c.peer_of_server.result c.peer.result c.ne.result
-    c.ne.ensures c.if-ne.false ∙ c.peer.ensures))
+    c.ne.ensures c.if-ne.false ∙ c.peer.ensures) in
+    let few = rw (← c.self.view_is) at c.requires.room in
+    let asked = c.body-asked.ensures ∙ ap body_of c.bytes.ensures.bytes in
+    let p = as-asked _ _ _ _ _ _ _ _ _ _ _ asked c.in-Took.ensures.handles in (
+      fits-took-it c.self.inside.me c.self.inside.limits (record {
+        life = c.self.inside.life;
+        known = c.self.inside.known;
+        asked = c.self.inside.asked;
+        server_numbers = c.self.inside.server_numbers;
+        inbox = c.self.inside.inbox;
+        counts = c.self.inside.counts;
+      }) c.self.inside.paces.items (jobs_in c.self.inside.limits.jobs c.self.inside.given
+          c.self.inside.jobs.items) c.self.inside.clock c.self.inside.rx c.self.inside.store
+          c.self.invariant.0 c.args.head.now c.in-Some.front.now front c.requires.asking here
+          g.V.Service
+          c.in-Some-place_of_server.i c.on_packet-step.new.self
+          c.on_packet-step.ensures.handles.clients
+          c.on_packet-step.ensures.handles.size c.on_packet-step.ensures.handles.places
+          c.drop_front-2.new.self
+          c.drop_front-2.ensures c.jobs_full-full.result full served place peer few
+          g.R.Recorder.log c.args.rec.now c.on_packet-step.new.rec c.args.service.now
+          c.on_packet-step.new.service
+          c.in-Took.reply p p.reply,
+      rw c.drop_front-2.ensures c.self.invariant.1,
+      rw c.on_packet-step.ensures.handles.clients c.self.invariant.2,
+    )
+
+pub returns-in-Took : goal.returns-in-Took
+returns-in-Took g c = record {
+  serves = let front = rw (← c.self.view_is) at c.requires.front in
+      let here = sym c.front.ensures ∙ ap option_copied c.in-Some.is in
+      let full = rw (← c.self.view_is) at c.jobs_full-full.ensures in
+      let served = rw (← c.self.view_is) at c.requires.serving.served in
+      let place = sym c.place_of_server.ensures ∙ c.in-Some-place_of_server.is in
+      let peer = peer-there c.self.inside.store.servers c.in-Some-place_of_server.i
+      c.peer_of_server.result c.self.inside.rx.items c.in-Some.front.now here
+      c.peer_of_server.ensures (alike c.peer_of_server.result c.peer.result c.ne.result
+      c.ne.ensures c.if-ne.false ∙ c.peer.ensures) in
+      let few = rw (← c.self.view_is) at c.requires.room in
+      let asked = c.body-asked.ensures ∙ ap body_of c.bytes.ensures.bytes in
+      let p = as-asked _ _ _ _ _ _ _ _ _ _ _ asked c.in-Took.ensures.handles in
+      rw (← c.self.view_is) (node-took-it c.self.inside.me c.self.inside.limits (record {
+        life = c.self.inside.life;
+        known = c.self.inside.known;
+        asked = c.self.inside.asked;
+        server_numbers = c.self.inside.server_numbers;
+        inbox = c.self.inside.inbox;
+        counts = c.self.inside.counts;
+      }) c.self.inside.paces.items (jobs_in c.self.inside.limits.jobs c.self.inside.given
+      c.self.inside.jobs.items) c.self.inside.clock c.self.inside.rx c.self.inside.store
+      c.self.invariant.0 c.args.head.now c.in-Some.front.now front c.requires.asking here
+      g.V.Service
+      c.in-Some-place_of_server.i c.on_packet-step.new.self c.on_packet-step.ensures.handles.clients
+      c.on_packet-step.ensures.handles.size c.on_packet-step.ensures.handles.places
+      c.drop_front-2.new.self
+      c.drop_front-2.ensures c.jobs_full-full.result full served place peer few g.R.Recorder.log
+      c.args.rec.now c.on_packet-step.new.rec c.args.service.now c.on_packet-step.new.service
+      c.in-Took.reply p p.reply (λ was st. subst (λ z. g.V.Service.stands z was) (sym
+      c.in-Took.ensures.handles.service) st) (c.args.memory.now ⟶ c.on_packet-step.new.memory)
+      c.in-Took.ensures.cause);
+  served = let served = rw (← c.self.view_is) at c.requires.serving.served in
+      let p = c.on_packet-step.ensures.handles in
+      served-then g.V.Service.mode_of _ _ c.in-Some-place_of_server.i p.server p.later served
+      p.place p.changed
+      c.on_packet-step.ensures.handles.all_served;
+  ring = rw (← c.self.view_is)
+      (ring-left c.self.inside.rx c.drop_front-2.new.self c.drop_front-2.ensures);
+  clients = rw (← c.self.view_is) c.on_packet-step.ensures.handles.clients;
+  handed = rw (← c.self.view_is) c.on_packet-step.ensures.handles.handed;
+}
+
+pub invariant_of-self-in-Again : goal.invariant_of-self-in-Again
+invariant_of-self-in-Again g c =
+    let front = rw (← c.self.view_is) at c.requires.front in
+    let here = sym c.front.ensures ∙ ap option_copied c.in-Some.is in
+    let full = rw (← c.self.view_is) at c.jobs_full-full.ensures in
+    let served = rw (← c.self.view_is) at c.requires.serving.served in
+    let place = sym c.place_of_server.ensures ∙ c.in-Some-place_of_server.is in
+    let peer = peer-there c.self.inside.store.servers c.in-Some-place_of_server.i
+    c.peer_of_server.result c.self.inside.rx.items c.in-Some.front.now here
+    c.peer_of_server.ensures (alike c.peer_of_server.result c.peer.result c.ne.result
+    c.ne.ensures c.if-ne.false ∙ c.peer.ensures) in
+    let few = rw (← c.self.view_is) at c.requires.room in
+    let asked = c.body-asked.ensures ∙ ap body_of c.bytes.ensures.bytes in
+    let p = as-asked _ _ _ _ _ _ _ _ _ _ _ asked c.in-Again.ensures.handles in (
+      fits-again c.self.inside.me c.self.inside.limits (record {
+        life = c.self.inside.life;
+        known = c.self.inside.known;
+        asked = c.self.inside.asked;
+        server_numbers = c.self.inside.server_numbers;
+        inbox = c.self.inside.inbox;
+        counts = c.self.inside.counts;
+      }) c.self.inside.paces.items (jobs_in c.self.inside.limits.jobs c.self.inside.given
+          c.self.inside.jobs.items) c.self.inside.clock c.self.inside.rx c.self.inside.store
+          c.self.invariant.0 c.args.head.now c.in-Some.front.now front c.requires.asking here
+          g.V.Service
+          c.in-Some-place_of_server.i c.on_packet-step.new.self
+          c.on_packet-step.ensures.handles.clients
+          c.on_packet-step.ensures.handles.size c.on_packet-step.ensures.handles.places
+          c.drop_front-2.new.self
+          c.drop_front-2.ensures c.jobs_full-full.result full served place peer few
+          g.R.Recorder.log c.args.rec.now c.on_packet-step.new.rec c.args.service.now
+          c.on_packet-step.new.service
+          c.in-Again.reply p p.reply.0 p.reply.1,
+      rw c.drop_front-2.ensures c.self.invariant.1,
+      rw c.on_packet-step.ensures.handles.clients c.self.invariant.2,
+    )
+
+pub returns-in-Again : goal.returns-in-Again
+returns-in-Again g c = record {
+  serves = let front = rw (← c.self.view_is) at c.requires.front in
+      let here = sym c.front.ensures ∙ ap option_copied c.in-Some.is in
+      let full = rw (← c.self.view_is) at c.jobs_full-full.ensures in
+      let served = rw (← c.self.view_is) at c.requires.serving.served in
+      let place = sym c.place_of_server.ensures ∙ c.in-Some-place_of_server.is in
+      let peer = peer-there c.self.inside.store.servers c.in-Some-place_of_server.i
+      c.peer_of_server.result c.self.inside.rx.items c.in-Some.front.now here
+      c.peer_of_server.ensures (alike c.peer_of_server.result c.peer.result c.ne.result
+      c.ne.ensures c.if-ne.false ∙ c.peer.ensures) in
+      let few = rw (← c.self.view_is) at c.requires.room in
+      let asked = c.body-asked.ensures ∙ ap body_of c.bytes.ensures.bytes in
+      let p = as-asked _ _ _ _ _ _ _ _ _ _ _ asked c.in-Again.ensures.handles in
+      rw (← c.self.view_is) (node-again c.self.inside.me c.self.inside.limits (record {
+        life = c.self.inside.life;
+        known = c.self.inside.known;
+        asked = c.self.inside.asked;
+        server_numbers = c.self.inside.server_numbers;
+        inbox = c.self.inside.inbox;
+        counts = c.self.inside.counts;
+      }) c.self.inside.paces.items (jobs_in c.self.inside.limits.jobs c.self.inside.given
+      c.self.inside.jobs.items) c.self.inside.clock c.self.inside.rx c.self.inside.store
+      c.self.invariant.0 c.args.head.now c.in-Some.front.now front c.requires.asking here
+      g.V.Service
+      c.in-Some-place_of_server.i c.on_packet-step.new.self c.on_packet-step.ensures.handles.clients
+      c.on_packet-step.ensures.handles.size c.on_packet-step.ensures.handles.places
+      c.drop_front-2.new.self
+      c.drop_front-2.ensures c.jobs_full-full.result full served place peer few g.R.Recorder.log
+      c.args.rec.now c.on_packet-step.new.rec c.args.service.now c.on_packet-step.new.service
+      c.in-Again.reply p p.reply.0 p.reply.1 (λ was st. subst (λ z. g.V.Service.stands z was) (sym
+      c.in-Again.ensures.handles.service) st) (c.args.memory.now ⟶ c.on_packet-step.new.memory)
+      c.in-Again.ensures.cause);
+  served = let served = rw (← c.self.view_is) at c.requires.serving.served in
+      let p = c.on_packet-step.ensures.handles in
+      served-then g.V.Service.mode_of _ _ c.in-Some-place_of_server.i p.server p.later served
+      p.place p.changed
+      c.on_packet-step.ensures.handles.all_served;
+  ring = rw (← c.self.view_is)
+      (ring-left c.self.inside.rx c.drop_front-2.new.self c.drop_front-2.ensures);
+  clients = rw (← c.self.view_is) c.on_packet-step.ensures.handles.clients;
+  handed = rw (← c.self.view_is) c.on_packet-step.ensures.handles.handed;
+}
+
+pub invariant_of-self-in-Ran : goal.invariant_of-self-in-Ran
+invariant_of-self-in-Ran g c =
+    let front = rw (← c.self.view_is) at c.requires.front in
+    let here = sym c.front.ensures ∙ ap option_copied c.in-Some.is in
+    let full = rw (← c.self.view_is) at c.jobs_full-full.ensures in
+    let served = rw (← c.self.view_is) at c.requires.serving.served in
+    let place = sym c.place_of_server.ensures ∙ c.in-Some-place_of_server.is in
+    let peer = peer-there c.self.inside.store.servers c.in-Some-place_of_server.i
+    c.peer_of_server.result c.self.inside.rx.items c.in-Some.front.now here
+    c.peer_of_server.ensures (alike c.peer_of_server.result c.peer.result c.ne.result
+    c.ne.ensures c.if-ne.false ∙ c.peer.ensures) in
+    let few = rw (← c.self.view_is) at c.requires.room in
+    let asked = c.body-asked.ensures ∙ ap body_of c.bytes.ensures.bytes in
+    let p = as-asked _ _ _ _ _ _ _ _ _ _ _ asked c.in-Ran.ensures.handles in (
+      fits-ran c.self.inside.me c.self.inside.limits (record {
+        life = c.self.inside.life;
+        known = c.self.inside.known;
+        asked = c.self.inside.asked;
+        server_numbers = c.self.inside.server_numbers;
+        inbox = c.self.inside.inbox;
+        counts = c.self.inside.counts;
+      }) c.self.inside.paces.items (jobs_in c.self.inside.limits.jobs c.self.inside.given
+          c.self.inside.jobs.items) c.self.inside.clock c.self.inside.rx c.self.inside.store
+          c.self.invariant.0 c.args.head.now c.in-Some.front.now front c.requires.asking here
+          g.V.Service
+          c.in-Some-place_of_server.i c.on_packet-step.new.self
+          c.on_packet-step.ensures.handles.clients
+          c.on_packet-step.ensures.handles.size c.on_packet-step.ensures.handles.places
+          c.drop_front-2.new.self
+          c.drop_front-2.ensures c.jobs_full-full.result full served place peer few
+          g.R.Recorder.log c.args.rec.now c.on_packet-step.new.rec c.args.service.now
+          c.on_packet-step.new.service
+          c.in-Ran.reply p p.reply.0 p.reply.1 c.saturating_add-self-inside.result
+          c.saturating_add-self-inside.ensures,
+      rw c.drop_front-2.ensures c.self.invariant.1,
+      rw c.on_packet-step.ensures.handles.clients c.self.invariant.2,
+    )
+
+pub returns-in-Ran : goal.returns-in-Ran
+returns-in-Ran g c = record {
+  serves = let front = rw (← c.self.view_is) at c.requires.front in
+      let here = sym c.front.ensures ∙ ap option_copied c.in-Some.is in
+      let full = rw (← c.self.view_is) at c.jobs_full-full.ensures in
+      let served = rw (← c.self.view_is) at c.requires.serving.served in
+      let place = sym c.place_of_server.ensures ∙ c.in-Some-place_of_server.is in
+      let peer = peer-there c.self.inside.store.servers c.in-Some-place_of_server.i
+      c.peer_of_server.result c.self.inside.rx.items c.in-Some.front.now here
+      c.peer_of_server.ensures (alike c.peer_of_server.result c.peer.result c.ne.result
+      c.ne.ensures c.if-ne.false ∙ c.peer.ensures) in
+      let few = rw (← c.self.view_is) at c.requires.room in
+      let asked = c.body-asked.ensures ∙ ap body_of c.bytes.ensures.bytes in
+      let p = as-asked _ _ _ _ _ _ _ _ _ _ _ asked c.in-Ran.ensures.handles in
+      rw (← c.self.view_is) (node-ran c.self.inside.me c.self.inside.limits (record {
+        life = c.self.inside.life;
+        known = c.self.inside.known;
+        asked = c.self.inside.asked;
+        server_numbers = c.self.inside.server_numbers;
+        inbox = c.self.inside.inbox;
+        counts = c.self.inside.counts;
+      }) c.self.inside.paces.items (jobs_in c.self.inside.limits.jobs c.self.inside.given
+      c.self.inside.jobs.items) c.self.inside.clock c.self.inside.rx c.self.inside.store
+      c.self.invariant.0 c.args.head.now c.in-Some.front.now front c.requires.asking here
+      g.V.Service
+      c.in-Some-place_of_server.i c.on_packet-step.new.self c.on_packet-step.ensures.handles.clients
+      c.on_packet-step.ensures.handles.size c.on_packet-step.ensures.handles.places
+      c.drop_front-2.new.self
+      c.drop_front-2.ensures c.jobs_full-full.result full served place peer few g.R.Recorder.log
+      c.args.rec.now c.on_packet-step.new.rec c.args.service.now c.on_packet-step.new.service
+      c.in-Ran.reply p p.reply.0 p.reply.1 c.saturating_add-self-inside.result
+      c.saturating_add-self-inside.ensures (c.args.memory.now ⟶ c.on_packet-step.new.memory)
+      c.in-Ran.ensures.cause);
+  served = let served = rw (← c.self.view_is) at c.requires.serving.served in
+      let p = c.on_packet-step.ensures.handles in
+      served-then g.V.Service.mode_of _ _ c.in-Some-place_of_server.i p.server p.later served
+      p.place p.changed
+      c.on_packet-step.ensures.handles.all_served;
+  ring = rw (← c.self.view_is)
+      (ring-left c.self.inside.rx c.drop_front-2.new.self c.drop_front-2.ensures);
+  clients = rw (← c.self.view_is) c.on_packet-step.ensures.handles.clients;
+  handed = rw (← c.self.view_is) c.on_packet-step.ensures.handles.handed;
+}
+
+pub invariant_of-self-in-Dropped : goal.invariant_of-self-in-Dropped
+invariant_of-self-in-Dropped g c =
+    let front = rw (← c.self.view_is) at c.requires.front in
+    let here = sym c.front.ensures ∙ ap option_copied c.in-Some.is in
+    let full = rw (← c.self.view_is) at c.jobs_full-full.ensures in
+    let served = rw (← c.self.view_is) at c.requires.serving.served in
+    let place = sym c.place_of_server.ensures ∙ c.in-Some-place_of_server.is in
+    let peer = peer-there c.self.inside.store.servers c.in-Some-place_of_server.i
+    c.peer_of_server.result c.self.inside.rx.items c.in-Some.front.now here
+    c.peer_of_server.ensures (alike c.peer_of_server.result c.peer.result c.ne.result
+    c.ne.ensures c.if-ne.false ∙ c.peer.ensures) in
+    let few = rw (← c.self.view_is) at c.requires.room in
+    let asked = c.body-asked.ensures ∙ ap body_of c.bytes.ensures.bytes in
+    let p = as-asked _ _ _ _ _ _ _ _ _ _ _ asked c.in-Dropped.ensures.handles in (
+      fits-drop c.self.inside.me c.self.inside.limits (record {
+        life = c.self.inside.life;
+        known = c.self.inside.known;
+        asked = c.self.inside.asked;
+        server_numbers = c.self.inside.server_numbers;
+        inbox = c.self.inside.inbox;
+        counts = c.self.inside.counts;
+      }) c.self.inside.paces.items (jobs_in c.self.inside.limits.jobs c.self.inside.given
+          c.self.inside.jobs.items) c.self.inside.clock c.self.inside.rx c.self.inside.store
+          c.self.invariant.0 c.args.head.now c.in-Some.front.now front c.requires.asking here
+          g.V.Service
+          c.in-Some-place_of_server.i c.on_packet-step.new.self
+          c.on_packet-step.ensures.handles.clients
+          c.on_packet-step.ensures.handles.size c.on_packet-step.ensures.handles.places
+          c.drop_front-2.new.self
+          c.drop_front-2.ensures c.jobs_full-full.result full served place peer few
+          g.R.Recorder.log c.args.rec.now c.on_packet-step.new.rec c.args.service.now
+          c.on_packet-step.new.service
+          c.in-Dropped.field-0 p c.saturating_add-self-inside-in-Dropped.result
+          c.saturating_add-self-inside-in-Dropped.ensures,
+      rw c.drop_front-2.ensures c.self.invariant.1,
+      rw c.on_packet-step.ensures.handles.clients c.self.invariant.2,
+    )
+
+pub returns-in-Dropped : goal.returns-in-Dropped
+returns-in-Dropped g c = record {
+  serves = let front = rw (← c.self.view_is) at c.requires.front in
+      let here = sym c.front.ensures ∙ ap option_copied c.in-Some.is in
+      let full = rw (← c.self.view_is) at c.jobs_full-full.ensures in
+      let served = rw (← c.self.view_is) at c.requires.serving.served in
+      let place = sym c.place_of_server.ensures ∙ c.in-Some-place_of_server.is in
+      let peer = peer-there c.self.inside.store.servers c.in-Some-place_of_server.i
+      c.peer_of_server.result c.self.inside.rx.items c.in-Some.front.now here
+      c.peer_of_server.ensures (alike c.peer_of_server.result c.peer.result c.ne.result
+      c.ne.ensures c.if-ne.false ∙ c.peer.ensures) in
+      let few = rw (← c.self.view_is) at c.requires.room in
+      let asked = c.body-asked.ensures ∙ ap body_of c.bytes.ensures.bytes in
+      let p = as-asked _ _ _ _ _ _ _ _ _ _ _ asked c.in-Dropped.ensures.handles in
+      rw (← c.self.view_is) (node-drop c.self.inside.me c.self.inside.limits (record {
+        life = c.self.inside.life;
+        known = c.self.inside.known;
+        asked = c.self.inside.asked;
+        server_numbers = c.self.inside.server_numbers;
+        inbox = c.self.inside.inbox;
+        counts = c.self.inside.counts;
+      }) c.self.inside.paces.items (jobs_in c.self.inside.limits.jobs c.self.inside.given
+      c.self.inside.jobs.items) c.self.inside.clock c.self.inside.rx c.self.inside.store
+      c.self.invariant.0 c.args.head.now c.in-Some.front.now front c.requires.asking here
+      g.V.Service
+      c.in-Some-place_of_server.i c.on_packet-step.new.self c.on_packet-step.ensures.handles.clients
+      c.on_packet-step.ensures.handles.size c.on_packet-step.ensures.handles.places
+      c.drop_front-2.new.self
+      c.drop_front-2.ensures c.jobs_full-full.result full served place peer few g.R.Recorder.log
+      c.args.rec.now c.on_packet-step.new.rec c.args.service.now c.on_packet-step.new.service
+      c.in-Dropped.field-0 p c.saturating_add-self-inside-in-Dropped.result
+      c.saturating_add-self-inside-in-Dropped.ensures (λ was st. subst (λ z. g.V.Service.stands z
+      was) (sym c.in-Dropped.ensures.handles.service) st)
+      (c.args.memory.now ⟶ c.on_packet-step.new.memory)
+      c.in-Dropped.ensures.cause);
+  served = let served = rw (← c.self.view_is) at c.requires.serving.served in
+      let p = c.on_packet-step.ensures.handles in
+      served-then g.V.Service.mode_of _ _ c.in-Some-place_of_server.i p.server p.later served
+      p.place p.changed
+      c.on_packet-step.ensures.handles.all_served;
+  ring = rw (← c.self.view_is)
+      (ring-left c.self.inside.rx c.drop_front-2.new.self c.drop_front-2.ensures);
+  clients = rw (← c.self.view_is) c.on_packet-step.ensures.handles.clients;
+  handed = rw (← c.self.view_is) c.on_packet-step.ensures.handles.handed;
+}
+
+pub invariant_of-self-in-Give : goal.invariant_of-self-in-Give
+invariant_of-self-in-Give g c =
+    let front = rw (← c.self.view_is) at c.requires.front in
+    let here = sym c.front.ensures ∙ ap option_copied c.in-Some.is in
+    let full = rw (← c.self.view_is) at c.jobs_full-full.ensures in
+    let served = rw (← c.self.view_is) at c.requires.serving.served in
+    let place = sym c.place_of_server.ensures ∙ c.in-Some-place_of_server.is in
+    let peer = peer-there c.self.inside.store.servers c.in-Some-place_of_server.i
+    c.peer_of_server.result c.self.inside.rx.items c.in-Some.front.now here
+    c.peer_of_server.ensures (alike c.peer_of_server.result c.peer.result c.ne.result
+    c.ne.ensures c.if-ne.false ∙ c.peer.ensures) in
+    let few = rw (← c.self.view_is) at c.requires.room in
+    let asked = c.body-asked.ensures ∙ ap body_of c.bytes.ensures.bytes in
+    let p = as-asked _ _ _ _ _ _ _ _ _ _ _ asked c.in-Give.ensures.handles in (
+      fits-give c.self.inside.me c.self.inside.limits (record {
+        life = c.self.inside.life;
+        known = c.self.inside.known;
+        asked = c.self.inside.asked;
+        server_numbers = c.self.inside.server_numbers;
+        inbox = c.self.inside.inbox;
+        counts = c.self.inside.counts;
+      }) c.self.inside.paces.items (jobs_in c.self.inside.limits.jobs c.self.inside.given
+          c.self.inside.jobs.items) c.self.inside.clock c.self.inside.rx c.self.inside.store
+          c.self.invariant.0 c.args.head.now c.in-Some.front.now front c.requires.asking here
+          g.V.Service
+          c.in-Some-place_of_server.i c.on_packet-step.new.self
+          c.on_packet-step.ensures.handles.clients
+          c.on_packet-step.ensures.handles.size c.on_packet-step.ensures.handles.places
+          c.drop_front-2.new.self
+          c.drop_front-2.ensures c.jobs_full-full.result full served place peer few
+          g.R.Recorder.log c.args.rec.now c.on_packet-step.new.rec c.args.service.now
+          c.on_packet-step.new.service
+          c.in-Give.parcel p c.saturating_add-self-inside-in-Give.result
+          c.saturating_add-self-inside-in-Give.ensures (jobs_in c.self.inside.limits.jobs
+          (c.self.inside.given + 1) c.put_job.new.jobs.items) refl c.put_job.ensures.named
+          (λ asks own. asking-one c.self.inside.limits.jobs c.self.inside.given
+          c.self.inside.jobs.items c.in-Give.parcel asks _ c.put_job.ensures.named own),
+      rw (c.put_job.ensures.capacity, c.drop_front-2.ensures) c.self.invariant.1,
+      rw c.on_packet-step.ensures.handles.clients c.self.invariant.2,
+    )
+
+pub returns-in-Give : goal.returns-in-Give
+returns-in-Give g c = record {
+  serves = let front = rw (← c.self.view_is) at c.requires.front in
+      let here = sym c.front.ensures ∙ ap option_copied c.in-Some.is in
+      let full = rw (← c.self.view_is) at c.jobs_full-full.ensures in
+      let served = rw (← c.self.view_is) at c.requires.serving.served in
+      let place = sym c.place_of_server.ensures ∙ c.in-Some-place_of_server.is in
+      let peer = peer-there c.self.inside.store.servers c.in-Some-place_of_server.i
+      c.peer_of_server.result c.self.inside.rx.items c.in-Some.front.now here
+      c.peer_of_server.ensures (alike c.peer_of_server.result c.peer.result c.ne.result
+      c.ne.ensures c.if-ne.false ∙ c.peer.ensures) in
+      let few = rw (← c.self.view_is) at c.requires.room in
+      let asked = c.body-asked.ensures ∙ ap body_of c.bytes.ensures.bytes in
+      let p = as-asked _ _ _ _ _ _ _ _ _ _ _ asked c.in-Give.ensures.handles in
+      rw (← c.self.view_is) (node-give c.self.inside.me c.self.inside.limits (record {
+        life = c.self.inside.life;
+        known = c.self.inside.known;
+        asked = c.self.inside.asked;
+        server_numbers = c.self.inside.server_numbers;
+        inbox = c.self.inside.inbox;
+        counts = c.self.inside.counts;
+      }) c.self.inside.paces.items (jobs_in c.self.inside.limits.jobs c.self.inside.given
+      c.self.inside.jobs.items) c.self.inside.clock c.self.inside.rx c.self.inside.store
+      c.self.invariant.0 c.args.head.now c.in-Some.front.now front c.requires.asking here
+      g.V.Service
+      c.in-Some-place_of_server.i c.on_packet-step.new.self c.on_packet-step.ensures.handles.clients
+      c.on_packet-step.ensures.handles.size c.on_packet-step.ensures.handles.places
+      c.drop_front-2.new.self
+      c.drop_front-2.ensures c.jobs_full-full.result full served place peer few g.R.Recorder.log
+      c.args.rec.now c.on_packet-step.new.rec c.args.service.now c.on_packet-step.new.service
+      c.in-Give.parcel p c.saturating_add-self-inside-in-Give.result
+      c.saturating_add-self-inside-in-Give.ensures (jobs_in c.self.inside.limits.jobs
+      (c.self.inside.given + 1) c.put_job.new.jobs.items) refl c.put_job.ensures.named
+      (λ asks own. asking-one c.self.inside.limits.jobs c.self.inside.given
+      c.self.inside.jobs.items c.in-Give.parcel asks _ c.put_job.ensures.named own) refl
+      (λ was st. subst (λ z.
+      g.V.Service.stands z was) (sym c.in-Give.ensures.handles.service) st)
+      (c.args.memory.now ⟶ c.on_packet-step.new.memory) c.in-Give.ensures.cause);
+  served = let served = rw (← c.self.view_is) at c.requires.serving.served in
+      let p = c.on_packet-step.ensures.handles in
+      served-then g.V.Service.mode_of _ _ c.in-Some-place_of_server.i p.server p.later served
+      p.place p.changed
+      c.on_packet-step.ensures.handles.all_served;
+  ring = rw (← c.self.view_is)
+      (ring-left c.self.inside.rx c.drop_front-2.new.self c.drop_front-2.ensures);
+  clients = rw (← c.self.view_is) c.on_packet-step.ensures.handles.clients;
+  handed = rw (← c.self.view_is) c.on_packet-step.ensures.handles.handed;
+}
+
+pub overflow_add-self : goal.overflow_add-self
+overflow_add-self g c =
+    let front = rw (← c.self.view_is) at c.requires.front in
+    let here = sym c.front.ensures ∙ ap option_copied c.in-Some.is in
+    let full = rw (← c.self.view_is) at c.jobs_full-full.ensures in
+    let served = rw (← c.self.view_is) at c.requires.serving.served in
+    let place = sym c.place_of_server.ensures ∙ c.in-Some-place_of_server.is in
+    let peer = peer-there c.self.inside.store.servers c.in-Some-place_of_server.i
+    c.peer_of_server.result c.self.inside.rx.items c.in-Some.front.now here
+    c.peer_of_server.ensures (alike c.peer_of_server.result c.peer.result c.ne.result
+    c.ne.ensures c.if-ne.false ∙ c.peer.ensures) in
+    let few = rw (← c.self.view_is) at c.requires.room in
+    let asked = c.body-asked.ensures ∙ ap body_of c.bytes.ensures.bytes in
+    let p = as-asked _ _ _ _ _ _ _ _ _ _ _ asked c.in-Give.ensures.handles in
+    let none = unfull-of c.self.inside.me c.self.inside.limits (record {
+      life = c.self.inside.life;
+      known = c.self.inside.known;
+      asked = c.self.inside.asked;
+      server_numbers = c.self.inside.server_numbers;
+      inbox = c.self.inside.inbox;
+      counts = c.self.inside.counts;
+    }) c.self.inside.paces.items (jobs_in c.self.inside.limits.jobs c.self.inside.given
+    c.self.inside.jobs.items) c.self.inside.clock c.self.inside.rx c.self.inside.store
+    c.self.invariant.0 c.args.head.now c.in-Some.front.now front c.requires.asking here g.V.Service
+    c.in-Some-place_of_server.i c.on_packet-step.new.self c.on_packet-step.ensures.handles.clients
+    c.on_packet-step.ensures.handles.size c.on_packet-step.ensures.handles.places
+    c.drop_front-2.new.self
+    c.drop_front-2.ensures c.jobs_full-full.result full served place peer few g.R.Recorder.log
+    c.args.rec.now c.on_packet-step.new.rec c.args.service.now c.on_packet-step.new.service
+    c.in-Give.parcel p in
+    let room = has-job-room c.self.inside.limits.jobs c.self.inside.given _
+    c.self.inside.jobs.items c.jobs_full-full.result full none c.self.invariant.1.0 in
+    omega (arith, room.1)
+
+pub put_job-requires : goal.put_job-requires
+put_job-requires g c =
+    let front = rw (← c.self.view_is) at c.requires.front in
+    let here = sym c.front.ensures ∙ ap option_copied c.in-Some.is in
+    let full = rw (← c.self.view_is) at c.jobs_full-full.ensures in
+    let served = rw (← c.self.view_is) at c.requires.serving.served in
+    let place = sym c.place_of_server.ensures ∙ c.in-Some-place_of_server.is in
+    let peer = peer-there c.self.inside.store.servers c.in-Some-place_of_server.i
+    c.peer_of_server.result c.self.inside.rx.items c.in-Some.front.now here
+    c.peer_of_server.ensures (alike c.peer_of_server.result c.peer.result c.ne.result
+    c.ne.ensures c.if-ne.false ∙ c.peer.ensures) in
+    let few = rw (← c.self.view_is) at c.requires.room in
+    let asked = c.body-asked.ensures ∙ ap body_of c.bytes.ensures.bytes in
+    let p = as-asked _ _ _ _ _ _ _ _ _ _ _ asked c.in-Give.ensures.handles in
+    let none = unfull-of c.self.inside.me c.self.inside.limits (record {
+      life = c.self.inside.life;
+      known = c.self.inside.known;
+      asked = c.self.inside.asked;
+      server_numbers = c.self.inside.server_numbers;
+      inbox = c.self.inside.inbox;
+      counts = c.self.inside.counts;
+    }) c.self.inside.paces.items (jobs_in c.self.inside.limits.jobs c.self.inside.given
+    c.self.inside.jobs.items) c.self.inside.clock c.self.inside.rx c.self.inside.store
+    c.self.invariant.0 c.args.head.now c.in-Some.front.now front c.requires.asking here g.V.Service
+    c.in-Some-place_of_server.i c.on_packet-step.new.self c.on_packet-step.ensures.handles.clients
+    c.on_packet-step.ensures.handles.size c.on_packet-step.ensures.handles.places
+    c.drop_front-2.new.self
+    c.drop_front-2.ensures c.jobs_full-full.result full served place peer few g.R.Recorder.log
+    c.args.rec.now c.on_packet-step.new.rec c.args.service.now c.on_packet-step.new.service
+    c.in-Give.parcel p in
+    let room = has-job-room c.self.inside.limits.jobs c.self.inside.given _
+    c.self.inside.jobs.items c.jobs_full-full.result full none c.self.invariant.1.0 in
+    record { room = room.0 }

@@ -107,7 +107,7 @@ invariant_of-self-in-Took g c =
           c.on_reply-reply.ensures.servers c.on_reply-reply.ensures.queued
           c.on_reply-reply.ensures.size c.on_reply-reply.ensures.places c.drop_front-in-Took.new.self
           c.drop_front-in-Took.ensures p,
-      c.self.invariant.1,
+      rw c.drop_front-in-Took.ensures c.self.invariant.1,
       covers-replied c.self.inside.callers c.from-i.result _ _ _ _ _ _ _ _ p c.self.invariant.2,
     )
 
@@ -157,7 +157,7 @@ invariant_of-self-in-Ended g c =
           c.on_reply-reply.ensures.servers c.on_reply-reply.ensures.queued
           c.on_reply-reply.ensures.size c.on_reply-reply.ensures.places c.drop_front-in-Ended.new.self
           c.drop_front-in-Ended.ensures c.in-Ended.done p,
-      c.self.invariant.1,
+      rw c.drop_front-in-Ended.ensures c.self.invariant.1,
       covers-replied c.self.inside.callers c.from-i.result _ _ _ _ _ _ _ _ p c.self.invariant.2,
     )
 

@@ -1,14 +1,15 @@
-use Rattle.std.proofs.Common.{◌≡◌, length, ap, arith, subst, ◌∙◌}
+use Rattle.std.proofs.Common.{◌≡◌, length, refl, ap, arith, subst, ◌∙◌}
+use Rattle.std.proofs.lemmas.Bool.{false≢true}
 use Rattle.std.specs.Prelude.{slice_get}
 use Rattle.node_steps.specs.Due.{SessionRests}
 use Rattle.node_steps.proofs.DueLemmas.{RestUpTo, rest-all, rest-more, rest-next, some-late}
 use Rattle.node_steps.proofs.DueLemmas.{unvisited}
 use Rattle.endpoint_node.proofs.node.Node.is_due.Goals as goal
 
-pub returns-then-is_packet_due : goal.returns-then-is_packet_due
-returns-then-is_packet_due c =
-    let late = rw c.if-is_packet_due.true at c.is_packet_due.ensures in
-    λ rests. late rests.queue
+pub returns-then-not-rests : goal.returns-then-not-rests
+returns-then-not-rests c =
+    let late = rw c.if-not-rests.true at c.rests.ensures in
+    rw (← c.self.view_is) (λ rests. absurd (false≢true (late.1 rests.queue)))
 
 pub sessions-init : goal.sessions-init
 sessions-init c = (λ i low. absurd (omega (arith, low)), omega arith)
@@ -49,5 +50,7 @@ returns c =
           c.sessions.from c.clients-count.result
           (λ j. unvisited c.args.at s.timeout j s.queued (slice_get s.clients j))
           c.sessions.invariant.0 none));
-      queue = rw c.if-is_packet_due.false at c.is_packet_due.ensures;
+      queue =
+          let still = rw c.if-not-rests.false at c.rests.ensures in
+          rw (← c.self.view_is) (still.0 refl);
     }

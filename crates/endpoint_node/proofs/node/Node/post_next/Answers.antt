@@ -56,7 +56,7 @@ invariant_of-self-2 g c =
     let told = rw (request, ap (λ e. e.number) c.entry.view_is) at c.packet_size-size.ensures.size in
     let size = size-told c.args.i _ _ c.packet_size-size.result c.self.inside.store.clients
     c.post.new.self.clients h.posts.clients c.self.invariant.0.kept.valid.numbered told in
-    let later = c.delay.ensures
+    let later = c.delay.ensures.delays
     ∙ ap (λ n. at_first (is_paced c.args.i) (delayed c.self.inside.clock n)
     c.self.inside.paces.items) size in (
       fits-posted g.R.Recorder.log c.args.i c.self.inside.me c.self.inside.limits
@@ -72,7 +72,7 @@ invariant_of-self-2 g c =
           c.self.inside.clock c.self.inside.rx c.self.inside.store c.post.new.self c.args.rec.now
           c.note.new.self c.self.invariant.0 h.posts.servers h.posts.size h.posts.places c.in-Some.entry c.due_of-due.result
           c.delay.new.paces.items h.posts.clients h.posts.queued h.owner c.due_of-due.ensures later,
-      c.self.invariant.1,
+      rw c.delay.ensures.room c.self.invariant.1,
       covers-posted c.self.inside.callers c.args.i _ _ _ h.posts.clients c.self.invariant.2,
     )
 
@@ -84,7 +84,7 @@ returns-clause-notes g c =
     let told = rw (request, ap (λ e. e.number) c.entry.view_is) at c.packet_size-size.ensures.size in
     let size = size-told c.args.i _ _ c.packet_size-size.result c.self.inside.store.clients
     c.post.new.self.clients h.posts.clients c.self.invariant.0.kept.valid.numbered told in
-    let later = c.delay.ensures
+    let later = c.delay.ensures.delays
     ∙ ap (λ n. at_first (is_paced c.args.i) (delayed c.self.inside.clock n)
     c.self.inside.paces.items) size in
     rw (← c.self.view_is) (node-posted g.R.Recorder.log c.args.i c.self.inside.me c.self.inside.limits

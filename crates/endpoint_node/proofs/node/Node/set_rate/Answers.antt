@@ -35,7 +35,7 @@ set_rate_at-requires g c =
 pub invariant_of-self : goal.invariant_of-self
 invariant_of-self g c =
     let seen = rw (← c.self.view_is) at c.state-state.ensures in
-    let set = rw (c.from.ensures ∙ c.session.view_is) at c.set_rate_at.ensures in (
+    let set = rw (c.from.ensures ∙ c.session.view_is) at c.set_rate_at.ensures.rated in (
       fits-rated c.self.inside.me c.self.inside.limits
           (record {
             life = c.self.inside.life;
@@ -50,14 +50,14 @@ invariant_of-self g c =
           c.state-state.result seen
           (sym c.lives.ensures ∙ c.if-not-lives.false) c.set_rate_at.new.paces.items
           set c.self.invariant.0,
-      c.self.invariant.1,
+      rw c.set_rate_at.ensures.room c.self.invariant.1,
       c.self.invariant.2,
     )
 
 pub returns-clause-step : goal.returns-clause-step
 returns-clause-step g c = record {
   makes = let seen = rw (← c.self.view_is) at c.state-state.ensures in
-      let set = rw (c.from.ensures ∙ c.session.view_is) at c.set_rate_at.ensures in
+      let set = rw (c.from.ensures ∙ c.session.view_is) at c.set_rate_at.ensures.rated in
       rw (← c.self.view_is) (node-rated c.self.inside.me c.self.inside.limits
       (record {
         life = c.self.inside.life;

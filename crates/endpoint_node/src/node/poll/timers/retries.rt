@@ -8,6 +8,7 @@ ghost use Rattle.rpc_base.specs.declared.event.Event.TheVariants.{ClosedUnheard,
 ghost use Rattle.rpc_base.specs.declared.state.SessionState.TheVariants.{Closing, Connecting};
 ghost use Rattle.rpc_laws.specs.ControlSteps.{Retries, own_request, retry_row};
 ghost use Rattle.rpc_laws.specs.Steps.{NotesNext};
+ghost use Rattle.session_store.specs.Changes.{has_request};
 
 use crate::node::Node;
 use crate::node::poll::link::speak;
@@ -17,6 +18,21 @@ use rpc_base::{Event, SessionNo, SessionState, Who};
 use rpc_laws::{RetryRow, Way};
 use rpc_outside::{Link, Recorder};
 use session_mgmt::{own_request, retry_row};
+
+// Whether a session in this state has a request of its own.
+fn has_request(state: SessionState) -> bool
+    ensures { result ≡ has_request state }
+{
+    match state {
+        SessionState::Connecting | SessionState::Closing => true,
+        SessionState::Unknown
+        | SessionState::Connected
+        | SessionState::Closed
+        | SessionState::Failed
+        | SessionState::Broken
+        | SessionState::Spent => false,
+    }
+}
 
 impl Node {
     // Session `i`, which is Connecting, failed, since no answer came to its request.
@@ -98,6 +114,10 @@ impl Node {
         ensures { IfSome (slice_get self.now.lists.clients i)
             (λ x. result ≡ own_request self.now.lists.life x) }
     {
+        let state = self.store.state(i);
+        if !has_request(state) {
+            return None;
+        }
         let end = self.store.end_of_client(i);
         let way = Way {
             number: SessionNo(i as u16),
@@ -105,7 +125,7 @@ impl Node {
             other: end.server,
             life: end.life,
         };
-        own_request(self.life, self.store.state(i), &way, end.credits)
+        own_request(self.life, state, &way, end.credits)
     }
 
     // What session `i` does about it, with this timeout, in microseconds.

@@ -5,11 +5,11 @@ ghost use Rattle.node_steps.specs.Steps.{LeavesLost, IsFlushed, FlushesOne, Step
 ghost use Rattle.node_steps.specs.Steps.{StepsEnds, Steps};
 ghost use Rattle.node_steps.specs.Changes.{◌⟶◌};
 ghost use Rattle.node_steps.specs.Leaves.{LeavesServing};
-ghost use Rattle.std.specs.Prelude.{◌≡◌, ◌<◌, [], true, false, length, slice_get};
-ghost use Rattle.node_steps.specs.Timers.{EndsOne, HasLost, Notes, breaking, breaking_off};
+ghost use Rattle.std.specs.Prelude.{◌≡◌, ◌<◌, [], length, slice_get};
+ghost use Rattle.node_steps.specs.Timers.{HasLost, Notes, breaking, breaking_off};
 ghost use Rattle.node_steps.specs.Timers.{flushing, flushing_all, rolling, rolling_back};
 ghost use Rattle.rpc_base.specs.declared.owner.Owner.TheVariants.{Ask};
-ghost use Rattle.session_store.specs.Changes.{IsConnected, IsIdle, IsLost, calls_in};
+ghost use Rattle.session_store.specs.Changes.{IsConnected, IsIdle};
 
 use crate::continuation::Continuation;
 use crate::node::Node;
@@ -17,35 +17,6 @@ use client_core::Active;
 use rpc_base::{Event, NodeId, RequestNo, SESSION_NUMBERS, SessionNo, Who};
 use rpc_outside::Recorder;
 use session_store::Store;
-
-// The first call of session `i` ends, which lost its peer and has no packet queued. The result
-// tells whether there was one.
-fn lose_next<K: Continuation, R: Recorder>(
-    store: &mut Store,
-    me: NodeId,
-    i: usize,
-    k: &mut K,
-    rec: &mut R,
-) -> bool
-    requires known { i < length store.old.clients }
-    requires lost { IsLost (slice_get store.old.clients i) }
-    requires idle { IsIdle i store.old.queued }
-    ensures ends { result ≡ true → EndsOne R.log K.given me i
-        (store.old.clients ⟶ store.new.clients) (rec.old ⟶ rec.new) (k.old ⟶ k.new) }
-    ensures none { result ≡ false → calls_in (slice_get store.old.clients i) ≡ [] }
-    ensures unchanged { result ≡ false → store.new.clients ≡ store.old.clients }
-    ensures silent { result ≡ false → rec.new ≡ rec.old }
-    ensures kept { result ≡ false → k.new ≡ k.old }
-    ensures rest { LeavesLost K.given (store.old ⟶ store.new) (k.old ⟶ k.new) }
-{
-    let Some(done) = store.lose(i) else {
-        return false;
-    };
-    let event = Event::DonePeerLost { call: done.call };
-    rec.note(Who::Node(me), event, &[], &[]);
-    k.done(done);
-    true
-}
 
 // Session `i`, which is connected, loses its peer, and its calls end, in the order of their
 // numbers. No packet of it is queued.
@@ -69,7 +40,11 @@ fn lose_session<K: Continuation, R: Recorder>(
         session: SessionNo(i as u16),
     };
     rec.note(Who::Node(me), event, &[], &[]);
-    'calls: while lose_next(store, me, i, k, rec) {}
+    'calls: while let Some(done) = store.lose(i) {
+        let ended = Event::DonePeerLost { call: done.call };
+        rec.note(Who::Node(me), ended, &[], &[]);
+        k.done(done);
+    }
 }
 
 impl Node {

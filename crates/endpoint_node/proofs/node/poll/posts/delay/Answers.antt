@@ -3,16 +3,16 @@ use Rattle.node_steps.proofs.PostPaces.{changed-paced, no-rate, some-rate}
 use Rattle.std.proofs.Common.{false, true, refl}
 use Rattle.endpoint_node.proofs.node.poll.posts.delay.Goals as goal
 
-pub returns-then-pace-eq0 : goal.returns-then-pace-eq0
-returns-then-pace-eq0 c =
+pub returns-then-pace-eq0-clause-delays : goal.returns-then-pace-eq0-clause-delays
+returns-then-pace-eq0-clause-delays c =
     let ps = c.args.paces.now.items in
     let p = c.index_mut-pace.result.now in
     let at = get-there ps c.args.i p c.requires.pace.known c.index_mut-pace.ensures.value in
     rw (changed-paced c.args.i ps p c.requires.pace.numbered at _ false (no-rate p c.if-pace-eq0.true))
     (set-own ps c.args.i p at)
 
-pub returns : goal.returns
-returns c =
+pub returns-clause-delays : goal.returns-clause-delays
+returns-clause-delays c =
     let ps = c.args.paces.now.items in
     let p = c.index_mut-pace.result.now in
     let at = get-there ps c.args.i p c.requires.pace.known c.index_mut-pace.ensures.value in
