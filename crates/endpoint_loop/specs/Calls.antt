@@ -1,5 +1,6 @@
 -- What a call of an application does with an endpoint.
-use Rattle.std.specs.Prelude.{◌≡◌, ◌++◌, ℕ, None, [], ◌∷◌, Result, length, IfErr, IfOk, OnErr, OnOk}
+use Rattle.std.specs.Prelude.{◌≡◌, ◌<◌, ◌++◌, ℕ, None, [], ◌∷◌, Result, length, IfErr, IfOk, IsSome}
+use Rattle.std.specs.Prelude.{OnErr, OnOk}
 use Rattle.node_steps.specs.Changes.{Change}
 use Rattle.node_steps.specs.Notes.{Makes}
 use Rattle.node_steps.specs.Pairs.{IfNoMemory, UnlessNoMemory}
@@ -25,7 +26,7 @@ pub record Calls {R V W : Type 0} (log : R → Log) (service : Service.Ghosts V)
 
 -- the next client session is made, with these credits, exactly where nothing refuses it and memory
 -- isn't wanting; what is noted is that, or the refusal, and want of memory is noted nowhere, and has
--- its cause
+-- its cause. It never comes before as many client sessions were made as the ring is long
 pub record OpensClient {R V W : Type 0} (log : R → Log) (service : Service.Ghosts V)
     (workers : Workers.Ghosts W) (credits : ℕ) (P : Rel) (told : Result ℕ ConnectError)
     (e : Change (Running V W)) (rec : Change R) (memory : Change ℕ) : Type 0 where
@@ -38,6 +39,8 @@ pub record OpensClient {R V W : Type 0} (log : R → Log) (service : Service.Gho
   pub unchanged : OnErr told (e.new ≡ e.old)
   pub wanting : IfNoMemory told (rec.new ≡ rec.old)
   pub handed : OnOk told (e.new.handed ≡ e.old.handed ++ [] ∷ [])
+  pub never_memory : length e.old.timed.lists.clients < e.old.timed.lists.room
+      → IfErr told (λ why. IsSome (refused_as why))
   pub cause : HasRisenBy (lacks told) memory.old memory.new
 
 -- the next server session is, in the same way

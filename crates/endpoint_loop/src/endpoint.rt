@@ -76,8 +76,10 @@ impl<V: Service, W: Workers> Model for Endpoint<V, W> {
 impl<V: Service, W: Workers> Endpoint<V, W> {
     /// Endpoint `me` in a life of 1 or more, with these limits, which are in their ranges, over
     /// workers to which no job was given, which take as many jobs, and which answer background
-    /// requests as the service does. Its lists are empty, and it knows no life of a peer. Where
-    /// there is no memory for its rings and its pool the workers come back.
+    /// requests as the service does. Its lists are empty, and it knows no life of a peer. The room
+    /// for as many client sessions as the ring is long, those that are over included, and for as
+    /// many server sessions that live is taken here. Where there is no memory for it, for the rings
+    /// or for the pool the workers come back.
     pub fn new(
         memory: &mut Memory,
         me: NodeId,

@@ -25,7 +25,8 @@ impl<V: Service, W: Workers> Endpoint<V, W> {
     /// of its endpoint, 1 or more, which comes to be known. `NumbersSpent` comes exactly where
     /// 65,535 numbers of client sessions were used, then `RingFull` exactly where the credits of
     /// the live sessions and these are more than the ring is long; both are noted. `NoMemory` is
-    /// noted nowhere. A refusal makes no session.
+    /// noted nowhere, and comes only where as many client sessions were made before as the ring is
+    /// long: the room for these was taken with the endpoint. A refusal makes no session.
     pub fn pair_client<R: Recorder>(
         &mut self,
         memory: &mut Memory,
@@ -79,7 +80,8 @@ impl<V: Service, W: Workers> Endpoint<V, W> {
     /// request to connect goes out in the next poll. `NumbersSpent` comes exactly where 65,535
     /// numbers of client sessions were used, then `RingFull` exactly where the credits of the live
     /// sessions and these are more than the ring is long; both are noted. `NoMemory` is noted
-    /// nowhere. A refusal opens no session.
+    /// nowhere, and comes only where as many client sessions were made before as the ring is long:
+    /// the room for these was taken with the endpoint. A refusal opens no session.
     pub fn connect<R: Recorder>(
         &mut self,
         memory: &mut Memory,

@@ -31,5 +31,6 @@ returns g c = record {
   unchanged = search rules;
   wanting = c.connect.ensures.makes.wanting;
   handed = rw (← c.self.view_is) c.connect.ensures.makes.handed;
+  never_memory = rw (← c.self.view_is) c.connect.ensures.never_memory;
   cause = c.connect.ensures.cause;
 }

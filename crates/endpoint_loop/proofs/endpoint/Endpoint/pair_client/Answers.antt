@@ -30,5 +30,6 @@ returns g c = record {
   unchanged = search rules;
   wanting = c.pair_client.ensures.makes.wanting;
   handed = rw (← c.self.view_is) c.pair_client.ensures.makes.handed;
+  never_memory = rw (← c.self.view_is) c.pair_client.ensures.never_memory;
   cause = c.pair_client.ensures.cause;
 }
