@@ -2,11 +2,10 @@
 use Rattle.std.proofs.Common.{◌≡◌, ◌==◌, ℕ, ◌+◌, ◌⊎◌, inl, inr, List, [], ◌∷◌, ◌++◌, length, refl}
 use Rattle.std.proofs.Common.{sym, ap}
 use Rattle.std.proofs.Common.{◌∙◌, subst, append_assoc, arith}
-use Rattle.std.proofs.lemmas.List.{append_cancel_left, append_cancel_right, length-append}
+use Rattle.std.proofs.lemmas.List.{length-append}
 use Rattle.std.proofs.Common.{true, false, ◌-◌, ◌≤◌, take, drop, take_all, length-drop, codes}
 use Rattle.std.proofs.Common.{decimal, nat_eq, true≢false, Some, None}
 use Rattle.std.specs.Prelude.{IfOk}
-use Rattle.std.proofs.lemmas.Fmt.{decimal_digit}
 use Rattle.std.specs.List.{AllByRecursion, join_with_byte, position, starts_with}
 use Rattle.std.proofs.lemmas.List.Splits.{join_with_byte-slice_split}
 use Rattle.std.proofs.Common.{flat_map, map, ◌<◌, ◌^◌, Result, Ok, Err}
@@ -294,40 +293,6 @@ word-same w name e = (bytes_eq-Decides w name).0 e
 pub word-other : (w name : List ℕ) → is_word w name ≡ false → w ≡ name → ⊥
 unfolding is_word
 word-other w name e same = true≢false (sym ((bytes_eq-Decides w name).1 same) ∙ e)
-
--- the report of one fact
-one-with : (f : Fact) (d : List ℕ)
-    → codes "erpc-report 1\n" ++ flat_map line_text (f ∷ []) ++ (codes "end " ++ d ++ codes "\n")
-    ≡ codes "erpc-report 1\n" ++ bare_line f ++ (codes "\nend " ++ d ++ codes "\n")
-unfolding line_text
-one-with f d = simp append_assoc refl
-
-report-one : (f : Fact)
-    → text_of (f ∷ []) ≡ codes "erpc-report 1\n" ++ bare_line f ++ codes "\nend 1\n"
-unfolding text_of
-report-one f =
-    one-with f (decimal 1)
-    ∙ ap (λ (d : List ℕ). codes "erpc-report 1\n" ++ bare_line f ++ (codes "\nend " ++ d ++ codes "\n"))
-    (decimal_digit 1 (omega arith))
-
-pub same-line : (f : Fact) (line bytes same : List ℕ) → bytes ≡ text_of (f ∷ [])
-    → same ≡ codes "erpc-report 1\n" ++ line ++ codes "\nend 1\n" → is_word bytes same ≡ true
-    → bare_line f ≡ line
-same-line f line bytes same e k are_same =
-    let whole : codes "erpc-report 1\n" ++ bare_line f ++ codes "\nend 1\n"
-    ≡ codes "erpc-report 1\n" ++ line ++ codes "\nend 1\n" =
-    sym (report-one f) ∙ (sym e ∙ (word-same bytes same are_same ∙ k)) in
-    let front : codes "erpc-report 1\n" ++ bare_line f ≡ codes "erpc-report 1\n" ++ line =
-    append_cancel_right _ _ (codes "\nend 1\n") whole in
-    append_cancel_left (codes "erpc-report 1\n") _ _ front
-
-pub other-line : (f : Fact) (line bytes differs : List ℕ) → bytes ≡ text_of (f ∷ [])
-    → differs ≡ codes "erpc-report 1\n" ++ line ++ codes "\nend 1\n" → is_word bytes differs ≡ false
-    → bare_line f ≡ line → ⊥
-other-line f line bytes differs e k no_word same =
-    word-other bytes differs no_word
-    (e ∙ (report-one f
-    ∙ (ap (λ (l : List ℕ). codes "erpc-report 1\n" ++ l ++ codes "\nend 1\n") same ∙ sym k)))
 
 -- the first line feed of a text
 pub no-feed : (text : List ℕ) → position (λ b. b == 10) text ≡ None → parts_of text ≡ text ∷ []

@@ -1,21 +1,22 @@
 //! The reader of lines.
-ghost use Rattle.std.specs.Prelude.{◌≡◌, ◌<◌, ◌≤◌, [], ◌∷◌, ◌++◌, true, false, codes, Some, IfOk};
+ghost use Rattle.std.specs.Prelude.{◌≡◌, true, false, IfOk, OnOk};
 ghost use Rattle.memory_count.specs.Faults.{HasCause};
 ghost use Rattle.report_reader.specs.Lines.{bare_line};
 ghost use Rattle.report_text.specs.Shape.{tail_of};
-ghost use Rattle.report_text.specs.Text.{text};
 ghost use Rattle.report_reader.specs.Facts.{fact_in, place_of, Reads, shown, who_in};
+ghost use Rattle.report_reader.specs.Reading.{ReadsNext};
 ghost use Rattle.report_reader.specs.Words.{words_of};
 
 use crate::numbers::small_at;
 use crate::octets::{Shown, first_in, second_in};
+use crate::ranges::in_range;
 use crate::telling::event_in;
 use crate::text::Text;
 use crate::words::{is_word, word_at};
 use memory_count::{Memory, NoMemory};
-use report_text::print_facts;
+use report_text::{Page, print_fact};
 use rpc_base::{Event, Fact, NodeId, Who};
-use std::slice;
+use std::alloc::Global;
 
 // Where it happened.
 #[tactic(auto, unfolding(crate::specs::Facts::who_in))]
@@ -116,43 +117,77 @@ fn fact_in(memory: &mut Memory, line: &[u8]) -> Result<Option<Fact>, NoMemory>
     }))
 }
 
-// The report whose one fact has this line.
-fn report_around(memory: &mut Memory, line: &[u8]) -> Result<Vec<u8>, NoMemory>
-    ensures bytes { IfOk result (λ v. v.items
-        ≡ codes "erpc-report 1\n" ++ line.now ++ codes "\nend 1\n") }
-    ensures cause { HasCause memory.old memory.new result }
-{
-    let mut bytes = memory.copied(b"erpc-report 1\n")?;
-    memory.of(bytes.extend_from_slice(line))?;
-    memory.of(bytes.extend_from_slice(b"\nend 1\n"))?;
-    Ok(bytes)
+/// A reader of lines. It has the room in which the line of a fact is printed, so that many lines
+/// take it once.
+#[derive(Drop)]
+pub struct LineReader {
+    page: Page,
+    text: Text,
 }
 
-// The report of one fact.
-fn report_of(memory: &mut Memory, fact: &Fact) -> Result<Text, NoMemory>
-    ensures bytes { IfOk result (λ t. t.bytes.items ≡ text (fact.now ∷ [])) }
-    ensures cause { HasCause memory.old memory.new result }
-{
-    let mut text = Text::new(memory.alloc());
-    match print_facts(slice::from_ref(fact), &mut text) {
-        Ok(()) => Ok(text),
-        Err(_) => {
-            memory.add(text.memory());
-            Err(NoMemory)
+impl LineReader {
+    /// A reader of lines. Takes no memory yet.
+    pub fn new(alloc: Global) -> LineReader {
+        LineReader {
+            page: Page::new(),
+            text: Text::new(alloc),
         }
     }
-}
 
-// Whether a line is that of a fact: whether the report of this fact alone is the one with this
-// line.
-fn is_line(memory: &mut Memory, fact: &Fact, line: &[u8]) -> Result<bool, NoMemory>
-    ensures yes { IfOk result (λ same. same ≡ true → bare_line fact.now ≡ line.now) }
-    ensures no { IfOk result (λ same. same ≡ false → bare_line fact.now ≡ line.now → ⊥) }
-    ensures cause { HasCause memory.old memory.new result }
-{
-    let text = report_of(memory, fact)?;
-    let around = report_around(memory, line)?;
-    Ok(is_word(text.bytes(), around.as_slice()))
+    // Prints the line of a fact, without its line feed, as all that the text then holds.
+    fn print(&mut self, memory: &mut Memory, fact: &Fact) -> Result<(), NoMemory>
+        ensures bytes { OnOk result (self.new.text.bytes.items ≡ bare_line fact.now) }
+        ensures cause { HasCause memory.old memory.new result }
+    {
+        self.text.clear();
+        match print_fact(fact, &mut self.page, &mut self.text) {
+            Ok(()) => Ok(()),
+            Err(_) => {
+                memory.add(self.text.memory());
+                Err(NoMemory)
+            }
+        }
+    }
+
+    // Whether a line is that of a fact.
+    fn is_line(&mut self, memory: &mut Memory, fact: &Fact, line: &[u8]) -> Result<bool, NoMemory>
+        ensures yes { IfOk result (λ same. same ≡ true → bare_line fact.now ≡ line.now) }
+        ensures no { IfOk result (λ same. same ≡ false → bare_line fact.now ≡ line.now → ⊥) }
+        ensures cause { HasCause memory.old memory.new result }
+    {
+        self.print(memory, fact)?;
+        Ok(is_word(self.text.bytes(), line))
+    }
+
+    /// Reads a line of a report, which has no line feed: the fact whose line it is, or None where
+    /// it is the line of no fact. `NoMemory` comes only where memory for the bytes of the line was
+    /// refused.
+    pub fn read_line(&mut self, memory: &mut Memory, line: &[u8]) -> Result<Option<Fact>, NoMemory>
+        ensures reads { IfOk result (Reads line.now) }
+        ensures cause { HasCause memory.old memory.new result }
+    {
+        let Some(fact) = fact_in(memory, line)? else {
+            return Ok(None);
+        };
+        if self.is_line(memory, &fact, line)? {
+            Ok(Some(fact))
+        } else {
+            Ok(None)
+        }
+    }
+
+    /// Reads a line below the first one as a fact. `None` comes exactly where it is that of no
+    /// fact, and `NoMemory` only where memory for the bytes of the line was refused.
+    pub fn read_fact(&mut self, memory: &mut Memory, line: &[u8]) -> Result<Option<Fact>, NoMemory>
+        ensures reads { IfOk result (ReadsNext line.now) }
+        ensures cause { HasCause memory.old memory.new result }
+    {
+        let fact = self.read_line(memory, line)?;
+        if let Some(fact) = &fact {
+            in_range(fact);
+        }
+        Ok(fact)
+    }
 }
 
 /// Reads a line of a report, which has no line feed: the fact whose line it is, or None where it is
@@ -161,12 +196,5 @@ pub fn read_line(memory: &mut Memory, line: &[u8]) -> Result<Option<Fact>, NoMem
     ensures reads { IfOk result (Reads line.now) }
     ensures cause { HasCause memory.old memory.new result }
 {
-    let Some(fact) = fact_in(memory, line)? else {
-        return Ok(None);
-    };
-    if is_line(memory, &fact, line)? {
-        Ok(Some(fact))
-    } else {
-        Ok(None)
-    }
+    LineReader::new(memory.alloc()).read_line(memory, line)
 }

@@ -7,8 +7,7 @@ ghost use Rattle.report_reader.specs.declared.report.Reading.TheVariants.{Bad};
 ghost use Rattle.report_reader.specs.Lines.{end_line, head_line, parts_of};
 ghost use Rattle.report_reader.specs.Reading.{Ends, IsReading, IsReadingBelow, ReadsNext};
 
-use crate::line::read_line;
-use crate::ranges::in_range;
+use crate::line::LineReader;
 use crate::words::is_word;
 use itoa::Buffer;
 use memory_count::{Memory, NoMemory};
@@ -73,11 +72,7 @@ pub fn read_fact(memory: &mut Memory, line: &[u8]) -> Result<Option<Fact>, NoMem
     ensures reads { IfOk result (ReadsNext line.now) }
     ensures cause { HasCause memory.old memory.new result }
 {
-    let fact = read_line(memory, line)?;
-    if let Some(fact) = &fact {
-        in_range(fact);
-    }
-    Ok(fact)
+    LineReader::new(memory.alloc()).read_fact(memory, line)
 }
 
 // What was read where a line of no fact comes after these facts, and then this text.
@@ -103,8 +98,9 @@ fn read_facts(memory: &mut Memory, text: &[u8]) -> Result<Reading, NoMemory>
 {
     let mut text = text;
     let mut facts = Vec::new(memory.alloc());
+    let mut reader = LineReader::new(memory.alloc());
     while let Some((line, after)) = next_line(text) {
-        let Some(fact) = read_fact(memory, line)? else {
+        let Some(fact) = reader.read_fact(memory, line)? else {
             return Ok(ended(facts, line, after));
         };
         memory.push(&mut facts, fact)?;

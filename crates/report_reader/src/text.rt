@@ -34,6 +34,15 @@ impl Text {
         &self.memory
     }
 
+    /// As if nothing was written yet, but for the room.
+    pub fn clear(&mut self)
+        ensures bytes { self.new.bytes.items ≡ [] }
+        ensures memory { self.new.memory ≡ 0 }
+    {
+        self.bytes.clear();
+        self.memory = Memory::new(self.memory.alloc());
+    }
+
     /// Lends what was written.
     pub fn bytes(&self) -> &[u8]
         ensures { result.now ≡ self.now.bytes.items }

@@ -14,4 +14,5 @@ mod report;
 mod shape;
 
 pub use law::text_tells;
-pub use report::print_facts;
+pub use page::Page;
+pub use report::{print_fact, print_facts};

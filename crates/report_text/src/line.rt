@@ -99,7 +99,7 @@ fn put_head<K: Sink>(sink: &mut K, page: &mut Page, who: Who) -> Result<(), Fail
 }
 
 /// Puts a line without its line feed.
-fn put_fact<K: Sink>(sink: &mut K, page: &mut Page, fact: &Fact) -> Result<(), Failed>
+pub fn put_fact<K: Sink>(sink: &mut K, page: &mut Page, fact: &Fact) -> Result<(), Failed>
     ensures { Fills K.page sink.old sink.new page.old page.new result
         (who_text fact.now.who ++ codes " "
         ++ event_text fact.now.event fact.now.first fact.now.second) }

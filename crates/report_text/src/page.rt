@@ -11,7 +11,7 @@ use std::marker::Model;
 /// Bytes of a page.
 const SIZE: usize = 4096;
 
-/// Text that did not go to the sink yet. Contracts see it as the list of its bytes.
+/// Room for text that did not go to its sink yet. Contracts see the text, as the list of its bytes.
 #[derive(Drop)]
 pub struct Page {
     bytes: [u8; SIZE],
@@ -73,7 +73,8 @@ impl Page {
         self.len = end;
     }
 
-    fn clear(&mut self)
+    /// Empties the page.
+    pub fn clear(&mut self)
         ensures { self.new ≡ [] }
     {
         self.len = 0;

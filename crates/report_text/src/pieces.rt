@@ -1,5 +1,5 @@
 //! Words, numbers and their pairs, put one after another on a page.
-ghost use Rattle.std.specs.Prelude.{◌++◌, codes, decimal};
+ghost use Rattle.std.specs.Prelude.{◌<◌, ◌++◌, codes, decimal};
 ghost use Rattle.report_text.specs.Names.{owner_text, state_text, reason_text};
 ghost use Rattle.report_text.specs.Page.{Fills};
 
@@ -9,6 +9,9 @@ use crate::shape::Pair;
 use itoa::Buffer;
 use rpc_base::{DropReason, Owner, SessionState};
 use rpc_outside::{Failed, Sink};
+
+/// The least number of two digits.
+const TWO_DIGITS: u64 = 10;
 
 /// Puts a word.
 pub fn put_word<K: Sink>(sink: &mut K, page: &mut Page, word: &str) -> Result<(), Failed>
@@ -26,12 +29,31 @@ pub fn put_last<K: Sink>(sink: &mut K, page: &mut Page, word: &str) -> Result<()
     Ok(())
 }
 
-/// Puts a number in decimal.
-pub fn put_number<K: Sink>(sink: &mut K, page: &mut Page, number: u64) -> Result<(), Failed>
+// Puts a number of one digit, as most numbers of a report are.
+#[tactic(auto, using(std::proofs::lemmas::Fmt::decimal_digit))]
+fn put_digit<K: Sink>(sink: &mut K, page: &mut Page, number: u64) -> Result<(), Failed>
+    requires { number < 10 }
+    ensures { Fills K.page sink.old sink.new page.old page.new result (decimal number) }
+{
+    put(sink, page, &[b'0' + number as u8])
+}
+
+// Puts a number of any digits.
+fn put_long<K: Sink>(sink: &mut K, page: &mut Page, number: u64) -> Result<(), Failed>
     ensures { Fills K.page sink.old sink.new page.old page.new result (decimal number) }
 {
     let mut digits = Buffer::new();
     put(sink, page, digits.format(number).as_bytes())
+}
+
+/// Puts a number in decimal.
+pub fn put_number<K: Sink>(sink: &mut K, page: &mut Page, number: u64) -> Result<(), Failed>
+    ensures { Fills K.page sink.old sink.new page.old page.new result (decimal number) }
+{
+    if number < TWO_DIGITS {
+        return put_digit(sink, page, number);
+    }
+    put_long(sink, page, number)
 }
 
 /// Puts a word and a number.

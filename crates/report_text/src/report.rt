@@ -2,9 +2,9 @@
 ghost use Rattle.std.specs.Prelude.{◌++◌, codes, decimal, flat_map};
 ghost use Rattle.rpc_outside.specs.Writing.{Prints};
 ghost use Rattle.report_text.specs.Page.{Fills};
-ghost use Rattle.report_text.specs.Text.{line_text, text};
+ghost use Rattle.report_text.specs.Text.{event_text, line_text, text, who_text};
 
-use crate::line::put_line;
+use crate::line::{put_fact, put_line};
 use crate::page::{Page, flush};
 use crate::pieces::{put_last, put_pair};
 use rpc_base::Fact;
@@ -56,4 +56,17 @@ pub fn print_facts<K: Sink>(facts: &[Fact], sink: &mut K) -> Result<(), Failed>
     let mut page = Page::new();
     put_report(sink, &mut page, facts)?;
     flush(sink, &mut page)
+}
+
+/// Writes the line of one fact, without its line feed, by way of a page: one page serves for many
+/// lines, one after another, and what it held is gone. It takes no memory. `Failed` comes only
+/// where the sink counts one more fault; a front of the line was then written.
+pub fn print_fact<K: Sink>(fact: &Fact, page: &mut Page, sink: &mut K) -> Result<(), Failed>
+    ensures { Prints (K.page sink.old) (K.page sink.new) result
+        (who_text fact.now.who ++ codes " "
+        ++ event_text fact.now.event fact.now.first fact.now.second) }
+{
+    page.clear();
+    put_fact(sink, page, fact)?;
+    flush(sink, page)
 }

@@ -1,6 +1,6 @@
 use Rattle.std.proofs.Common.{sym, ◌∙◌}
 use Rattle.report_reader.proofs.ReadLemmas.{reads-none, reads-other, reads-some}
-use Rattle.report_reader.proofs.line.read_line.Goals as goal
+use Rattle.report_reader.proofs.line.LineReader.read_line.Goals as goal
 
 pub returns-in_default-clause-reads : goal.returns-in_default-clause-reads
 returns-in_default-clause-reads c =
