@@ -12,7 +12,7 @@ use crate::auditor::Auditor;
 use crate::fault::Fault;
 use crate::verdict::Verdict;
 use memory_count::{Memory, NoMemory};
-use report_reader::{below_head, is_end, next_line, read_fact};
+use report_reader::{LineReader, below_head, is_end, next_line};
 
 /// What is known of bytes once they are read.
 #[derive(Drop)]
@@ -49,8 +49,9 @@ fn audited_below(memory: &mut Memory, text: &[u8]) -> Result<Audited, NoMemory>
 {
     let mut text = text;
     let mut auditor = Auditor::new(memory)?;
+    let mut reader = LineReader::new(memory.alloc());
     while let Some((line, after)) = next_line(text) {
-        let Some(fact) = read_fact(memory, line)? else {
+        let Some(fact) = reader.read_fact(memory, line)? else {
             return Ok(ended(auditor, line, after));
         };
         auditor.note(memory, &fact)?;
