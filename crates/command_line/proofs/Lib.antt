@@ -1,4 +1,6 @@
+pub mod ArgLemmas
 pub mod LoadRows
 pub mod RowLemmas
 pub mod ServeRows
+pub mod SubcommandLemmas
 pub mod WordRows

@@ -6,8 +6,10 @@ mod forms;
 mod idle;
 mod number;
 mod row;
+mod subcommand;
 mod task;
 mod telling;
+mod terms;
 mod text;
 mod words;
 

@@ -1,14 +1,15 @@
 //! What a user reads where the words are not in the grammar.
 ghost use Rattle.memory_count.specs.Faults.{HasReason};
 
-use crate::forms::{AUDIT, DRILL, FORMS, LOAD, SERVE, SIM};
+use crate::forms::FORMS;
 use crate::number::{Number, TYPES, request_type, workers_of};
-use crate::row::{audit, drill, load, serve, sim};
-use crate::text::text_at;
+use crate::row::command_of;
+use crate::subcommand::Subcommand;
+use crate::text::{copied, text_at};
 use crate::words::{
     CALLS, CALLS_OF_DRILL, FRAME, LIFE, SEED, SEED_OF_DRILL, SIZE, TIMEOUT, TURNS, WORKERS,
 };
-use clap::{ArgMatches, Command, Error};
+use clap::{ArgMatches, Error};
 use memory_count::{Memory, NoMemory};
 
 const NUMBERS_OF_DRILL: [Number; 2] = [SEED_OF_DRILL, CALLS_OF_DRILL];
@@ -91,14 +92,6 @@ fn wrong_type(memory: &mut Memory, text: &str) -> Result<String, NoMemory>
     memory.of(format!(in alloc; "--type is one of {types}, not {text:?}"))
 }
 
-/// A copy of a text.
-fn copied(memory: &mut Memory, text: &str) -> Result<String, NoMemory>
-    ensures cause { HasReason memory.old memory.new result }
-{
-    let copy = String::from_str(memory.alloc(), text);
-    memory.of(copy)
-}
-
 /// Which number is none of its range, that the request type is none of its list, or that threads
 /// are to work jobs of which another server is asked.
 fn wrong_value(
@@ -123,34 +116,51 @@ fn wrong_value(
     }
 }
 
-/// What is wrong with the words of a subcommand.
-fn wrong_in<'a>(
+/// The same, by the numbers of a subcommand.
+fn wrong_value_of(
     memory: &mut Memory,
-    command: Command<'a>,
-    words: &'a [String],
-    numbers: &[Number],
+    of: Subcommand,
+    matches: &ArgMatches<'_>,
 ) -> Result<String, NoMemory>
     ensures cause { HasReason memory.old memory.new result }
 {
+    match of {
+        Subcommand::Sim | Subcommand::Audit => wrong_value(memory, matches, &[]),
+        Subcommand::Drill => wrong_value(memory, matches, &NUMBERS_OF_DRILL),
+        Subcommand::Serve => wrong_value(memory, matches, &NUMBERS_OF_SERVE),
+        Subcommand::Load => wrong_value(memory, matches, &NUMBERS_OF_LOAD),
+    }
+}
+
+/// What is wrong with the words of a subcommand.
+fn wrong_in(memory: &mut Memory, of: Subcommand, words: &[String]) -> Result<String, NoMemory>
+    ensures cause { HasReason memory.old memory.new result }
+{
+    let command = command_of(memory, of)?;
     match command.try_get_matches_from(words) {
-        Ok(matches) => wrong_value(memory, &matches, numbers),
+        Ok(matches) => wrong_value_of(memory, of, &matches),
         Err(error) => first_paragraph(memory, &error),
     }
 }
 
 /// The same, and how it is called.
-fn wrong_words<'a>(
-    memory: &mut Memory,
-    command: Command<'a>,
-    call: &str,
-    words: &'a [String],
-    numbers: &[Number],
-) -> Result<String, NoMemory>
+fn wrong_words(memory: &mut Memory, of: Subcommand, words: &[String]) -> Result<String, NoMemory>
     ensures cause { HasReason memory.old memory.new result }
 {
-    let wrong = wrong_in(memory, command, words, numbers)?;
+    let wrong = wrong_in(memory, of, words)?;
+    let form = of.form();
     let alloc = memory.alloc();
-    memory.of(format!(in alloc; "{wrong}; usage: {call}"))
+    memory.of(format!(in alloc; "{wrong}; usage: {form}"))
+}
+
+/// That a word is no subcommand.
+fn wrong_name(memory: &mut Memory, name: &str) -> Result<String, NoMemory>
+    ensures cause { HasReason memory.old memory.new result }
+{
+    let alloc = memory.alloc();
+    memory.of(format!(in alloc;
+        "{name:?} is no subcommand; those are sim, drill, serve, load and audit"
+    ))
 }
 
 /// How each subcommand is called, and what it does, a line each.
@@ -175,40 +185,6 @@ fn ask_for_help(words: &[String]) -> bool {
     }
 }
 
-/// What is wrong with the words after the name of a subcommand.
-fn wrong_after(memory: &mut Memory, name: &str, rest: &[String]) -> Result<String, NoMemory>
-    ensures cause { HasReason memory.old memory.new result }
-{
-    match name {
-        "sim" => {
-            let command = sim(memory.alloc());
-            wrong_words(memory, command, SIM, rest, &[])
-        }
-        "drill" => {
-            let command = drill(memory)?;
-            wrong_words(memory, command, DRILL, rest, &NUMBERS_OF_DRILL)
-        }
-        "serve" => {
-            let command = serve(memory)?;
-            wrong_words(memory, command, SERVE, rest, &NUMBERS_OF_SERVE)
-        }
-        "load" => {
-            let command = load(memory)?;
-            wrong_words(memory, command, LOAD, rest, &NUMBERS_OF_LOAD)
-        }
-        "audit" => {
-            let command = audit(memory.alloc());
-            wrong_words(memory, command, AUDIT, rest, &[])
-        }
-        other => {
-            let alloc = memory.alloc();
-            memory.of(format!(in alloc;
-                "{other:?} is no subcommand; those are sim, drill, serve, load and audit"
-            ))
-        }
-    }
-}
-
 /// What to tell of words that are not in the grammar: the word that is wrong and how its subcommand
 /// is called, in one line; how each is called, where the words ask for help or are none.
 pub fn complaint(memory: &mut Memory, words: &[String]) -> Result<String, NoMemory>
@@ -220,5 +196,9 @@ pub fn complaint(memory: &mut Memory, words: &[String]) -> Result<String, NoMemo
     let Some((name, rest)) = words.split_first() else {
         return usage(memory);
     };
-    wrong_after(memory, name.as_str(), rest)
+    let name = name.as_str();
+    match Subcommand::named(name) {
+        Some(of) => wrong_words(memory, of, rest),
+        None => wrong_name(memory, name),
+    }
 }

@@ -15,19 +15,24 @@ pub fn text_at<'a>(matches: &ArgMatches<'a>, id: &str) -> Option<&'a str>
     matches.get_str(id)
 }
 
-/// A copy of that text; None where the argument has none.
-pub fn copy_at(
-    memory: &mut Memory,
-    matches: &ArgMatches<'_>,
-    id: &str,
-) -> Result<Option<String>, NoMemory>
-    ensures copy { IfOk result (λ copy. option_map (λ text. string_bytes text) copy
-        ≡ first_of id.now (rows_of (found_of matches.now))) }
+/// A copy of a text.
+pub fn copied(memory: &mut Memory, text: &str) -> Result<String, NoMemory>
+    ensures copy { IfOk result (λ copy. string_bytes copy ≡ text.now) }
     ensures cause { HasCause memory.old memory.new result }
 {
-    let Some(text) = text_at(matches, id) else {
+    let copy = String::from_str(memory.alloc(), text);
+    memory.of(copy)
+}
+
+/// A copy of a text, where there is one.
+pub fn copied_if(memory: &mut Memory, text: Option<&str>) -> Result<Option<String>, NoMemory>
+    ensures copy { IfOk result (λ copy. option_map (λ text. string_bytes text) copy
+        ≡ option_map (λ text. text.now) text.entry) }
+    ensures cause { HasCause memory.old memory.new result }
+{
+    let Some(text) = text else {
         return Ok(None);
     };
-    let copy = String::from_str(memory.alloc(), text);
-    Ok(Some(memory.of(copy)?))
+    let copy = copied(memory, text)?;
+    Ok(Some(copy))
 }

@@ -1,22 +1,24 @@
 //! Words, and what they ask for.
-ghost use Rattle.std.specs.Prelude.{◌≡◌, codes, map, IfOk, IfSome};
+ghost use Rattle.std.specs.Prelude.{◌≡◌, map, IfOk};
 ghost use Rattle.std.specs.String.{string_bytes};
 ghost use Rattle.clap.specs.Words.{found_of, rows_of};
-ghost use Rattle.command_line.specs.Answers.{IsFrameInRange, IsInRange, Reads, lacks};
-ghost use Rattle.command_line.specs.Numbers.{some_number_at};
-ghost use Rattle.command_line.specs.Tasks.{audit_in, drill_in, load_in, serve_in, sim_in, task_of};
-ghost use Rattle.command_line.specs.Tasks.{drill_of_rows, load_of_rows, serve_of_rows};
-ghost use Rattle.memory_count.specs.Faults.{HasRisenBy};
+ghost use Rattle.command_line.specs.Answers.{IsInRange, Reads, lacks};
+ghost use Rattle.command_line.specs.Subcommands.{rows_in, words_in};
+ghost use Rattle.command_line.specs.Tasks.{drill_of_rows, load_of_rows, serve_of_rows, task_of};
+ghost use Rattle.command_line.specs.Terms.{load_words, serve_words};
+ghost use Rattle.command_line.specs.declared.task.Task.TheVariants.{Load, Serve};
+ghost use Rattle.memory_count.specs.Faults.{HasCause, HasRisenBy};
 
-use crate::idle::idle_of;
-use crate::number::{MOST_THREADS, Number, request_type, workers_of};
-use crate::row::{audit, drill, load, serve, sim, take};
+use crate::number::{MOST_THREADS, Number};
+use crate::row::{command_of, take};
+use crate::subcommand::Subcommand;
 use crate::task::{LoadSpec, ServeSpec, Task, WordsError};
-use crate::text::{copy_at, text_at};
+use crate::terms::{LoadTerms, ServeTerms, load_terms, serve_terms};
+use crate::text::{copied, copied_if};
 use clap::ArgMatches;
 use drill_maker::MOST_CALLS;
-use memory_count::Memory;
-use packet_header::{FIRST_LIFE, Life};
+use memory_count::{Memory, NoMemory};
+use packet_header::FIRST_LIFE;
 
 /// SEED of `drill`.
 pub const SEED_OF_DRILL: Number = Number {
@@ -92,28 +94,6 @@ pub const FRAME: Number = Number {
     high: 65_507,
 };
 
-#[tactic(auto, unfolding(crate::specs::Tasks::sim_in))]
-fn read_sim(memory: &mut Memory, words: &[String]) -> Result<Task, WordsError>
-    ensures value { Reads result (sim_in (map string_bytes words.now)) }
-    ensures range { IfOk result IsInRange }
-    ensures cause { HasRisenBy (lacks result) memory.old memory.new }
-{
-    let command = sim(memory.alloc());
-    take(memory, command, words)?;
-    Ok(Task::Sim)
-}
-
-#[tactic(auto, unfolding(crate::specs::Tasks::audit_in))]
-fn read_audit(memory: &mut Memory, words: &[String]) -> Result<Task, WordsError>
-    ensures value { Reads result (audit_in (map string_bytes words.now)) }
-    ensures range { IfOk result IsInRange }
-    ensures cause { HasRisenBy (lacks result) memory.old memory.new }
-{
-    let command = audit(memory.alloc());
-    take(memory, command, words)?;
-    Ok(Task::Audit)
-}
-
 // What the words of `drill` ask for.
 fn drill_of(matches: &ArgMatches<'_>) -> Result<Task, WordsError>
     ensures value { Reads result (drill_of_rows (rows_of (found_of matches.now))) }
@@ -125,15 +105,22 @@ fn drill_of(matches: &ArgMatches<'_>) -> Result<Task, WordsError>
     Ok(Task::Drill { seed, calls })
 }
 
-#[tactic(auto, unfolding(crate::specs::Tasks::drill_in))]
-fn read_drill(memory: &mut Memory, words: &[String]) -> Result<Task, WordsError>
-    ensures value { Reads result (drill_in (map string_bytes words.now)) }
-    ensures range { IfOk result IsInRange }
-    ensures cause { HasRisenBy (lacks result) memory.old memory.new }
+// The words of `serve` with their texts copied.
+fn serve_copied(memory: &mut Memory, terms: &ServeTerms<'_>) -> Result<Task, NoMemory>
+    ensures task { IfOk result (λ task. task ≡ Serve (serve_words terms.now)) }
+    ensures cause { HasCause memory.old memory.new result }
 {
-    let command = drill(memory)?;
-    let matches = take(memory, command, words)?;
-    drill_of(&matches)
+    let relay = copied_if(memory, terms.relay)?;
+    let addr = copied(memory, terms.addr)?;
+    Ok(Task::Serve(ServeSpec {
+        addr,
+        turns: terms.turns,
+        workers: terms.workers,
+        life: terms.life,
+        relay,
+        timeout: terms.timeout,
+        idle: terms.idle,
+    }))
 }
 
 // What the words of `serve` ask for.
@@ -142,50 +129,33 @@ fn serve_of(memory: &mut Memory, matches: &ArgMatches<'_>) -> Result<Task, Words
     ensures range { IfOk result IsInRange }
     ensures cause { HasRisenBy (lacks result) memory.old memory.new }
 {
-    let Some(addr) = text_at(matches, "ADDR") else {
+    let Some(terms) = serve_terms(matches) else {
         return Err(WordsError::Usage);
     };
-    let turns = TURNS.read(matches).ok_or(WordsError::Usage)? as u32;
-    let workers = workers_of(matches).ok_or(WordsError::Usage)?;
-    let life = LIFE.read(matches).ok_or(WordsError::Usage)? as u32;
-    let timeout = TIMEOUT.read(matches).ok_or(WordsError::Usage)? as u32;
-    let relay = copy_at(memory, matches, "relay")?;
-    let addr = String::from_str(memory.alloc(), addr);
-    let addr = memory.of(addr)?;
-    Ok(Task::Serve(ServeSpec {
+    let task = serve_copied(memory, &terms)?;
+    Ok(task)
+}
+
+// The words of `load` with their texts copied.
+fn load_copied(memory: &mut Memory, terms: &LoadTerms<'_>) -> Result<Task, NoMemory>
+    ensures task { IfOk result (λ task. task ≡ Load (load_words terms.now)) }
+    ensures cause { HasCause memory.old memory.new result }
+{
+    let bind = copied(memory, terms.bind)?;
+    let addr = copied(memory, terms.addr)?;
+    Ok(Task::Load(LoadSpec {
         addr,
-        turns,
-        workers,
-        life: Life(life),
-        relay,
-        timeout,
-        idle: idle_of(matches),
+        calls: terms.calls,
+        req_type: terms.req_type,
+        size: terms.size,
+        seed: terms.seed,
+        turns: terms.turns,
+        bind,
+        frame: terms.frame,
+        life: terms.life,
+        timeout: terms.timeout,
+        idle: terms.idle,
     }))
-}
-
-#[tactic(auto, unfolding(crate::specs::Tasks::serve_in))]
-fn read_serve(memory: &mut Memory, words: &[String]) -> Result<Task, WordsError>
-    ensures value { Reads result (serve_in (map string_bytes words.now)) }
-    ensures range { IfOk result IsInRange }
-    ensures cause { HasRisenBy (lacks result) memory.old memory.new }
-{
-    let command = serve(memory)?;
-    let matches = take(memory, command, words)?;
-    serve_of(memory, &matches)
-}
-
-// The frame that the words of `load` give, none where they leave it out; None where they give one
-// that is none of its range.
-fn frame_of(matches: &ArgMatches<'_>) -> Option<Option<u32>>
-    ensures value { result ≡ some_number_at 1088 65507 (codes "frame")
-        (rows_of (found_of matches.now)) }
-    ensures range { IfSome result IsFrameInRange }
-{
-    if text_at(matches, "frame").is_none() {
-        return Some(None);
-    }
-    let bytes = FRAME.read(matches)? as u32;
-    Some(Some(bytes))
 }
 
 // What the words of `load` ask for.
@@ -194,48 +164,41 @@ fn load_of(memory: &mut Memory, matches: &ArgMatches<'_>) -> Result<Task, WordsE
     ensures range { IfOk result IsInRange }
     ensures cause { HasRisenBy (lacks result) memory.old memory.new }
 {
-    let Some(addr) = text_at(matches, "ADDR") else {
+    let Some(terms) = load_terms(matches) else {
         return Err(WordsError::Usage);
     };
-    let calls = CALLS.read(matches).ok_or(WordsError::Usage)? as u32;
-    let req_type = request_type(matches).ok_or(WordsError::Usage)?;
-    let size = SIZE.read(matches).ok_or(WordsError::Usage)? as u32;
-    let seed = SEED.read(matches).ok_or(WordsError::Usage)? as u32;
-    let turns = TURNS.read(matches).ok_or(WordsError::Usage)? as u32;
-    let Some(bind) = text_at(matches, "bind") else {
-        return Err(WordsError::Usage);
-    };
-    let frame = frame_of(matches).ok_or(WordsError::Usage)?;
-    let life = LIFE.read(matches).ok_or(WordsError::Usage)? as u32;
-    let timeout = TIMEOUT.read(matches).ok_or(WordsError::Usage)? as u32;
-    let bind = String::from_str(memory.alloc(), bind);
-    let bind = memory.of(bind)?;
-    let addr = String::from_str(memory.alloc(), addr);
-    let addr = memory.of(addr)?;
-    Ok(Task::Load(LoadSpec {
-        addr,
-        calls,
-        req_type,
-        size,
-        seed,
-        turns,
-        bind,
-        frame,
-        life: Life(life),
-        timeout,
-        idle: idle_of(matches),
-    }))
+    let task = load_copied(memory, &terms)?;
+    Ok(task)
 }
 
-#[tactic(auto, unfolding(crate::specs::Tasks::load_in))]
-fn read_load(memory: &mut Memory, words: &[String]) -> Result<Task, WordsError>
-    ensures value { Reads result (load_in (map string_bytes words.now)) }
+// What the words of a subcommand ask for.
+fn asked_of(
+    memory: &mut Memory,
+    of: Subcommand,
+    matches: &ArgMatches<'_>,
+) -> Result<Task, WordsError>
+    ensures value { Reads result (rows_in of (rows_of (found_of matches.now))) }
     ensures range { IfOk result IsInRange }
     ensures cause { HasRisenBy (lacks result) memory.old memory.new }
 {
-    let command = load(memory)?;
+    match of {
+        Subcommand::Sim => Ok(Task::Sim),
+        Subcommand::Drill => drill_of(matches),
+        Subcommand::Serve => serve_of(memory, matches),
+        Subcommand::Load => load_of(memory, matches),
+        Subcommand::Audit => Ok(Task::Audit),
+    }
+}
+
+// Reads the words after the name of a subcommand.
+fn read_rest(memory: &mut Memory, of: Subcommand, words: &[String]) -> Result<Task, WordsError>
+    ensures value { Reads result (words_in of (map string_bytes words.now)) }
+    ensures range { IfOk result IsInRange }
+    ensures cause { HasRisenBy (lacks result) memory.old memory.new }
+{
+    let command = command_of(memory, of)?;
     let matches = take(memory, command, words)?;
-    load_of(memory, &matches)
+    asked_of(memory, of, &matches)
 }
 
 /// Reads the words after the program's name.
@@ -248,12 +211,8 @@ pub fn read_words(memory: &mut Memory, words: &[String]) -> Result<Task, WordsEr
     let Some((name, rest)) = words.split_first() else {
         return Err(WordsError::Usage);
     };
-    match name.as_str() {
-        "sim" => read_sim(memory, rest),
-        "drill" => read_drill(memory, rest),
-        "serve" => read_serve(memory, rest),
-        "load" => read_load(memory, rest),
-        "audit" => read_audit(memory, rest),
-        _ => Err(WordsError::Usage),
-    }
+    let Some(of) = Subcommand::named(name.as_str()) else {
+        return Err(WordsError::Usage);
+    };
+    read_rest(memory, of, rest)
 }
