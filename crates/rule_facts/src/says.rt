@@ -59,40 +59,14 @@ fn is_reason(reason: DropReason, other: DropReason) -> bool
     reason_number(reason) == reason_number(other)
 }
 
-fn tells_heard(event: &Event) -> bool
-    ensures { result ≡ tells_heard event.now }
-{
-    matches!(event, Event::Heard)
-}
-
 /// Whether a fact of the node says that the oldest control packet was handled.
 pub fn says_heard(fact: &Fact, me: NodeId) -> bool
     ensures { result ≡ (is_plain me fact.now && tells_heard fact.now.event) }
 {
-    is_plain(fact, me) && tells_heard(&fact.event)
-}
-
-fn tells_accepted(
-    event: &Event,
-    session: SessionNo,
-    peer: Peer,
-    client: SessionNo,
-    credits: u16,
-    life: Life,
-) -> bool
-    ensures { result ≡ tells_accepted session peer client credits life event.now }
-{
-    let Event::Accepted {
-        session: x0,
-        peer: x1,
-        client: x2,
-        credits: x3,
-        life: x4,
-    } = event
-    else {
+    if !is_plain(fact, me) {
         return false;
-    };
-    x0.0 == session.0 && x1.0 == peer.0 && x2.0 == client.0 && *x3 == credits && *x4 == life.0
+    }
+    matches!(&fact.event, Event::Heard)
 }
 
 /// Whether a fact of the node says that a connect request made this server session, whose client
@@ -109,38 +83,34 @@ pub fn says_accepted(
     ensures { result ≡ (is_plain me fact.now
         && tells_accepted session peer client credits life fact.now.event) }
 {
-    is_plain(fact, me) && tells_accepted(&fact.event, session, peer, client, credits, life)
-}
-
-fn tells_declined(event: &Event, peer: Peer, client: SessionNo, credits: u16) -> bool
-    ensures { result ≡ tells_declined peer client credits event.now }
-{
-    let Event::Declined {
-        peer: x0,
-        client: x1,
-        credits: x2,
-    } = event
+    if !is_plain(fact, me) {
+        return false;
+    }
+    let Event::Accepted {
+        session: x0,
+        peer: x1,
+        client: x2,
+        credits: x3,
+        life: x4,
+    } = &fact.event
     else {
         return false;
     };
-    x0.0 == peer.0 && x1.0 == client.0 && *x2 == credits
+    x0.0 == session.0 && x1.0 == peer.0 && x2.0 == client.0 && *x3 == credits && *x4 == life.0
 }
 
 /// Whether a fact of the node says that a connect request found no room.
 pub fn says_declined(fact: &Fact, me: NodeId, peer: Peer, client: SessionNo, credits: u16) -> bool
     ensures { result ≡ (is_plain me fact.now && tells_declined peer client credits fact.now.event) }
 {
-    is_plain(fact, me) && tells_declined(&fact.event, peer, client, credits)
-}
-
-fn tells_starved(event: &Event, peer: Peer, client: SessionNo, credits: u16) -> bool
-    ensures { result ≡ tells_starved peer client credits event.now }
-{
-    let Event::Starved {
+    if !is_plain(fact, me) {
+        return false;
+    }
+    let Event::Declined {
         peer: x0,
         client: x1,
         credits: x2,
-    } = event
+    } = &fact.event
     else {
         return false;
     };
@@ -151,21 +121,18 @@ fn tells_starved(event: &Event, peer: Peer, client: SessionNo, credits: u16) -> 
 pub fn says_starved(fact: &Fact, me: NodeId, peer: Peer, client: SessionNo, credits: u16) -> bool
     ensures { result ≡ (is_plain me fact.now && tells_starved peer client credits fact.now.event) }
 {
-    is_plain(fact, me) && tells_starved(&fact.event, peer, client, credits)
-}
-
-fn tells_connected(event: &Event, session: SessionNo, server: SessionNo, life: Life) -> bool
-    ensures { result ≡ tells_connected session server life event.now }
-{
-    let Event::Connected {
-        session: x0,
-        server: x1,
-        life: x2,
-    } = event
+    if !is_plain(fact, me) {
+        return false;
+    }
+    let Event::Starved {
+        peer: x0,
+        client: x1,
+        credits: x2,
+    } = &fact.event
     else {
         return false;
     };
-    x0.0 == session.0 && x1.0 == server.0 && *x2 == life.0
+    x0.0 == peer.0 && x1.0 == client.0 && *x2 == credits
 }
 
 /// Whether a fact of the node says that a client session is connected with this server session, in
@@ -180,29 +147,28 @@ pub fn says_connected(
     ensures { result ≡ (is_plain me fact.now
         && tells_connected session server life fact.now.event) }
 {
-    is_plain(fact, me) && tells_connected(&fact.event, session, server, life)
-}
-
-fn tells_failed_no_room(event: &Event, session: SessionNo) -> bool
-    ensures { result ≡ tells_failed_no_room session event.now }
-{
-    let Event::FailedNoRoom { session: told } = event else {
+    if !is_plain(fact, me) {
+        return false;
+    }
+    let Event::Connected {
+        session: x0,
+        server: x1,
+        life: x2,
+    } = &fact.event
+    else {
         return false;
     };
-    told.0 == session.0
+    x0.0 == session.0 && x1.0 == server.0 && *x2 == life.0
 }
 
 /// Whether a fact of the node says that a client session failed, since its server has no room.
 pub fn says_failed_no_room(fact: &Fact, me: NodeId, session: SessionNo) -> bool
     ensures { result ≡ (is_plain me fact.now && tells_failed_no_room session fact.now.event) }
 {
-    is_plain(fact, me) && tells_failed_no_room(&fact.event, session)
-}
-
-fn tells_failed_no_answer(event: &Event, session: SessionNo) -> bool
-    ensures { result ≡ tells_failed_no_answer session event.now }
-{
-    let Event::FailedNoAnswer { session: told } = event else {
+    if !is_plain(fact, me) {
+        return false;
+    }
+    let Event::FailedNoRoom { session: told } = &fact.event else {
         return false;
     };
     told.0 == session.0
@@ -212,13 +178,10 @@ fn tells_failed_no_answer(event: &Event, session: SessionNo) -> bool
 pub fn says_failed_no_answer(fact: &Fact, me: NodeId, session: SessionNo) -> bool
     ensures { result ≡ (is_plain me fact.now && tells_failed_no_answer session fact.now.event) }
 {
-    is_plain(fact, me) && tells_failed_no_answer(&fact.event, session)
-}
-
-fn tells_closed_heard(event: &Event, session: SessionNo) -> bool
-    ensures { result ≡ tells_closed_heard session event.now }
-{
-    let Event::ClosedHeard { session: told } = event else {
+    if !is_plain(fact, me) {
+        return false;
+    }
+    let Event::FailedNoAnswer { session: told } = &fact.event else {
         return false;
     };
     told.0 == session.0
@@ -228,13 +191,10 @@ fn tells_closed_heard(event: &Event, session: SessionNo) -> bool
 pub fn says_closed_heard(fact: &Fact, me: NodeId, session: SessionNo) -> bool
     ensures { result ≡ (is_plain me fact.now && tells_closed_heard session fact.now.event) }
 {
-    is_plain(fact, me) && tells_closed_heard(&fact.event, session)
-}
-
-fn tells_closed_unheard(event: &Event, session: SessionNo) -> bool
-    ensures { result ≡ tells_closed_unheard session event.now }
-{
-    let Event::ClosedUnheard { session: told } = event else {
+    if !is_plain(fact, me) {
+        return false;
+    }
+    let Event::ClosedHeard { session: told } = &fact.event else {
         return false;
     };
     told.0 == session.0
@@ -244,13 +204,10 @@ fn tells_closed_unheard(event: &Event, session: SessionNo) -> bool
 pub fn says_closed_unheard(fact: &Fact, me: NodeId, session: SessionNo) -> bool
     ensures { result ≡ (is_plain me fact.now && tells_closed_unheard session fact.now.event) }
 {
-    is_plain(fact, me) && tells_closed_unheard(&fact.event, session)
-}
-
-fn tells_ended(event: &Event, session: SessionNo) -> bool
-    ensures { result ≡ tells_ended session event.now }
-{
-    let Event::Ended { session: told } = event else {
+    if !is_plain(fact, me) {
+        return false;
+    }
+    let Event::ClosedUnheard { session: told } = &fact.event else {
         return false;
     };
     told.0 == session.0
@@ -260,13 +217,10 @@ fn tells_ended(event: &Event, session: SessionNo) -> bool
 pub fn says_ended(fact: &Fact, me: NodeId, session: SessionNo) -> bool
     ensures { result ≡ (is_plain me fact.now && tells_ended session fact.now.event) }
 {
-    is_plain(fact, me) && tells_ended(&fact.event, session)
-}
-
-fn tells_broken(event: &Event, session: SessionNo) -> bool
-    ensures { result ≡ tells_broken session event.now }
-{
-    let Event::Broken { session: told } = event else {
+    if !is_plain(fact, me) {
+        return false;
+    }
+    let Event::Ended { session: told } = &fact.event else {
         return false;
     };
     told.0 == session.0
@@ -276,56 +230,43 @@ fn tells_broken(event: &Event, session: SessionNo) -> bool
 pub fn says_broken(fact: &Fact, me: NodeId, session: SessionNo) -> bool
     ensures { result ≡ (is_plain me fact.now && tells_broken session fact.now.event) }
 {
-    is_plain(fact, me) && tells_broken(&fact.event, session)
-}
-
-fn tells_begun(event: &Event, call: CallNo, request: u128) -> bool
-    ensures { result ≡ tells_begun call request event.now }
-{
-    let Event::Begun {
-        call: x0,
-        request: x1,
-    } = event
-    else {
+    if !is_plain(fact, me) {
+        return false;
+    }
+    let Event::Broken { session: told } = &fact.event else {
         return false;
     };
-    x0.0 == call.0 && u128::from(x1.get()) == request
+    told.0 == session.0
 }
 
 /// Whether a fact of the node says that a call has this request number.
 pub fn says_begun(fact: &Fact, me: NodeId, call: CallNo, request: u128) -> bool
     ensures { result ≡ (is_plain me fact.now && tells_begun call request fact.now.event) }
 {
-    is_plain(fact, me) && tells_begun(&fact.event, call, request)
-}
-
-fn tells_posted(event: &Event, owner: Owner, number: u64) -> bool
-    ensures { result ≡ tells_posted owner number event.now }
-{
-    let Event::Posted {
-        owner: x0,
-        number: x1,
-    } = event
+    if !is_plain(fact, me) {
+        return false;
+    }
+    let Event::Begun {
+        call: x0,
+        request: x1,
+    } = &fact.event
     else {
         return false;
     };
-    x0.is_same(owner) && u64::from(*x1) == number
+    x0.0 == call.0 && u128::from(x1.get()) == request
 }
 
 /// Whether a fact of the node says that a packet of this owner was posted.
 pub fn says_posted(fact: &Fact, me: NodeId, owner: Owner, number: u64) -> bool
     ensures { result ≡ (is_plain me fact.now && tells_posted owner number fact.now.event) }
 {
-    is_plain(fact, me) && tells_posted(&fact.event, owner, number)
-}
-
-fn tells_flushed(event: &Event, owner: Owner, number: u64) -> bool
-    ensures { result ≡ tells_flushed owner number event.now }
-{
-    let Event::Flushed {
+    if !is_plain(fact, me) {
+        return false;
+    }
+    let Event::Posted {
         owner: x0,
         number: x1,
-    } = event
+    } = &fact.event
     else {
         return false;
     };
@@ -336,16 +277,13 @@ fn tells_flushed(event: &Event, owner: Owner, number: u64) -> bool
 pub fn says_flushed(fact: &Fact, me: NodeId, owner: Owner, number: u64) -> bool
     ensures { result ≡ (is_plain me fact.now && tells_flushed owner number fact.now.event) }
 {
-    is_plain(fact, me) && tells_flushed(&fact.event, owner, number)
-}
-
-fn tells_took(event: &Event, owner: Owner, number: u64) -> bool
-    ensures { result ≡ tells_took owner number event.now }
-{
-    let Event::Took {
+    if !is_plain(fact, me) {
+        return false;
+    }
+    let Event::Flushed {
         owner: x0,
         number: x1,
-    } = event
+    } = &fact.event
     else {
         return false;
     };
@@ -356,16 +294,13 @@ fn tells_took(event: &Event, owner: Owner, number: u64) -> bool
 pub fn says_took(fact: &Fact, me: NodeId, owner: Owner, number: u64) -> bool
     ensures { result ≡ (is_plain me fact.now && tells_took owner number fact.now.event) }
 {
-    is_plain(fact, me) && tells_took(&fact.event, owner, number)
-}
-
-fn tells_again(event: &Event, owner: Owner, number: u64) -> bool
-    ensures { result ≡ tells_again owner number event.now }
-{
-    let Event::Again {
+    if !is_plain(fact, me) {
+        return false;
+    }
+    let Event::Took {
         owner: x0,
         number: x1,
-    } = event
+    } = &fact.event
     else {
         return false;
     };
@@ -376,73 +311,65 @@ fn tells_again(event: &Event, owner: Owner, number: u64) -> bool
 pub fn says_again(fact: &Fact, me: NodeId, owner: Owner, number: u64) -> bool
     ensures { result ≡ (is_plain me fact.now && tells_again owner number fact.now.event) }
 {
-    is_plain(fact, me) && tells_again(&fact.event, owner, number)
-}
-
-fn tells_dropped(event: &Event, reason: DropReason) -> bool
-    ensures { result ≡ tells_dropped reason event.now }
-{
-    let Event::Dropped { reason: told } = event else {
+    if !is_plain(fact, me) {
+        return false;
+    }
+    let Event::Again {
+        owner: x0,
+        number: x1,
+    } = &fact.event
+    else {
         return false;
     };
-    is_reason(*told, reason)
+    x0.is_same(owner) && u64::from(*x1) == number
 }
 
 /// Whether a fact of the node says that the packet in front was dropped, for this reason.
 pub fn says_dropped(fact: &Fact, me: NodeId, reason: DropReason) -> bool
     ensures { result ≡ (is_plain me fact.now && tells_dropped reason fact.now.event) }
 {
-    is_plain(fact, me) && tells_dropped(&fact.event, reason)
-}
-
-fn tells_given(event: &Event, session: SessionNo, request: RequestNo) -> bool
-    ensures { result ≡ tells_given session request event.now }
-{
-    let Event::Given {
-        session: x0,
-        request: x1,
-    } = event
-    else {
+    if !is_plain(fact, me) {
+        return false;
+    }
+    let Event::Dropped { reason: told } = &fact.event else {
         return false;
     };
-    x0.0 == session.0 && x1.get() == request.get()
+    is_reason(*told, reason)
 }
 
 /// Whether a fact of the node says that a request became a background job.
 pub fn says_given(fact: &Fact, me: NodeId, session: SessionNo, request: RequestNo) -> bool
     ensures { result ≡ (is_plain me fact.now && tells_given session request fact.now.event) }
 {
-    is_plain(fact, me) && tells_given(&fact.event, session, request)
-}
-
-fn tells_rolled(event: &Event, call: CallNo, posted: u64, got: u64) -> bool
-    ensures { result ≡ tells_rolled call posted got event.now }
-{
-    let Event::Rolled {
-        call: x0,
-        posted: x1,
-        got: x2,
-    } = event
+    if !is_plain(fact, me) {
+        return false;
+    }
+    let Event::Given {
+        session: x0,
+        request: x1,
+    } = &fact.event
     else {
         return false;
     };
-    x0.0 == call.0 && u64::from(*x1) == posted && u64::from(*x2) == got
+    x0.0 == session.0 && x1.get() == request.get()
 }
 
 /// Whether a fact of the node says that a call was rolled back from `posted` to `got`.
 pub fn says_rolled(fact: &Fact, me: NodeId, call: CallNo, posted: u64, got: u64) -> bool
     ensures { result ≡ (is_plain me fact.now && tells_rolled call posted got fact.now.event) }
 {
-    is_plain(fact, me) && tells_rolled(&fact.event, call, posted, got)
-}
-
-fn tells_done_too_small(event: &Event, call: CallNo, size: u32) -> bool
-    ensures { result ≡ tells_done_too_small call size event.now }
-{
-    let Event::DoneTooSmall { call: x0, size: x1 } = event else {
+    if !is_plain(fact, me) {
+        return false;
+    }
+    let Event::Rolled {
+        call: x0,
+        posted: x1,
+        got: x2,
+    } = &fact.event
+    else {
         return false;
     };
-    x0.0 == call.0 && *x1 == size
+    x0.0 == call.0 && u64::from(*x1) == posted && u64::from(*x2) == got
 }
 
 /// Whether a fact of the node says that a call ended, since its answer of `size` bytes has no
@@ -450,37 +377,37 @@ fn tells_done_too_small(event: &Event, call: CallNo, size: u32) -> bool
 pub fn says_done_too_small(fact: &Fact, me: NodeId, call: CallNo, size: u32) -> bool
     ensures { result ≡ (is_plain me fact.now && tells_done_too_small call size fact.now.event) }
 {
-    is_plain(fact, me) && tells_done_too_small(&fact.event, call, size)
-}
-
-fn tells_done_peer_lost(event: &Event, call: CallNo) -> bool
-    ensures { result ≡ tells_done_peer_lost call event.now }
-{
-    let Event::DonePeerLost { call: told } = event else {
+    if !is_plain(fact, me) {
+        return false;
+    }
+    let Event::DoneTooSmall { call: x0, size: x1 } = &fact.event else {
         return false;
     };
-    told.0 == call.0
+    x0.0 == call.0 && *x1 == size
 }
 
 /// Whether a fact of the node says that a call ended, since its session lost its peer.
 pub fn says_done_peer_lost(fact: &Fact, me: NodeId, call: CallNo) -> bool
     ensures { result ≡ (is_plain me fact.now && tells_done_peer_lost call fact.now.event) }
 {
-    is_plain(fact, me) && tells_done_peer_lost(&fact.event, call)
-}
-
-fn tells_polled(event: &Event, now: u64) -> bool
-    ensures { result ≡ tells_polled now event.now }
-{
-    let Event::Polled { now: told } = event else {
+    if !is_plain(fact, me) {
+        return false;
+    }
+    let Event::DonePeerLost { call: told } = &fact.event else {
         return false;
     };
-    *told == now
+    told.0 == call.0
 }
 
 /// Whether a fact of the node says that a poll ended at this clock, in microseconds.
 pub fn says_polled(fact: &Fact, me: NodeId, now: u64) -> bool
     ensures { result ≡ (is_plain me fact.now && tells_polled now fact.now.event) }
 {
-    is_plain(fact, me) && tells_polled(&fact.event, now)
+    if !is_plain(fact, me) {
+        return false;
+    }
+    let Event::Polled { now: told } = &fact.event else {
+        return false;
+    };
+    *told == now
 }
