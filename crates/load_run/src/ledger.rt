@@ -14,7 +14,7 @@ use message_buffer::MsgBuf;
 use rpc_turns::{Buffers, Ended};
 
 /// The calls of a load, and how those ended that are over.
-#[derive(Debug, Drop)]
+#[derive(Drop)]
 pub struct Ledger {
     pub plan: Plan,
     pub tally: Tally,

@@ -5,7 +5,7 @@ ghost use Rattle.load_run.specs.declared.tally.Ending.{Ending};
 ghost use Rattle.memory_count.specs.Faults.{one_more};
 
 /// How a call of a load ended.
-#[derive(Clone, Copy, Debug, PartialEq, Eq)]
+#[derive(Clone, Copy)]
 pub enum Ending {
     /// Well, with a right answer.
     Right,
@@ -18,7 +18,7 @@ pub enum Ending {
 }
 
 /// How many calls ended so. Each count stops at 2^64 - 1.
-#[derive(Clone, Copy, Debug, PartialEq, Eq)]
+#[derive(Clone, Copy)]
 pub struct Tally {
     pub ok: u64,
     pub small: u64,

@@ -18,7 +18,6 @@ use worker_board::Parcel;
 
 /// Workers that work a job when they are told to, on the thread that tells them. Contracts see the
 /// jobs that wait, in order of giving, and those that are worked, in order of working.
-#[derive(Debug)]
 pub struct LocalWorkers<D: Duty> {
     duty: D,
     jobs: u32,

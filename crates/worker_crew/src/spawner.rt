@@ -36,7 +36,7 @@ pub trait Spawner<H: Named> {
 }
 
 /// Starts no hand: it hands every hand back.
-#[derive(Debug, Drop)]
+#[derive(Drop)]
 pub struct SerialSpawner {
     refused: u64,
 }

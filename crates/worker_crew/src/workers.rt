@@ -9,7 +9,7 @@ ghost use Rattle.worker_crew.specs.Jobs.{Job, job_of, HasRoom, IsAnswered, IsFul
 use worker_board::Parcel;
 
 /// A job that comes back.
-#[derive(Debug, Drop)]
+#[derive(Drop)]
 pub struct Finished {
     pub parcel: Parcel,
     /// Whether its buffer has the answer.
