@@ -49,11 +49,8 @@ pub fn case_of(file: &str) -> (&str, Wants) {
     }
 }
 
-// Whether these bytes are the first lines of a report, so many of them.
-pub fn is_front(report: &str, bytes: &[u8], lines: u64) -> bool {
-    let Ok(text) = str::from_utf8(bytes) else {
-        return false;
-    };
+/// Whether a text is the first lines of a report, so many of them.
+pub fn is_front(report: &str, text: &str, lines: u64) -> bool {
     let is_whole = text.is_empty() || text.ends_with('\n');
     report.starts_with(text) && is_whole && text.lines().count() as u64 == lines
 }
@@ -61,20 +58,6 @@ pub fn is_front(report: &str, bytes: &[u8], lines: u64) -> bool {
 /// How many facts a report has: all of its lines but the first and the last.
 pub fn facts_in(report: &str) -> usize {
     report.lines().count().saturating_sub(2)
-}
-
-/// Whether a verdict is the line that a report of so many facts is lawful.
-pub fn is_lawful_line(verdict: &str, facts: usize) -> bool {
-    let Some(number) = verdict.strip_prefix("lawful ") else {
-        return false;
-    };
-    let Some(digits) = number.strip_suffix("\n") else {
-        return false;
-    };
-    match digits.parse::<usize>() {
-        Ok(count) => count == facts,
-        Err(_) => false,
-    }
 }
 
 fn count_of(text: &str, wanted: &str) -> usize {

@@ -1,34 +1,13 @@
 //! Audits of texts, and whether they say what is wanted.
 use crate::changes::{change_of, changed, last_word};
-use crate::outside::Outside;
-use memory_count::Memory;
-use rpc_outside::{FirmLink, NoRecord, StepClock};
-use rpc_tools::{Status, run};
-use std::alloc::Global;
+use crate::runs::run_line;
+use rpc_tools::Status;
 use std::rt::Files;
 use std::sync::Wait;
 use std::{fs, io};
-use worker_crew::SerialSpawner;
 
 /// More bytes than a report may have that is audited.
 const TOO_MANY: usize = 67_108_865;
-
-// How the program ends that audits what its source has.
-fn audit<H: Wait + Drop>(rt: H, alloc: Global, outside: &mut Outside) -> io::Result<Status> {
-    let word = String::from_str(alloc, "audit")?;
-    let words = Vec::from_array(alloc, [word])?;
-    Ok(run(
-        &mut Memory::new(alloc),
-        rt,
-        words.as_slice(),
-        &mut outside.source,
-        &mut outside.sink,
-        &mut FirmLink::new(Vec::new(alloc)),
-        &mut StepClock::new(0, 0),
-        &mut SerialSpawner::new(),
-        &mut NoRecord,
-    ))
-}
 
 // Whether a run ended as a line says that an audit writes.
 fn is_status(status: Status, line: &str) -> bool {
@@ -41,19 +20,21 @@ fn is_status(status: Status, line: &str) -> bool {
 }
 
 // Whether what was written is this line.
-fn is_line(written: &[u8], line: &str) -> bool {
-    match written.strip_suffix(b"\n") {
-        Some(front) => front == line.as_bytes(),
+fn is_line(written: &str, line: &str) -> bool {
+    match written.strip_suffix("\n") {
+        Some(front) => front == line,
         None => false,
     }
 }
 
-// Whether an audit of these bytes writes this line, and ends as it says.
-fn says<H: AllocGlobal + Wait + Copy + Drop>(rt: H, bytes: &[u8], line: &str) -> io::Result<bool> {
-    let alloc = rt.alloc();
-    let mut outside = Outside::new(alloc, bytes)?;
-    let status = audit(rt, alloc, &mut outside)?;
-    Ok(is_status(status, line) && is_line(outside.sink.bytes(), line))
+/// Whether an audit of these bytes writes this line, and ends as it says.
+pub fn says<H: AllocGlobal + Wait + Copy + Drop>(
+    rt: H,
+    bytes: &[u8],
+    line: &str,
+) -> io::Result<bool> {
+    let ran = run_line(rt, "audit", bytes, None, 0)?;
+    Ok(is_status(ran.status, line) && is_line(ran.text.as_str(), line))
 }
 
 // What a line of changes has: the name of a report, its change, and the line that is wanted.
