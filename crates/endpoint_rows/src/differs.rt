@@ -1,6 +1,6 @@
 //! What differs from what a row expects.
 use memory_count::NoMemory;
-use std::fmt;
+use std::{fmt, io};
 
 /// The first thing of a row that isn't as expected.
 #[derive(Drop)]
@@ -44,6 +44,16 @@ impl fmt::Display for Differs {
 impl From<NoMemory> for Differs {
     fn from(_error: NoMemory) -> Self {
         Differs::Memory
+    }
+}
+
+impl From<Differs> for io::Error {
+    fn from(differs: Differs) -> Self {
+        io::Error::from(match differs {
+            Differs::Memory => io::ErrorKind::OutOfMemory,
+            Differs::Step => io::ErrorKind::InvalidInput,
+            _ => io::ErrorKind::InvalidData,
+        })
     }
 }
 

@@ -17,7 +17,7 @@ fn carry<V: Service, W: Workers, X: Service, Y: Workers>(
     let Some((_to, bytes)) = from.link.sent(n) else {
         return Err(Differs::Sent);
     };
-    to.deliver(bytes, Delivery::Ring)
+    to.expect_delivery(bytes, Delivery::Ring)
 }
 
 fn take<V: Service, W: Workers>(

@@ -7,7 +7,7 @@ use rpc_base::{Octets, Peer};
 use rpc_outside::MemLink;
 
 /// More datagrams than a row sends.
-const ROOM: u32 = 80;
+const ROOM: u32 = 256;
 
 /// A link that takes all.
 pub fn sound_link(memory: &mut Memory) -> Result<MemLink, NoMemory>

@@ -1,12 +1,12 @@
 //! Each row takes its steps with endpoints of its own.
 use crate::arrivals::requests;
-use crate::bench::did;
 use crate::differs::Differs;
 use crate::joint::take_both;
 use crate::joint_tables::{COUNTED, NEWEST_FIRST, TAGGED};
 use crate::links::{busy_link, failing_link, giving_link};
 use crate::makers::{client_over, counting_server, newest_server, plain_client, plain_server};
 use crate::step::Step;
+use crate::steps::did;
 use crate::tables::{ASK_FOUR, FAULT, FOUR_SENT, MOST_ARRIVALS, RECEIVING_FAULT};
 use endpoint_loop::{LinkFault, Turn};
 use memory_count::Memory;
@@ -63,8 +63,8 @@ fn send_four(
 ) -> Result<(), Differs> {
     let mut client = client_over(memory, link)?;
     client.take_all(&ASK_FOUR)?;
-    client.poll(first)?;
-    client.poll(did(0, CALLS.saturating_sub(sent)))?;
+    client.expect_poll(first)?;
+    client.expect_poll(did(0, CALLS.saturating_sub(sent)))?;
     client.take_all(&FOUR_SENT)
 }
 

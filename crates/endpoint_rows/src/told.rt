@@ -5,7 +5,7 @@ use report_text::print_facts;
 use rpc_outside::{MemRecorder, MemSink};
 
 /// More bytes than the report of a row has.
-const ROOM: u32 = 1 << 16;
+const ROOM: u32 = 1 << 20;
 
 // The lines of a report between its first and its last.
 fn between(report: &str) -> Option<&str> {
@@ -14,8 +14,8 @@ fn between(report: &str) -> Option<&str> {
     Some(lines)
 }
 
-// The lines of the facts, as a report has them.
-fn lines_of(memory: &mut Memory, recorder: &MemRecorder) -> Result<String, Differs> {
+/// The lines of the facts, as a report has them.
+pub fn lines_of(memory: &mut Memory, recorder: &MemRecorder) -> Result<String, Differs> {
     let none = Vec::new(memory.alloc());
     let mut sink = MemSink::new(memory, ROOM, none)?;
     if print_facts(recorder.facts(), &mut sink).is_err() || !recorder.whole() {

@@ -1,4 +1,4 @@
-//! The steps of a row.
+//! What is done to an endpoint by a row of standard input, step by step.
 use crate::spelling::bytes_of;
 use memory_count::{Memory, NoMemory};
 use packet_header::Life;
@@ -6,7 +6,7 @@ use rpc_base::{Peer, SessionNo};
 
 /// What is done to the endpoint.
 #[derive(Drop)]
-pub enum Step {
+pub enum Act {
     /// It takes the server end of a pair, with a client of this life.
     Server {
         peer: Peer,
@@ -67,9 +67,9 @@ fn life_of(word: &str) -> Option<Life> {
     Some(Life(word.parse::<u32>().ok()?))
 }
 
-fn server_of(peer: &str, session: &str, credits: &str, life: &str) -> Option<Step> {
+fn server_of(peer: &str, session: &str, credits: &str, life: &str) -> Option<Act> {
     let (peer, client, credits) = end_of(peer, session, credits)?;
-    Some(Step::Server {
+    Some(Act::Server {
         peer,
         life: life_of(life)?,
         client,
@@ -77,9 +77,9 @@ fn server_of(peer: &str, session: &str, credits: &str, life: &str) -> Option<Ste
     })
 }
 
-fn client_of(peer: &str, session: &str, credits: &str, life: &str) -> Option<Step> {
+fn client_of(peer: &str, session: &str, credits: &str, life: &str) -> Option<Act> {
     let (peer, server, credits) = end_of(peer, session, credits)?;
-    Some(Step::Client {
+    Some(Act::Client {
         peer,
         life: life_of(life)?,
         server,
@@ -87,8 +87,8 @@ fn client_of(peer: &str, session: &str, credits: &str, life: &str) -> Option<Ste
     })
 }
 
-fn connect_of(peer: &str, credits: &str) -> Option<Step> {
-    Some(Step::Connect {
+fn connect_of(peer: &str, credits: &str) -> Option<Act> {
+    Some(Act::Connect {
         peer: peer_of(peer)?,
         credits: credits.parse::<u16>().ok()?,
     })
@@ -109,14 +109,14 @@ fn ask_of(
     req_type: &str,
     bytes: &str,
     room: &str,
-) -> Result<Option<Step>, NoMemory> {
+) -> Result<Option<Act>, NoMemory> {
     let Some((session, req_type, room)) = call_of(session, req_type, room) else {
         return Ok(None);
     };
     let Some(bytes) = bytes_of(memory, bytes)? else {
         return Ok(None);
     };
-    Ok(Some(Step::Ask {
+    Ok(Some(Act::Ask {
         session,
         req_type,
         bytes,
@@ -124,29 +124,29 @@ fn ask_of(
     }))
 }
 
-fn deliver_of(memory: &mut Memory, peer: &str, bytes: &str) -> Result<Option<Step>, NoMemory> {
+fn deliver_of(memory: &mut Memory, peer: &str, bytes: &str) -> Result<Option<Act>, NoMemory> {
     let Some(peer) = peer_of(peer) else {
         return Ok(None);
     };
     let Some(bytes) = bytes_of(memory, bytes)? else {
         return Ok(None);
     };
-    Ok(Some(Step::Deliver { peer, bytes }))
+    Ok(Some(Act::Deliver { peer, bytes }))
 }
 
-fn work_of(job: &str) -> Option<Step> {
+fn work_of(job: &str) -> Option<Act> {
     let job = job.parse::<u32>().ok()?;
-    Some(Step::Work { job })
+    Some(Act::Work { job })
 }
 
-fn poll_of(now: &str) -> Option<Step> {
+fn poll_of(now: &str) -> Option<Act> {
     let now = now.parse::<u64>().ok()?;
-    Some(Step::Poll { now })
+    Some(Act::Poll { now })
 }
 
 /// The step that a line spells, if it does. Its numbers fit their types, and may still be outside
 /// what an endpoint takes.
-pub fn read_step(memory: &mut Memory, line: &str) -> Result<Option<Step>, NoMemory> {
+pub fn read_act(memory: &mut Memory, line: &str) -> Result<Option<Act>, NoMemory> {
     let mut words = line.split(' ');
     let name = words.next().unwrap_or("");
     let (first, second) = (words.next().unwrap_or(""), words.next().unwrap_or(""));
