@@ -2,6 +2,7 @@
 //! it, `stamp I BYTE` gives packet I a head of sixteen such bytes, and `packet I` and `bytes` show
 //! them.
 use crate::no_memory;
+use crate::part::{Part, call_all, tell_code, tell_no_call, tell_of};
 use crate::step::Step;
 use memory_count::Memory;
 use message_buffer::{MOST_CAPACITY, MsgBuf};
@@ -18,20 +19,12 @@ pub fn drive(rt: &impl Print, memory: &mut Memory, capacity: u32, calls: &str) -
     call_all(rt, memory, &mut buffer, calls)
 }
 
-fn call_all(rt: &impl Print, memory: &Memory, buffer: &mut MsgBuf, calls: &str) -> io::Result<()> {
-    for line in calls.lines() {
-        print!(rt; "  {line}: ")?;
-        call(rt, memory, buffer, Step::read(line))?;
-    }
-    Ok(())
-}
-
 fn set_len(rt: &impl Print, buffer: &mut MsgBuf, len: u32) -> io::Result<()> {
     if buffer.capacity() < len {
         return println!(rt; "too long");
     }
     buffer.set_len(len);
-    println!(rt; "{} of {}", buffer.len(), buffer.capacity())
+    tell_of(rt, buffer.len(), buffer.capacity())
 }
 
 fn write(rt: &impl Print, memory: &Memory, buffer: &mut MsgBuf, step: Step) -> io::Result<()> {
@@ -69,17 +62,19 @@ fn tell_packet(rt: &impl Print, memory: &Memory, buffer: &MsgBuf, index: u32) ->
     )
 }
 
-fn call(rt: &impl Print, memory: &Memory, buffer: &mut MsgBuf, step: Step) -> io::Result<()> {
-    match step.name {
-        "len" => set_len(rt, buffer, step.long(0)),
-        "write" => write(rt, memory, buffer, step),
-        "fill" => {
-            buffer.whole_mut().fill(step.byte(0));
-            println!(rt; "filled")
+impl Part for MsgBuf {
+    fn call<R: Print>(&mut self, rt: &R, memory: &mut Memory, step: Step) -> io::Result<()> {
+        match step.name {
+            "len" => set_len(rt, self, step.long(0)),
+            "write" => write(rt, memory, self, step),
+            "fill" => {
+                self.whole_mut().fill(step.byte(0));
+                println!(rt; "filled")
+            }
+            "stamp" => stamp(rt, self, step.long(0), step.byte(1)),
+            "packet" => tell_packet(rt, memory, self, step.long(0)),
+            "bytes" => tell_code(rt, &self.bytes()),
+            _ => tell_no_call(rt),
         }
-        "stamp" => stamp(rt, buffer, step.long(0), step.byte(1)),
-        "packet" => tell_packet(rt, memory, buffer, step.long(0)),
-        "bytes" => println!(rt; "{:?}", buffer.bytes()),
-        _ => println!(rt; "no such call"),
     }
 }

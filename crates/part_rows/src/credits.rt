@@ -1,6 +1,8 @@
 //! The book of credits: `charge SLOT`, `back SLOT`, `roll SLOT` and `show SLOT`.
+use crate::part::{Part, call_all, tell_no_call};
 use crate::step::Step;
 use credit_book::CreditBook;
+use memory_count::Memory;
 use rpc_base::MOST_CREDITS;
 use std::io;
 
@@ -8,16 +10,20 @@ use std::io;
 const SLOTS: u8 = 8;
 
 /// Makes a book of this limit, and tells the free credits and the slot's packets after each call.
-pub fn drive(rt: &impl Print, limit: u16, calls: &str) -> io::Result<()> {
+pub fn drive(rt: &impl Print, memory: &mut Memory, limit: u16, calls: &str) -> io::Result<()> {
     if limit < 1 || MOST_CREDITS < limit {
         return println!(rt; "no such book");
     }
-    let mut book = CreditBook::new(limit);
-    for line in calls.lines() {
-        print!(rt; "  {line}: ")?;
-        call(rt, &mut book, Step::read(line))?;
-    }
-    Ok(())
+    call_all(rt, memory, &mut CreditBook::new(limit), calls)
+}
+
+fn show(rt: &impl Print, book: &CreditBook, slot: u8) -> io::Result<()> {
+    let slot = slot % SLOTS;
+    println!(rt;
+        "free {}, slot {slot} has {}",
+        book.free(),
+        book.unanswered(slot)
+    )
 }
 
 fn charge(rt: &impl Print, book: &mut CreditBook, slot: u8) -> io::Result<()> {
@@ -26,11 +32,7 @@ fn charge(rt: &impl Print, book: &mut CreditBook, slot: u8) -> io::Result<()> {
         return println!(rt; "no credit");
     }
     book.charge(slot);
-    println!(rt;
-        "free {}, slot {slot} has {}",
-        book.free(),
-        book.unanswered(slot)
-    )
+    show(rt, book, slot)
 }
 
 fn give_back(rt: &impl Print, book: &mut CreditBook, slot: u8) -> io::Result<()> {
@@ -39,36 +41,24 @@ fn give_back(rt: &impl Print, book: &mut CreditBook, slot: u8) -> io::Result<()>
         return println!(rt; "no packet");
     }
     book.give_back(slot);
-    println!(rt;
-        "free {}, slot {slot} has {}",
-        book.free(),
-        book.unanswered(slot)
-    )
+    show(rt, book, slot)
 }
 
 fn roll(rt: &impl Print, book: &mut CreditBook, slot: u8) -> io::Result<()> {
     let slot = slot % SLOTS;
     let count = book.roll(slot);
-    println!(rt;
-        "{count} came, free {}, slot {slot} has {}",
-        book.free(),
-        book.unanswered(slot)
-    )
+    print!(rt; "{count} came, ")?;
+    show(rt, book, slot)
 }
 
-fn call(rt: &impl Print, book: &mut CreditBook, step: Step) -> io::Result<()> {
-    match step.name {
-        "charge" => charge(rt, book, step.byte(0)),
-        "back" => give_back(rt, book, step.byte(0)),
-        "roll" => roll(rt, book, step.byte(0)),
-        "show" => {
-            let slot = step.byte(0) % SLOTS;
-            println!(rt;
-                "free {}, slot {slot} has {}",
-                book.free(),
-                book.unanswered(slot)
-            )
+impl Part for CreditBook {
+    fn call<R: Print>(&mut self, rt: &R, _memory: &mut Memory, step: Step) -> io::Result<()> {
+        match step.name {
+            "charge" => charge(rt, self, step.byte(0)),
+            "back" => give_back(rt, self, step.byte(0)),
+            "roll" => roll(rt, self, step.byte(0)),
+            "show" => show(rt, self, step.byte(0)),
+            _ => tell_no_call(rt),
         }
-        _ => println!(rt; "no such call"),
     }
 }

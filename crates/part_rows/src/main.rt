@@ -1,6 +1,7 @@
-//! The parts that an endpoint is made of, each by itself. Standard input has rows: a line `# ..` tells
-//! what the row shows, the next one makes a part, and each further line is a call of it. They are
-//! told with what each call answers. A further row costs no proof.
+//! The parts that an endpoint is made of, each by itself. Standard input has rows: a line `# ..`
+//! tells what the row shows, the next one makes a part, and each further line is a call of it. They
+//! are told with what each call answers. A file has calls of links over sockets. A further row
+//! costs no proof.
 #![tactic(auto)]
 
 mod buffers;
@@ -9,16 +10,18 @@ mod credits;
 mod network;
 mod pacing;
 mod packets;
+mod part;
 mod places;
 mod receiving;
 mod sending;
 mod slots;
+mod sockets;
 mod step;
 
 use crate::step::Step;
 use memory_count::{Memory, NoMemory};
-use std::io;
 use std::io::Read;
+use std::{fs, io};
 
 /// An error of want of memory.
 fn no_memory(_none: NoMemory) -> io::Error {
@@ -33,7 +36,7 @@ fn drive(rt: &impl Print, memory: &mut Memory, first: &str, calls: &str) -> io::
         "receive" => receiving::drive(rt, memory, made.long(0), calls),
         "transmit" => sending::drive(rt, memory, made.long(0), calls),
         "pacer" => pacing::drive(rt, memory, made.long(0), calls),
-        "credits" => credits::drive(rt, made.short(0), calls),
+        "credits" => credits::drive(rt, memory, made.short(0), calls),
         "slots" => slots::drive(rt, memory, calls),
         "calling" => callers::drive(rt, memory, calls),
         "network" => network::drive(rt, memory, calls),
@@ -58,5 +61,6 @@ fn main(rt: HostRuntime) -> io::Result<()> {
     for text in text.as_str().split("# ").skip(1) {
         row(&rt, &mut memory, text)?;
     }
-    Ok(())
+    let calls = fs::read_to_string(&rt, "sockets.calls")?;
+    sockets::drive(&rt, rt.alloc(), calls.as_str())
 }

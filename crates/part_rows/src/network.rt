@@ -1,6 +1,7 @@
 //! The copies in flight: `send FROM TO BYTE`, `carry I`, `lose I`, `repeat I`, `node FROM TO BYTE`
 //! for what a node's own link sent, and `len`.
 use crate::no_memory;
+use crate::part::{Part, call_all, tell, tell_code, tell_no_call};
 use crate::step::Step;
 use memory_count::{Memory, NoMemory};
 use network_model::{Copy, Net, NodeLink};
@@ -12,14 +13,6 @@ use std::io;
 pub fn drive(rt: &impl Print, memory: &mut Memory, calls: &str) -> io::Result<()> {
     let mut net = Net::new(memory.alloc());
     call_all(rt, memory, &mut net, calls)
-}
-
-fn call_all(rt: &impl Print, memory: &mut Memory, net: &mut Net, calls: &str) -> io::Result<()> {
-    for line in calls.lines() {
-        print!(rt; "  {line}: ")?;
-        call(rt, memory, net, Step::read(line))?;
-    }
-    Ok(())
 }
 
 // The sender of a copy, its receiver, its length and its last byte.
@@ -38,22 +31,27 @@ fn send_by_link(memory: &mut Memory, net: &mut Net, step: Step) -> Result<bool, 
     Ok(sent == Ok(Taken::Whole))
 }
 
-fn call(rt: &impl Print, memory: &mut Memory, net: &mut Net, step: Step) -> io::Result<()> {
-    match step.name {
-        "send" => {
-            let (from, to) = (NodeId(step.byte(0)), NodeId(step.byte(1)));
-            net.send(memory, from, to, b"head", &[step.byte(2)])
-                .map_err(no_memory)?;
-            println!(rt; "{} in flight", net.len())
+// Sends bytes that end with this one, and tells how many copies are in flight.
+fn send(rt: &impl Print, memory: &mut Memory, net: &mut Net, step: Step) -> io::Result<()> {
+    let (from, to) = (NodeId(step.byte(0)), NodeId(step.byte(1)));
+    let sent = net.send(memory, from, to, b"head", &[step.byte(2)]);
+    sent.map_err(no_memory)?;
+    println!(rt; "{} in flight", net.len())
+}
+
+impl Part for Net {
+    fn call<R: Print>(&mut self, rt: &R, memory: &mut Memory, step: Step) -> io::Result<()> {
+        match step.name {
+            "send" => send(rt, memory, self, step),
+            "node" => {
+                let whole = send_by_link(memory, self, step).map_err(no_memory)?;
+                println!(rt; "whole {whole}, {} in flight", self.len())
+            }
+            "carry" => tell_code(rt, &shown(self.carry(step.long(0)))),
+            "lose" => tell_code(rt, &shown(self.lose(step.long(0)))),
+            "repeat" => tell(rt, &self.repeat(memory, step.long(0)).map_err(no_memory)?),
+            "len" => tell(rt, &self.len()),
+            _ => tell_no_call(rt),
         }
-        "node" => {
-            let whole = send_by_link(memory, net, step).map_err(no_memory)?;
-            println!(rt; "whole {whole}, {} in flight", net.len())
-        }
-        "carry" => println!(rt; "{:?}", shown(net.carry(step.long(0)))),
-        "lose" => println!(rt; "{:?}", shown(net.lose(step.long(0)))),
-        "repeat" => println!(rt; "{}", net.repeat(memory, step.long(0)).map_err(no_memory)?),
-        "len" => println!(rt; "{}", net.len()),
-        _ => println!(rt; "no such call"),
     }
 }

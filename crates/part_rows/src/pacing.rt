@@ -2,6 +2,7 @@
 //! `holds PACKET`, `flush OWNER` and `len`.
 use crate::no_memory;
 use crate::packets::{Told, owner_of, packet_of};
+use crate::part::{Part, call_all, tell, tell_code, tell_no_call, tell_of};
 use crate::step::Step;
 use memory_count::Memory;
 use pacing_wheel::{Paced, Pacer};
@@ -10,15 +11,7 @@ use std::io;
 /// Makes a pacer of this size, and tells what each call of it answers.
 pub fn drive(rt: &impl Print, memory: &mut Memory, size: u32, calls: &str) -> io::Result<()> {
     let mut pacer = Pacer::new(memory, size).map_err(no_memory)?;
-    call_all(rt, &mut pacer, calls)
-}
-
-fn call_all(rt: &impl Print, pacer: &mut Pacer, calls: &str) -> io::Result<()> {
-    for line in calls.lines() {
-        print!(rt; "  {line}: ")?;
-        call(rt, pacer, Step::read(line))?;
-    }
-    Ok(())
+    call_all(rt, memory, &mut pacer, calls)
 }
 
 fn add(rt: &impl Print, pacer: &mut Pacer, due: u64, packet: &str) -> io::Result<()> {
@@ -36,20 +29,22 @@ fn tell_due(rt: &impl Print, paced: Option<Paced>) -> io::Result<()> {
     }
 }
 
-fn call(rt: &impl Print, pacer: &mut Pacer, step: Step) -> io::Result<()> {
-    match step.name {
-        "add" => add(rt, pacer, step.huge(0), step.word(1)),
-        "release" => println!(rt; "{}", Told(pacer.release(step.huge(0)))),
-        "due" => tell_due(rt, pacer.first_due(step.huge(0))),
-        "front" => tell_due(rt, pacer.front()),
-        "pop" => println!(rt; "{}", Told(pacer.pop())),
-        "least" => println!(rt; "{:?}", pacer.least(owner_of(step.word(0)))),
-        "holds" => {
-            let packet = packet_of(step.word(0));
-            println!(rt; "{}", pacer.holds(packet.owner, packet.number))
+impl Part for Pacer {
+    fn call<R: Print>(&mut self, rt: &R, _memory: &mut Memory, step: Step) -> io::Result<()> {
+        match step.name {
+            "add" => add(rt, self, step.huge(0), step.word(1)),
+            "release" => tell(rt, &Told(self.release(step.huge(0)))),
+            "due" => tell_due(rt, self.first_due(step.huge(0))),
+            "front" => tell_due(rt, self.front()),
+            "pop" => tell(rt, &Told(self.pop())),
+            "least" => tell_code(rt, &self.least(owner_of(step.word(0)))),
+            "holds" => {
+                let packet = packet_of(step.word(0));
+                tell(rt, &self.holds(packet.owner, packet.number))
+            }
+            "flush" => tell(rt, &Told(self.flush(owner_of(step.word(0))))),
+            "len" => tell_of(rt, self.len(), self.size()),
+            _ => tell_no_call(rt),
         }
-        "flush" => println!(rt; "{}", Told(pacer.flush(owner_of(step.word(0))))),
-        "len" => println!(rt; "{} of {}", pacer.len(), pacer.size()),
-        _ => println!(rt; "no such call"),
     }
 }

@@ -1,5 +1,5 @@
-//! How rows write owners and packets: `a4.8` is request 8 of client session 4, `r4.8` that of server
-//! session 4, and `a4.8.2` packet 2 of it.
+//! How rows write owners and packets: `a4.8` is request 8 of client session 4, `r4.8` that of
+//! server session 4, and `a4.8.2` packet 2 of it.
 use packet_rings::Entry;
 use rpc_base::{Owner, Peer, RequestNo, SessionNo};
 use std::fmt;

@@ -1,5 +1,5 @@
-//! The places of a pool of five, as buffers come and go. Which calls may be made a program can't ask
-//! of a pool, so these stand here and not in the rows.
+//! The places of a pool of five, as buffers come and go. Which calls may be made a program can't
+//! ask of a pool, so these stand here and not in the rows.
 ghost use Rattle.std.specs.Prelude.{◌≡◌, ◌<◌, ◌+◌};
 ghost use Rattle.buffer_pool.specs.Pool.{IsFull, refs_of, spare_of};
 

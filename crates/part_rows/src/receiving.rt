@@ -1,6 +1,7 @@
 //! The receive ring: `push PEER LENGTH BYTE` for a datagram of so many bytes that are all the same,
 //! `front`, `drop` and `len`.
 use crate::no_memory;
+use crate::part::{Part, call_all, tell_no_call, tell_of};
 use crate::step::Step;
 use memory_count::Memory;
 use packet_rings::RxRing;
@@ -10,15 +11,7 @@ use std::io;
 /// Makes a ring of this size, and tells what each call of it answers.
 pub fn drive(rt: &impl Print, memory: &mut Memory, size: u32, calls: &str) -> io::Result<()> {
     let mut ring = RxRing::new(memory, size).map_err(no_memory)?;
-    call_all(rt, &mut ring, calls)
-}
-
-fn call_all(rt: &impl Print, ring: &mut RxRing, calls: &str) -> io::Result<()> {
-    for line in calls.lines() {
-        print!(rt; "  {line}: ")?;
-        call(rt, ring, Step::read(line))?;
-    }
-    Ok(())
+    call_all(rt, memory, &mut ring, calls)
 }
 
 fn push(rt: &impl Print, ring: &mut RxRing, step: Step) -> io::Result<()> {
@@ -45,20 +38,22 @@ fn tell_front(rt: &impl Print, ring: &RxRing) -> io::Result<()> {
     )
 }
 
-fn call(rt: &impl Print, ring: &mut RxRing, step: Step) -> io::Result<()> {
-    match step.name {
-        "push" => push(rt, ring, step),
-        "front" => tell_front(rt, ring),
-        "drop" => {
-            ring.drop_front();
-            println!(rt; "{} of {}", ring.len(), ring.size())
+impl Part for RxRing {
+    fn call<R: Print>(&mut self, rt: &R, _memory: &mut Memory, step: Step) -> io::Result<()> {
+        match step.name {
+            "push" => push(rt, self, step),
+            "front" => tell_front(rt, self),
+            "drop" => {
+                self.drop_front();
+                tell_of(rt, self.len(), self.size())
+            }
+            "len" => println!(rt;
+                "{} of {}, empty {}",
+                self.len(),
+                self.size(),
+                self.is_empty()
+            ),
+            _ => tell_no_call(rt),
         }
-        "len" => println!(rt;
-            "{} of {}, empty {}",
-            ring.len(),
-            ring.size(),
-            ring.is_empty()
-        ),
-        _ => println!(rt; "no such call"),
     }
 }

@@ -2,6 +2,7 @@
 //! `replies` and `len`.
 use crate::no_memory;
 use crate::packets::{Told, owner_of, packet_of};
+use crate::part::{Part, call_all, tell, tell_code, tell_no_call, tell_of};
 use crate::step::Step;
 use memory_count::Memory;
 use packet_rings::TxRing;
@@ -10,15 +11,7 @@ use std::io;
 /// Makes a ring of this size, and tells what each call of it answers.
 pub fn drive(rt: &impl Print, memory: &mut Memory, size: u32, calls: &str) -> io::Result<()> {
     let mut ring = TxRing::new(memory, size).map_err(no_memory)?;
-    call_all(rt, &mut ring, calls)
-}
-
-fn call_all(rt: &impl Print, ring: &mut TxRing, calls: &str) -> io::Result<()> {
-    for line in calls.lines() {
-        print!(rt; "  {line}: ")?;
-        call(rt, ring, Step::read(line))?;
-    }
-    Ok(())
+    call_all(rt, memory, &mut ring, calls)
 }
 
 fn push(rt: &impl Print, ring: &mut TxRing, packet: &str) -> io::Result<()> {
@@ -29,19 +22,21 @@ fn push(rt: &impl Print, ring: &mut TxRing, packet: &str) -> io::Result<()> {
     println!(rt; "pushed")
 }
 
-fn call(rt: &impl Print, ring: &mut TxRing, step: Step) -> io::Result<()> {
-    match step.name {
-        "push" => push(rt, ring, step.word(0)),
-        "front" => println!(rt; "{}", Told(ring.front().copied())),
-        "pop" => println!(rt; "{}", Told(ring.pop())),
-        "least" => println!(rt; "{:?}", ring.least(owner_of(step.word(0)))),
-        "holds" => {
-            let packet = packet_of(step.word(0));
-            println!(rt; "{}", ring.holds(packet.owner, packet.number))
+impl Part for TxRing {
+    fn call<R: Print>(&mut self, rt: &R, _memory: &mut Memory, step: Step) -> io::Result<()> {
+        match step.name {
+            "push" => push(rt, self, step.word(0)),
+            "front" => tell(rt, &Told(self.front().copied())),
+            "pop" => tell(rt, &Told(self.pop())),
+            "least" => tell_code(rt, &self.least(owner_of(step.word(0)))),
+            "holds" => {
+                let packet = packet_of(step.word(0));
+                tell(rt, &self.holds(packet.owner, packet.number))
+            }
+            "flush" => tell(rt, &Told(self.flush(owner_of(step.word(0))))),
+            "replies" => tell(rt, &self.replies()),
+            "len" => tell_of(rt, self.len(), self.size()),
+            _ => tell_no_call(rt),
         }
-        "flush" => println!(rt; "{}", Told(ring.flush(owner_of(step.word(0))))),
-        "replies" => println!(rt; "{}", ring.replies()),
-        "len" => println!(rt; "{} of {}", ring.len(), ring.size()),
-        _ => println!(rt; "no such call"),
     }
 }

@@ -1,6 +1,7 @@
 //! The slots of a session: `wait CALL`, `begin`, `of REQUEST`, `end REQUEST`, `drain` and `newest`.
 //! A call has its number and 100 as its tag.
 use crate::no_memory;
+use crate::part::{Part, call_all, tell_code, tell_no_call};
 use crate::step::Step;
 use memory_count::{Memory, NoMemory};
 use message_buffer::MsgBuf;
@@ -15,19 +16,6 @@ const TAGS: u64 = 100;
 pub fn drive(rt: &impl Print, memory: &mut Memory, calls: &str) -> io::Result<()> {
     let mut table = SlotTable::new(memory.alloc());
     call_all(rt, memory, &mut table, calls)
-}
-
-fn call_all(
-    rt: &impl Print,
-    memory: &mut Memory,
-    table: &mut SlotTable,
-    calls: &str,
-) -> io::Result<()> {
-    for line in calls.lines() {
-        print!(rt; "  {line}: ")?;
-        call(rt, memory, table, Step::read(line))?;
-    }
-    Ok(())
 }
 
 // A call with two empty buffers.
@@ -70,15 +58,17 @@ fn request_of(number: u32) -> RequestNo {
     RequestNo::of((number % 8) as u8, u64::from(number / 8))
 }
 
-fn call(rt: &impl Print, memory: &mut Memory, table: &mut SlotTable, step: Step) -> io::Result<()> {
-    let request = request_of(step.long(0));
-    match step.name {
-        "wait" => wait(rt, memory, table, step.long(0)),
-        "begin" => println!(rt; "{:?}", begin(table)),
-        "of" => println!(rt; "{:?}", table.call_of(request).map(|call| call.0)),
-        "end" => end(rt, table, request),
-        "drain" => println!(rt; "{:?}", table.drain().map(|waiting| waiting.tag)),
-        "newest" => println!(rt; "{:?}", table.newest().map(|waiting| waiting.tag)),
-        _ => println!(rt; "no such call"),
+impl Part for SlotTable {
+    fn call<R: Print>(&mut self, rt: &R, memory: &mut Memory, step: Step) -> io::Result<()> {
+        let request = request_of(step.long(0));
+        match step.name {
+            "wait" => wait(rt, memory, self, step.long(0)),
+            "begin" => tell_code(rt, &begin(self)),
+            "of" => tell_code(rt, &self.call_of(request).map(|call| call.0)),
+            "end" => end(rt, self, request),
+            "drain" => tell_code(rt, &self.drain().map(|waiting| waiting.tag)),
+            "newest" => tell_code(rt, &self.newest().map(|waiting| waiting.tag)),
+            _ => tell_no_call(rt),
+        }
     }
 }

@@ -1,16 +1,13 @@
-//! Links over sockets of this machine. Each line of standard input is a call of one of them, `here`,
-//! `there` or `yonder`: `bind ADDRESS`, `peer ADDRESS`, `send PEER TEXT`, `connect LIFE`, which asks
-//! peer 0 to connect, `forget PEER`, `recv`, or `await`, which receives until a datagram is there. It
-//! is told with what it answers, a datagram by what stands behind its header. A further call costs
-//! no proof.
-#![tactic(auto)]
-
+//! Links over sockets of this machine. Each line of a file is a call of one of them, `here`,
+//! `there` or `yonder`: `bind ADDRESS`, `peer ADDRESS`, `send PEER TEXT`, `connect LIFE`, which
+//! asks peer 0 to connect, `forget PEER`, `recv`, or `await`, which receives until a datagram is
+//! there. It is told with what it answers, a datagram by what stands behind its header. A further
+//! call costs no proof.
 use packet_header::{ControlHeader, ControlKind, Life, MAGIC, Packet, encode};
 use rpc_base::{HEAD_BYTES, Peer, SessionNo};
 use rpc_outside::{Failed, Got, Link, MOST_LINK_BYTES};
 use std::alloc::Global;
 use std::io;
-use std::io::Read;
 use std::net::Net;
 use udp_link::UdpLink;
 
@@ -131,15 +128,10 @@ fn call_all(
     Ok(())
 }
 
-fn drive<R: Print + Net>(rt: &R, alloc: Global, calls: &str) -> io::Result<()> {
+/// Makes three links, and tells what these calls answer.
+pub fn drive<R: Print + Net>(rt: &R, alloc: Global, calls: &str) -> io::Result<()> {
     let mut here = UdpLink::new(alloc, rt);
     let mut there = UdpLink::new(alloc, rt);
     let mut yonder = UdpLink::new(alloc, rt);
     call_all(rt, &mut here, &mut there, &mut yonder, calls)
-}
-
-fn main(rt: HostRuntime) -> io::Result<()> {
-    let mut text = String::new(rt.alloc());
-    rt.stdin().read_to_string(&mut text)?;
-    drive(&rt, rt.alloc(), text.as_str())
 }
