@@ -5,7 +5,7 @@ ghost use Rattle.worker_crew.specs.Crews.{SameHands};
 use crate::jobs::{Told, no_memory, reverse_of, text_of};
 use crate::step::Step;
 use memory_count::Memory;
-use rpc_outside::PlainDuty;
+use rpc_outside::{Duty, PlainDuty};
 use std::sync::{Arc, Wait};
 use std::{io, thread};
 use worker_board::MOST_PLACES;
@@ -18,7 +18,7 @@ pub type PlainCrew<R> = Crew<PlainDuty, R>;
 const TURNS: u32 = 50_000_000;
 
 /// Takes a job once one is done.
-fn take_one<R: Wait>(crew: &mut PlainCrew<R>) -> Option<Finished>
+pub fn take_one<D: Duty, R: Wait>(crew: &mut Crew<D, R>) -> Option<Finished>
     ensures { SameHands crew.old crew.new }
 {
     for _ in 0..TURNS {

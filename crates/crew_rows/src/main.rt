@@ -1,6 +1,8 @@
-//! Crews of workers. Standard input has rows: a line `# ..` tells what the row shows, the next one makes
-//! a crew, and each further line is a call of it. They are told with what each call answers, and at the
-//! end with what is left once the crew is stopped. A further row costs no proof.
+//! Crews of workers. Standard input has rows: a line `# ..` tells what the row shows, the next one
+//! makes a crew, and each further line is a call of it. They are told with what each call answers,
+//! and at the end with what is left once the crew is stopped. A further row costs no proof. Then it
+//! is told what threads do with the jobs of a board and of a crew: one ticket is claimed once, four
+//! threads claim the same thousand tickets, and two hands work at once.
 //!
 //! ```text
 //! serial JOBS HANDS     a crew whose hands are all refused
@@ -17,7 +19,10 @@ ghost use Rattle.std.specs.Prelude.{◌≡◌, []};
 ghost use Rattle.worker_crew.specs.Hands.{name_of};
 ghost use Rattle.worker_crew.specs.Launching.{Launched};
 
+mod boards;
+mod claims;
 mod crews;
+mod gate;
 mod jobs;
 mod kept;
 mod step;
@@ -28,10 +33,11 @@ use rpc_outside::PlainDuty;
 use std::io;
 use std::io::Read;
 use std::sync::Wait;
+use std::thread::Threads;
 use worker_crew::{Child, Hand, Launcher, SerialSpawner, Spawner, ThreadSpawner, launch};
 
-// Makes the crew that the first line names, and calls it as the lines behind it say. Hands on threads
-// are started by the spawner.
+// Makes the crew that the first line names, and calls it as the lines behind it say. Hands on
+// threads are started by the spawner.
 fn drive<R: Print + Wait + Copy, P: Spawner<Hand<PlainDuty>>>(
     memory: &mut Memory,
     rt: R,
@@ -71,6 +77,19 @@ fn row<R: Print + Wait + Copy, P: Spawner<Hand<PlainDuty>>>(
     drive(memory, rt, first, calls, threads)
 }
 
+// What threads do with jobs.
+fn tell_threads<R: Print + Threads + Wait + Copy + Send + Sync + 'static>(
+    memory: &mut Memory,
+    rt: R,
+) -> io::Result<()> {
+    println!(rt; "a ticket is claimed once")?;
+    boards::one_ticket(memory, &rt)?;
+    println!(rt; "four threads claim the same tickets")?;
+    claims::four_threads(memory, &rt)?;
+    println!(rt; "a job waits in its handler until another was answered")?;
+    gate::two_hands(memory, rt)
+}
+
 fn main(rt: HostRuntime) -> io::Result<()> {
     let alloc = rt.alloc();
     let mut memory = Memory::new(alloc);
@@ -86,5 +105,5 @@ fn main(rt: HostRuntime) -> io::Result<()> {
         let mut threads = ThreadSpawner::new(rt, alloc, launcher);
         row(&mut memory, rt, text, &mut threads)?;
     }
-    Ok(())
+    tell_threads(&mut memory, rt)
 }

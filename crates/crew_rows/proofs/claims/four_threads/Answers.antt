@@ -1,6 +1,6 @@
 use Rattle.std.proofs.Common.{ap, ◌∙◌}
 use Rattle.worker_board.specs.declared.view.View.{View}
-use Rattle.thread_rows.proofs.claims.four_threads.Goals as goal
+use Rattle.crew_rows.proofs.claims.four_threads.Goals as goal
 
 pub offer_all-requires-clause-new : goal.offer_all-requires-clause-new
 offer_all-requires-clause-new g c = let ledger : View → _ = λ v. v.ledger in

@@ -8,7 +8,7 @@ ghost use Rattle.worker_board.specs.Seats.{IsSeatOf, IsHandOf, places_of, view_o
 ghost use Rattle.worker_board.specs.Seats.{HoldsClaim, HoldsNone};
 ghost use Rattle.worker_board.specs.Rows.{IsOnlyClaim, IsFreeHand};
 
-use crate::no_memory;
+use crate::jobs::no_memory;
 use memory_count::{Memory, NoMemory};
 use message_buffer::MsgBuf;
 use rpc_base::{RequestNo, SessionNo};
@@ -142,10 +142,10 @@ fn work_once(
 /// Tells what becomes of two tickets of one place.
 pub fn one_ticket(memory: &mut Memory, rt: &impl Print) -> io::Result<()> {
     let (Ok(job), Ok(next)) = (echo_of(memory, b"ab"), echo_of(memory, b"cd")) else {
-        return Err(no_memory(NoMemory));
+        return Err(no_memory());
     };
     let Ok((board, mut seat)) = Board::<PlainDuty>::new(memory, PLACES) else {
-        return Err(no_memory(NoMemory));
+        return Err(no_memory());
     };
     work_once(rt, &board, &mut seat, job, next)
 }

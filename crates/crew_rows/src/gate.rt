@@ -5,7 +5,8 @@ ghost use Rattle.worker_crew.specs.Hands.{name_of};
 ghost use Rattle.worker_crew.specs.Jobs.{HasRoom};
 ghost use Rattle.worker_crew.specs.Spawning.{Started, CameBack};
 
-use crate::no_memory;
+use crate::crews::take_one;
+use crate::jobs::no_memory;
 use memory_count::{Memory, NoMemory};
 use message_buffer::MsgBuf;
 use rpc_base::{RequestNo, SessionNo};
@@ -15,7 +16,7 @@ use std::sync::{Arc, Wait};
 use std::thread::Threads;
 use std::{io, thread};
 use worker_board::Parcel;
-use worker_crew::{Crew, Finished, Hand, Spawner, Workers};
+use worker_crew::{Crew, Hand, Spawner, Workers};
 
 /// A handler looks so often for the other's end.
 const TURNS: u32 = 50_000_000;
@@ -107,17 +108,6 @@ impl Spawner<Hand<Gate>> for Shelf {
     }
 }
 
-// Takes a job once one is done.
-fn take_one<D: Duty, R: Wait>(crew: &mut Crew<D, R>) -> Option<Finished> {
-    for _ in 0..TURNS {
-        if let Some(finished) = crew.take() {
-            return Some(finished);
-        }
-        thread::yield_now();
-    }
-    None
-}
-
 /// Works one job; false where none came.
 fn work_one<D: Duty + Drop, R: Wait>(rt: &R, hand: Hand<D>) -> bool {
     let mut hand = hand;
@@ -163,7 +153,7 @@ fn give_two<R: Print + Threads + Wait + Copy + Send + Sync + 'static>(
 ) -> io::Result<()> {
     let mut crew = crew;
     let (Ok(first), Ok(second)) = (echo_of(memory, 1), echo_of(memory, 2)) else {
-        return Err(no_memory(NoMemory));
+        return Err(no_memory());
     };
     let given = crew.give(first).is_ok() && crew.give(second).is_ok();
     let (Some(one), Some(two)) = (shelf.finish(), shelf.finish()) else {
@@ -191,7 +181,7 @@ pub fn two_hands<R: Print + Threads + Wait + Copy + Send + Sync + 'static>(
     let gate = Arc::new(memory.alloc(), gate)?;
     let seen = Arc::try_clone(&gate)?;
     let Ok(crew) = Crew::start(memory, rt, gate, 2, 2, &mut shelf) else {
-        return Err(no_memory(NoMemory));
+        return Err(no_memory());
     };
     give_two(memory, rt, crew, &mut shelf, &seen)
 }

@@ -5,7 +5,7 @@ ghost use Rattle.worker_board.specs.Seats.{IsSeatOf, places_of, view_of};
 ghost use Rattle.worker_board.specs.Rows.{IsFreeHand, IsOfferedFrom};
 
 use crate::boards::{claim, echo_of, finish};
-use crate::no_memory;
+use crate::jobs::no_memory;
 use memory_count::{Memory, NoMemory};
 use rpc_outside::PlainDuty;
 use std::thread::Threads;
@@ -124,14 +124,14 @@ fn claim_by_four<R: Threads + Sync>(
 /// Tells how many tickets four threads claim together, while the dispatcher looks for their jobs.
 pub fn four_threads<R: Print + Threads + Sync>(memory: &mut Memory, rt: &R) -> io::Result<()> {
     let Ok((board, mut seat)) = Board::<PlainDuty>::new(memory, TICKETS) else {
-        return Err(no_memory(NoMemory));
+        return Err(no_memory());
     };
     let one = board.hand(&mut seat, 0);
     let two = board.hand(&mut seat, 1);
     let three = board.hand(&mut seat, 2);
     let four = board.hand(&mut seat, 3);
     let Ok(()) = offer_all(memory, &board, &mut seat, TICKETS) else {
-        return Err(no_memory(NoMemory));
+        return Err(no_memory());
     };
     let shared = &board;
     let (_seat, won) = thread::join(

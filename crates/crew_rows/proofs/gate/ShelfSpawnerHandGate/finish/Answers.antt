@@ -3,8 +3,8 @@ use mathlib.Core.List.{map-append}
 use Rattle.std.proofs.lemmas.List.{append-nil}
 use Rattle.worker_crew.specs.Hands.{name_of}
 use Rattle.worker_crew.specs.declared.hand.Hand.{Hand}
-use Rattle.thread_rows.specs.declared.gate.Gate.{Gate}
-use Rattle.thread_rows.proofs.gate.ShelfSpawnerHandGate.finish.Goals as goal
+use Rattle.crew_rows.specs.declared.gate.Gate.{Gate}
+use Rattle.crew_rows.proofs.gate.ShelfSpawnerHandGate.finish.Goals as goal
 
 pub returns : goal.returns
 returns c = let name : Hand Gate → _ = λ h. name_of h in (
