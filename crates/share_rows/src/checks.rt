@@ -2,7 +2,7 @@
 use std::fmt;
 
 /// What isn't as a row expects.
-#[derive(Clone, Copy, Debug, PartialEq, Eq)]
+#[derive(Clone, Copy)]
 pub enum Differs {
     /// There was no memory for the row.
     Memory,
@@ -22,6 +22,12 @@ pub enum Differs {
     Fits,
     /// What a desk gave as finished.
     Finished,
+    /// What a call of an endpoint answered.
+    Answer,
+    /// What an endpoint noted.
+    Facts,
+    /// How often a buffer was borrowed, used and given back.
+    Times,
 }
 
 impl fmt::Display for Differs {
@@ -36,12 +42,15 @@ impl fmt::Display for Differs {
             Differs::Handle => "another handle",
             Differs::Fits => "other bytes were taken as the answer",
             Differs::Finished => "another finished job",
+            Differs::Answer => "a call answered something else",
+            Differs::Facts => "other facts",
+            Differs::Times => "another number of loans",
         })
     }
 }
 
 /// The checks of a row, which keep the first thing that isn't as expected.
-#[derive(Clone, Copy, Debug)]
+#[derive(Clone, Copy)]
 pub struct Checks {
     first: Option<Differs>,
 }
@@ -66,5 +75,12 @@ impl Checks {
     /// That differs.
     pub fn miss(&mut self, differs: Differs) {
         self.expect(false, differs);
+    }
+
+    /// What another row's checks found counts here too.
+    pub fn take_in(&mut self, other: Checks) {
+        if let Some(differs) = other.first {
+            self.miss(differs);
+        }
     }
 }

@@ -1,11 +1,16 @@
-//! What threads share, by hand: each row makes calls of a shared pool, a fan or a desk, and
-//! compares what they answer. A line is printed for each row.
+//! What threads share: rows make calls of a shared pool, a fan or a desk by hand, and compare what
+//! they answer; and endpoints on threads of their own share a pool or a fan, of which is compared
+//! what they answer and note, and what is left at the end. A line is printed for each row, the same
+//! however the steps of the threads fall.
 #![tactic(auto)]
 
+mod borrowing;
+mod caller;
 mod checks;
 mod desks;
 mod fans;
 mod lending;
+mod sending;
 
 use crate::checks::Checks;
 use memory_count::Memory;
@@ -19,8 +24,11 @@ fn tell(rt: &impl Print, name: &str, checks: Checks) -> io::Result<()> {
 }
 
 fn main(rt: HostRuntime) -> io::Result<()> {
-    let mut memory = Memory::new(rt.alloc());
+    let alloc = rt.alloc();
+    let mut memory = Memory::new(alloc);
     tell(&rt, "a pool by hand", lending::row(&mut memory))?;
     tell(&rt, "a fan by hand", fans::row(&mut memory))?;
-    tell(&rt, "a desk by hand", desks::row(&mut memory))
+    tell(&rt, "a desk by hand", desks::row(&mut memory))?;
+    tell(&rt, "a pool and four endpoints", borrowing::row(&rt, alloc))?;
+    tell(&rt, "a fan and three endpoints", sending::row(&rt, alloc))
 }

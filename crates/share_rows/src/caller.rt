@@ -1,4 +1,5 @@
-//! An endpoint that is its own peer: what it sends comes back to it, so that it answers its own calls.
+//! An endpoint that is its own peer: what it sends comes back to it, so that it answers its own
+//! calls.
 ghost use Rattle.std.specs.Prelude.{◌≡◌, ◌≤◌, IfSome};
 ghost use Rattle.memory_count.specs.Faults.{HasCause};
 ghost use Rattle.message_buffer.specs.Buffer.{capacity_of};

@@ -2,7 +2,7 @@
 ghost use Rattle.std.specs.Prelude.{◌≡◌, ◌<◌, IfNone, IfSome};
 ghost use Rattle.message_buffer.specs.Buffer.{capacity_of};
 ghost use Rattle.shared_pool.specs.Seats.{HoldsLoan, IsSeatOf, places_of, size_of, view_of};
-ghost use Rattle.share_runs.specs.Borrowing.{HoldsOnly, IsFreeSeat};
+ghost use Rattle.share_rows.specs.Borrowing.{HoldsOnly, IsFreeSeat};
 
 use crate::caller::{ASKED, Caller};
 use crate::checks::{Checks, Differs};
