@@ -1,22 +1,17 @@
 //! Prints the script that a drill runs, so that it can be read, cut down and given to `erpc sim`.
 #![tactic(auto)]
 
-mod text;
-
 ghost use Rattle.std.specs.Prelude.{◌≤◌};
 
 use command_line::{Task, WordsError, complaint, read_words};
 use drill_maker::{MOST_CALLS, drill_script};
 use memory_count::{Memory, NoMemory};
+use script_help::ScriptText;
 use std::alloc::AllocError;
 use std::env;
 use std::io::{self, BufWriter, Write};
 use std::process::ExitCode;
 use std::rt::Env;
-use text::ScriptText;
-
-#[cfg(test)]
-mod tests;
 
 // The words of a drill, of which the program's own words are the last two.
 fn words_of(rt: &(impl Env + AllocGlobal)) -> io::Result<Vec<String>> {

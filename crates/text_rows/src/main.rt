@@ -1,9 +1,10 @@
-//! The readers of datagrams, of scripts and of words, row by row: each line of standard input that
-//! begins with the name of a reader is a row, and is told with what the reader answers. Other lines
-//! stand as they are. A further row costs no proof.
+//! The readers of datagrams, of scripts and of words, and the writers of scripts and of reports,
+//! row by row: each line of standard input that begins with the name of one is a row, and is told
+//! with what it answers. Other lines stand as they are. A further row costs no proof.
 #![tactic(auto)]
 
 mod packets;
+mod report;
 mod scripts;
 mod text;
 mod words;
@@ -21,6 +22,8 @@ fn main(rt: HostRuntime) -> io::Result<()> {
             "message" => packets::cut(&rt, text)?,
             "script" => scripts::tell(&rt, text)?,
             "explain" => scripts::explain(&rt, text)?,
+            "drill" => scripts::drill(&rt, text)?,
+            "report" => report::tell(&rt)?,
             "words" => words::tell(&rt, text)?,
             "complain" => words::complain(&rt, text)?,
             _ => {}

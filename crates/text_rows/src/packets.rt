@@ -1,4 +1,5 @@
-//! Datagrams: what is read of them, and the head that this is written with; and how messages are cut.
+//! Datagrams: what is read of them, and the head that this is written with; and how messages are
+//! cut.
 use packet_header::{count, decode, encode, part_len};
 use rpc_base::HEAD_BYTES;
 use std::alloc::{AllocError, Global};

@@ -1,5 +1,5 @@
 //! Events of a node and of its sessions.
-use crate::names::{CLIENT, LIFE, NODE, PEER, SERVER};
+use crate::report::names::{CLIENT, LIFE, NODE, PEER, SERVER};
 use rpc_base::{Event, SessionState};
 use rpc_outside::{MemRecorder, Recorder};
 

@@ -1,5 +1,5 @@
 //! Events of calls and of the packets that are theirs.
-use crate::names::{CALL, CLIENT, NODE, SERVER, of_call, of_slot, request};
+use crate::report::names::{CALL, CLIENT, NODE, SERVER, of_call, of_slot, request};
 use rpc_base::{DropReason, Event};
 use rpc_outside::{MemRecorder, Recorder};
 

@@ -1,5 +1,5 @@
 //! Events of datagrams, at a node and on the network.
-use crate::names::{NODE, PEER, of_call};
+use crate::report::names::{NODE, PEER, of_call};
 use rpc_base::{Event, Owner, Who};
 use rpc_outside::{MemRecorder, Recorder};
 
