@@ -1,13 +1,19 @@
-//! Reads a report on standard input and writes its picture, an SVG file, on standard output.
+//! Reads a report on standard input and writes its picture, an SVG file, on standard output. With
+//! the word `rows` it compares the pictures of its folder's reports with those beside them before,
+//! reads texts that are no report, and tells a line of each.
 #![tactic(auto)]
+
+mod rows;
 
 use memory_count::{Memory, NoMemory};
 use picture_svg::{Layout, Svg};
 use report_reader::{Reading, read_report};
 use rpc_base::Fact;
 use sequence_picture::draw;
-use std::io::{self, BufWriter, Read, Write};
+use std::env;
+use std::io::{self, Read, Write};
 use std::process::ExitCode;
+use std::rt::Env;
 
 /// The most facts that a picture is made of: more are no picture to be read.
 const MOST_FACTS: usize = 2_000;
@@ -17,8 +23,8 @@ fn no_memory(_lack: NoMemory) -> io::Error {
     io::Error::from(io::ErrorKind::OutOfMemory)
 }
 
-// Writes the picture of a history.
-fn write_picture(rt: &HostRuntime, memory: &mut Memory, facts: &[Fact]) -> io::Result<()> {
+// The picture of a history.
+fn picture_of(memory: &mut Memory, facts: &[Fact]) -> io::Result<String> {
     let drawn = draw(memory, facts).map_err(no_memory)?;
     let layout = Layout::new(memory, facts).map_err(no_memory)?;
     let svg = Svg {
@@ -26,12 +32,23 @@ fn write_picture(rt: &HostRuntime, memory: &mut Memory, facts: &[Fact]) -> io::R
         drawn: drawn.as_slice(),
         layout: &layout,
     };
-    let mut writer = BufWriter::new(rt.alloc(), rt.stdout())?;
-    write!(writer, "{svg}")?;
-    writer.flush()
+    Ok(format!(in memory.alloc(); "{svg}")?)
+}
+
+// Whether the word behind the program's name asks for the rows.
+fn wants_rows(rt: &(impl Env + AllocGlobal)) -> io::Result<bool> {
+    let mut words = env::args(rt)?;
+    let _program = words.next();
+    match words.next() {
+        Some(word) => Ok(word.as_str() == "rows"),
+        None => Ok(false),
+    }
 }
 
 fn main(rt: HostRuntime) -> io::Result<ExitCode> {
+    if wants_rows(&rt)? {
+        rows::tell_all(rt)?;
+    }
     let mut bytes = Vec::new(rt.alloc());
     rt.stdin().read_to_end(&mut bytes)?;
     let memory = &mut Memory::new(rt.alloc());
@@ -41,7 +58,8 @@ fn main(rt: HostRuntime) -> io::Result<ExitCode> {
             Ok(ExitCode::FAILURE)
         }
         Reading::Whole(facts) => {
-            write_picture(&rt, memory, facts.as_slice())?;
+            let picture = picture_of(memory, facts.as_slice())?;
+            print!(rt; "{picture}")?;
             Ok(ExitCode::SUCCESS)
         }
         Reading::Bad(line) => {

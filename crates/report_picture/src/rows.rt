@@ -1,12 +1,8 @@
 //! Rows of reports: those of the folder are read and drawn, and their pictures compared with what
 //! stands beside them; others have a line that no report has, or lack one.
-#![tactic(auto)]
-
-use memory_count::{Memory, NoMemory};
-use picture_svg::{Layout, Svg};
+use crate::{no_memory, picture_of};
+use memory_count::Memory;
 use report_reader::{Reading, read_report};
-use rpc_base::Fact;
-use sequence_picture::draw;
 use std::rt::Files;
 use std::{fs, io};
 
@@ -39,23 +35,6 @@ const BAD: [(&str, u64); 10] = [
     ("erpc-report 1\n0 heard\nend 2\n", 3),
     ("erpc-report 1\n0 heard\nend 1\nend 1\n", 4),
 ];
-
-// The failure of a reader or writer that had no memory.
-fn no_memory(_lack: NoMemory) -> io::Error {
-    io::Error::from(io::ErrorKind::OutOfMemory)
-}
-
-// The picture of a history.
-fn picture_of(memory: &mut Memory, facts: &[Fact]) -> io::Result<String> {
-    let drawn = draw(memory, facts).map_err(no_memory)?;
-    let layout = Layout::new(memory, facts).map_err(no_memory)?;
-    let svg = Svg {
-        facts,
-        drawn: drawn.as_slice(),
-        layout: &layout,
-    };
-    Ok(format!(in memory.alloc(); "{svg}")?)
-}
 
 // Whether the picture of a report of the folder is the one beside it.
 fn is_drawn<H: Files + AllocGlobal + Copy + Drop>(rt: H, name: &str) -> io::Result<bool> {
@@ -96,7 +75,8 @@ fn tell(rt: &impl Print, name: &str, outcome: io::Result<bool>) -> io::Result<()
     }
 }
 
-fn main(rt: HostRuntime) -> io::Result<()> {
+/// Tells a line of each row.
+pub fn tell_all<H: Files + AllocGlobal + Print + Copy + Drop>(rt: H) -> io::Result<()> {
     let memory = &mut Memory::new(rt.alloc());
     for name in PICTURES {
         tell(&rt, name, is_drawn(rt, name))?;
