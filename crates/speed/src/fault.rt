@@ -4,7 +4,7 @@ use memory_count::NoMemory;
 use std::fmt;
 
 /// Why a run ended before its time.
-#[derive(Clone, Copy, Debug, PartialEq, Eq)]
+#[derive(Clone, Copy, PartialEq, Eq)]
 pub enum Fault {
     /// The words aren't those that are wanted, or a number isn't in its range.
     Words,

@@ -17,9 +17,8 @@ mod wire;
 use crate::fault::Fault;
 use crate::options::{Options, read};
 use crate::run::Run;
-use crate::server::{Elsewhere, Server};
-use crate::wire::Wire;
-use call_load::Caller;
+use crate::server::Elsewhere;
+use call_load::{Caller, Tally};
 use memory_count::Memory;
 use std::alloc::AllocError;
 use std::env;
@@ -43,35 +42,27 @@ fn words_of(rt: &(impl Env + AllocGlobal)) -> io::Result<Vec<String>> {
 }
 
 // Calls of a server at an address.
-fn over_sockets(rt: &HostRuntime, options: &Options) -> Result<(), Fault> {
+fn over_sockets(rt: &HostRuntime, options: &Options) -> Result<Tally, Fault> {
+    let aim = options.aim()?;
     let mut memory = Memory::new(rt.alloc());
-    let caller = Caller::new(&mut memory, options.aim()?)?;
+    let caller = Caller::new(&mut memory, aim)?;
     let mut run = Run::new(memory, caller, UdpLink::new(rt.alloc(), rt), Elsewhere, rt);
-    run.open(options)?;
-    run.measure(rt, options)
-}
-
-// Calls of a server in this program.
-fn over_memory(rt: &HostRuntime, options: &Options) -> Result<(), Fault> {
-    let mut memory = Memory::new(rt.alloc());
-    let caller = Caller::new(&mut memory, options.aim()?)?;
-    let there = Wire::new(&mut memory)?;
-    let server = Server::new(&mut memory, there)?;
-    let here = Wire::new(&mut memory)?;
-    let mut run = Run::new(memory, caller, here, server, rt);
-    run.open(options)?;
-    run.measure(rt, options)
+    run.go(rt, options)
 }
 
 fn run_words(rt: &HostRuntime, words: &[String]) -> Result<(), Fault> {
     let Some((first, rest)) = words.split_first() else {
         return Err(Fault::Words);
     };
-    match first.as_str() {
-        "rows" => rows::run(rt),
-        "memory" => over_memory(rt, &read("memory", rest)?),
-        addr => over_sockets(rt, &read(addr, rest)?),
+    if first.as_str() == "rows" {
+        return rows::run(rt);
     }
+    let options = read(first.as_str(), rest, false)?;
+    let _tally = match options.addr {
+        "memory" => rows::over_memory(rt, &options)?,
+        _ => over_sockets(rt, &options)?,
+    };
+    Ok(())
 }
 
 fn main(rt: HostRuntime) -> io::Result<ExitCode> {

@@ -8,9 +8,6 @@ use time_histogram::Histogram;
 /// The nanoseconds of a second.
 const SECOND: u128 = 1_000_000_000;
 
-/// A number that is told, behind its name.
-type Told = (&'static str, u64);
-
 /// How long calls took, in nanoseconds.
 #[derive(Clone, Copy)]
 struct Times {
@@ -46,16 +43,14 @@ impl Times {
         }
     }
 
-    fn told(&self) -> [Told; 7] {
-        [
-            ("least_ns", self.least),
-            ("mean_ns", self.mean),
-            ("p50_ns", self.p50),
-            ("p90_ns", self.p90),
-            ("p99_ns", self.p99),
-            ("p999_ns", self.p999),
-            ("most_ns", self.most),
-        ]
+    fn put<W: fmt::Write>(&self, form: &Form, f: &mut fmt::Formatter<W>) -> fmt::Result {
+        form.put("least_ns", self.least, f)?;
+        form.put("mean_ns", self.mean, f)?;
+        form.put("p50_ns", self.p50, f)?;
+        form.put("p90_ns", self.p90, f)?;
+        form.put("p99_ns", self.p99, f)?;
+        form.put("p999_ns", self.p999, f)?;
+        form.put("most_ns", self.most, f)
     }
 }
 
@@ -92,35 +87,38 @@ const LINE: Form = Form {
 };
 
 impl Form {
-    // Behind `kind`, the kind of its name.
+    // A number behind its name.
+    fn put_named<W: fmt::Write>(
+        &self,
+        name: &str,
+        number: u64,
+        f: &mut fmt::Formatter<W>,
+    ) -> fmt::Result {
+        f.write_str(name)?;
+        f.write_str(self.between)?;
+        write!(f, "{number}")
+    }
+
+    // The first number.
+    fn put_first<W: fmt::Write>(
+        &self,
+        name: &str,
+        number: u64,
+        f: &mut fmt::Formatter<W>,
+    ) -> fmt::Result {
+        f.write_str(self.first)?;
+        self.put_named(name, number, f)
+    }
+
+    // A further one.
     fn put<W: fmt::Write>(
         &self,
-        kind: &str,
-        told: &Told,
+        name: &str,
+        number: u64,
         f: &mut fmt::Formatter<W>,
     ) -> fmt::Result {
-        f.write_str(kind)?;
-        f.write_str(told.0)?;
-        f.write_str(self.between)?;
-        write!(f, "{}", told.1)
-    }
-
-    fn put_first<W: fmt::Write>(&self, told: &Told, f: &mut fmt::Formatter<W>) -> fmt::Result {
-        f.write_str(self.first)?;
-        self.put("", told, f)
-    }
-
-    fn put_all<W: fmt::Write>(
-        &self,
-        kind: &str,
-        numbers: &[Told],
-        f: &mut fmt::Formatter<W>,
-    ) -> fmt::Result {
-        for told in numbers {
-            f.write_str(self.before)?;
-            self.put(kind, told, f)?;
-        }
-        Ok(())
+        f.write_str(self.before)?;
+        self.put_named(name, number, f)
     }
 }
 
@@ -157,57 +155,52 @@ impl Report {
         }
     }
 
-    fn rates(&self) -> [Told; 3] {
-        [
-            ("calls_a_second", self.calls),
-            ("asked_bytes_a_second", self.asked_bytes),
-            ("answer_bytes_a_second", self.answer_bytes),
-        ]
+    fn put_rates<W: fmt::Write>(&self, form: &Form, f: &mut fmt::Formatter<W>) -> fmt::Result {
+        form.put("calls_a_second", self.calls, f)?;
+        form.put("asked_bytes_a_second", self.asked_bytes, f)?;
+        form.put("answer_bytes_a_second", self.answer_bytes, f)
     }
 
-    fn ends(&self) -> [Told; 6] {
-        let tally = &self.tally;
-        [
-            ("asked", tally.asked),
-            ("pending", tally.pending),
-            ("right", tally.right),
-            ("wrong", tally.wrong),
-            ("small", tally.small),
-            ("lost", tally.lost),
-        ]
+    fn put_ends<W: fmt::Write>(&self, form: &Form, f: &mut fmt::Formatter<W>) -> fmt::Result {
+        form.put("asked", self.tally.asked, f)?;
+        form.put("pending", self.tally.pending, f)?;
+        form.put("right", self.tally.right, f)?;
+        form.put("wrong", self.tally.wrong, f)?;
+        form.put("small", self.tally.small, f)?;
+        form.put("lost", self.tally.lost, f)
     }
 
-    fn noted(&self) -> [Told; 3] {
-        let watch = &self.watch;
-        [
-            ("rolled", watch.rolled),
-            ("overflowed", watch.overflowed),
-            ("bad", watch.bad),
-        ]
+    fn put_noted<W: fmt::Write>(&self, form: &Form, f: &mut fmt::Formatter<W>) -> fmt::Result {
+        form.put("rolled", self.watch.rolled, f)?;
+        form.put("overflowed", self.watch.overflowed, f)?;
+        form.put("bad", self.watch.bad, f)?;
+        let reasons = self.watch.reasons();
+        for told in &reasons {
+            f.write_str(form.before)?;
+            f.write_str("dropped_")?;
+            form.put_named(told.0, told.1, f)?;
+        }
+        Ok(())
     }
 
-    fn turned(&self) -> [Told; 6] {
-        let turns = &self.turns;
-        let packets = turns.handled.saturating_mul(100) / turns.made.max(1);
-        [
-            ("turns", turns.made),
-            ("empty", turns.empty),
-            ("busy", turns.busy),
-            ("handled", turns.handled),
-            ("sent", turns.sent),
-            ("packets_in_hundred_turns", packets),
-        ]
+    fn put_turns<W: fmt::Write>(&self, form: &Form, f: &mut fmt::Formatter<W>) -> fmt::Result {
+        let packets = self.turns.handled.saturating_mul(100) / self.turns.made.max(1);
+        form.put("turns", self.turns.made, f)?;
+        form.put("empty", self.turns.empty, f)?;
+        form.put("busy", self.turns.busy, f)?;
+        form.put("handled", self.turns.handled, f)?;
+        form.put("sent", self.turns.sent, f)?;
+        form.put("packets_in_hundred_turns", packets, f)
     }
 
     /// Writes all its numbers in this form.
     pub fn put<W: fmt::Write>(&self, form: &Form, f: &mut fmt::Formatter<W>) -> fmt::Result {
-        form.put_first(&("nanoseconds", self.nanos), f)?;
-        form.put_all("", &self.rates(), f)?;
-        form.put_all("", &self.times.told(), f)?;
-        form.put_all("", &self.ends(), f)?;
-        form.put_all("", &self.noted(), f)?;
-        form.put_all("dropped_", &self.watch.reasons(), f)?;
-        form.put_all("", &self.turned(), f)?;
+        form.put_first("nanoseconds", self.nanos, f)?;
+        self.put_rates(form, f)?;
+        self.times.put(form, f)?;
+        self.put_ends(form, f)?;
+        self.put_noted(form, f)?;
+        self.put_turns(form, f)?;
         f.write_str(form.close)
     }
 }
@@ -239,8 +232,8 @@ impl Second {
 
 impl fmt::Display for Second {
     fn fmt<W: fmt::Write>(&self, f: &mut fmt::Formatter<W>) -> fmt::Result {
-        LINE.put_first(&("second", u64::from(self.number)), f)?;
-        LINE.put_all("", &[("calls_a_second", self.calls)], f)?;
-        LINE.put_all("", &self.times.told(), f)
+        LINE.put_first("second", u64::from(self.number), f)?;
+        LINE.put("calls_a_second", self.calls, f)?;
+        self.times.put(&LINE, f)
     }
 }

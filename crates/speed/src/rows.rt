@@ -46,33 +46,34 @@ fn tell(rt: &HostRuntime, tally: &Tally) -> Result<(), Fault> {
     }
 }
 
-fn memory_row(rt: &HostRuntime, options: &Options) -> Result<Tally, Fault> {
+/// Calls of a server in this program, over a link in memory.
+pub fn over_memory(rt: &HostRuntime, options: &Options) -> Result<Tally, Fault> {
+    let aim = options.aim()?;
     let mut memory = Memory::new(rt.alloc());
-    let caller = Caller::new(&mut memory, options.aim()?)?;
-    let there = Wire::new(&mut memory)?;
+    let (there, here) = (Wire::new(&mut memory)?, Wire::new(&mut memory)?);
     let server = Server::new(&mut memory, there)?;
-    let here = Wire::new(&mut memory)?;
+    let caller = Caller::new(&mut memory, aim)?;
     let mut run = Run::new(memory, caller, here, server, rt);
-    run.open(options)?;
-    run.ask_all()
+    run.go(rt, options)
 }
 
-fn socket_row(rt: &HostRuntime, options: &Options) -> Result<Tally, Fault> {
-    let mut memory = Memory::new(rt.alloc());
-    let caller = Caller::new(&mut memory, options.aim()?)?;
+// Calls of a server in this program, whose link has the address of the options.
+fn over_two_sockets(rt: &HostRuntime, options: &Options) -> Result<Tally, Fault> {
+    let aim = options.aim()?;
     let mut link = UdpLink::new(rt.alloc(), rt);
     if link.bind(options.addr).is_err() {
         return Err(Fault::Link);
     }
+    let mut memory = Memory::new(rt.alloc());
     let server = Server::new(&mut memory, link)?;
+    let caller = Caller::new(&mut memory, aim)?;
     let mut run = Run::new(memory, caller, UdpLink::new(rt.alloc(), rt), server, rt);
-    run.open(options)?;
-    run.ask_all()
+    run.go(rt, options)
 }
 
 fn socket_rows(rt: &HostRuntime, words: &[String]) -> Result<Tally, Fault> {
     for addr in ADDRESSES {
-        match socket_row(rt, &read(addr, words)?) {
+        match over_two_sockets(rt, &read(addr, words, true)?) {
             Err(Fault::Link) => {}
             ended => return ended,
         }
@@ -83,7 +84,7 @@ fn socket_rows(rt: &HostRuntime, words: &[String]) -> Result<Tally, Fault> {
 /// Runs both, and writes a line for each.
 pub fn run(rt: &HostRuntime) -> Result<(), Fault> {
     let words = row_words(rt)?;
-    let in_memory = memory_row(rt, &read("memory", words.as_slice())?)?;
+    let in_memory = over_memory(rt, &read("memory", words.as_slice(), true)?)?;
     tell(rt, &in_memory)?;
     let over_sockets = socket_rows(rt, words.as_slice())?;
     tell(rt, &over_sockets)

@@ -108,16 +108,16 @@ impl<'a, L: Link + Drop, S: Other<L> + Drop, T: time::Clock> Run<'a, L, S, T> {
         Ok(())
     }
 
-    /// Binds the link, and opens the sessions.
-    pub fn open(&mut self, options: &Options) -> Result<(), Fault> {
+    // Binds the link, and opens the sessions.
+    fn open(&mut self, options: &Options) -> Result<(), Fault> {
         if self.link.bind(options.bind).is_err() {
             return Err(Fault::Link);
         }
         let Ok(peer) = self.link.peer(options.addr) else {
             return Err(Fault::Link);
         };
-        if options.frame > 0 {
-            self.link.pack(peer, options.frame);
+        if options.numbers.frame > 0 {
+            self.link.pack(peer, options.numbers.frame);
         }
         let credits = options.aim()?.credits;
         if !self.caller.connect(&mut self.memory, peer, credits) {
@@ -177,14 +177,14 @@ impl<'a, L: Link + Drop, S: Other<L> + Drop, T: time::Clock> Run<'a, L, S, T> {
         Ok(Second::of(&self.caller, number, self.now.saturating_sub(from)))
     }
 
-    /// Asks calls without counting them, then counts those of so many seconds, with a line each,
-    /// and tells what came.
-    pub fn measure(&mut self, rt: &HostRuntime, options: &Options) -> Result<(), Fault> {
-        let warm = u64::from(options.warm) * SECOND;
+    // Asks calls without counting them, then counts those of so many seconds, with a line each, and
+    // tells what came.
+    fn measure(&mut self, rt: &HostRuntime, options: &Options) -> Result<(), Fault> {
+        let warm = u64::from(options.numbers.warm) * SECOND;
         self.go_until(self.now.saturating_add(warm))?;
         self.caller.begin(self.now);
         let began = self.now;
-        for number in 0..options.secs {
+        for number in 0..options.numbers.secs {
             let end = began.saturating_add((u64::from(number) + 1) * SECOND);
             let second = self.count_second(number, end)?;
             if !options.json {
@@ -196,12 +196,21 @@ impl<'a, L: Link + Drop, S: Other<L> + Drop, T: time::Clock> Run<'a, L, S, T> {
         tell(rt, options.json, report)
     }
 
-    /// Asks its number of calls, and tells how they ended.
-    pub fn ask_all(&mut self) -> Result<Tally, Fault> {
+    // Asks its number of calls.
+    fn ask_all(&mut self) -> Result<(), Fault> {
         self.caller.begin(self.now);
         self.go_until(self.now.saturating_add(PATIENCE))?;
-        let tally = self.caller.counts.tally;
-        self.end()?;
-        Ok(tally)
+        self.end()
+    }
+
+    /// Opens the sessions, asks a row's calls or measures, and tells how the calls ended.
+    pub fn go(&mut self, rt: &HostRuntime, options: &Options) -> Result<Tally, Fault> {
+        self.open(options)?;
+        if options.is_row {
+            self.ask_all()?;
+        } else {
+            self.measure(rt, options)?;
+        }
+        Ok(self.caller.counts.tally)
     }
 }
