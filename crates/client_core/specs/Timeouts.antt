@@ -1,11 +1,11 @@
 -- What a look at a call's clock tells, and what a rollback and a loss make of a session.
-use Rattle.std.specs.Prelude.{ℕ, ◌+◌, ◌%◌, ◌==◌, Bool, Option}
+use Rattle.std.specs.Prelude.{ℕ, ◌+◌, ◌%◌, ◌==◌, Bool, false, Option}
 use Rattle.std.specs.List.{find}
 use Rattle.rpc_base.specs.Tables.{at_first}
 use Rattle.credit_book.specs.Credits.{rolled}
 use Rattle.rpc_laws.specs.declared.rows.TimerRow.{TimerRow}
 use Rattle.rpc_laws.specs.declared.rows.TimerRow.TheVariants.{Waits, RollsBack, Breaks}
-use Rattle.rpc_laws.specs.GoBackN.{timer_row}
+use Rattle.rpc_laws.specs.GoBackN.{has_timed_out, timer_row}
 use Rattle.client_core.specs.declared.call.ActiveCall.{ActiveCall}
 use Rattle.client_core.specs.declared.outcome.Timer.{Timer}
 use Rattle.client_core.specs.declared.outcome.Timer.TheVariants.{Quiet, Roll, Lost}
@@ -18,6 +18,10 @@ is_numbered number c = c.call == number
 -- the active call with this number
 abbrev pub call_numbered : ℕ → Session → Option ActiveCall
 call_numbered number s = find (is_numbered number) s.active
+
+-- whether its clock says that a call timed out, whatever is queued
+abbrev pub is_late : (now timeout : ℕ) → ActiveCall → Bool
+is_late now timeout c = has_timed_out now timeout false c.got c.posted c.mark
 
 -- what the timer rule says of a call
 abbrev pub call_timer : (now timeout : ℕ) → Bool → ActiveCall → TimerRow

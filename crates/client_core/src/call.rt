@@ -10,7 +10,7 @@ ghost use Rattle.client_core.specs.Watching.{is_after, told};
 ghost use Rattle.rpc_laws.specs.ClientTable.{is_of_turn, is_same_size};
 ghost use Rattle.client_core.specs.KeepsPool.{IsKept};
 ghost use Rattle.client_core.specs.Replies.{call_row, end_of, replied, size_told};
-ghost use Rattle.client_core.specs.Timeouts.{call_timer, rolled_call};
+ghost use Rattle.client_core.specs.Timeouts.{call_timer, is_late, rolled_call};
 ghost use Rattle.client_core.specs.Posting.{entry_at, entry_of, head_of, marked, one_left, place_of, started};
 
 use crate::active::Active;
@@ -229,12 +229,20 @@ impl ActiveCall {
         }
     }
 
+    /// Whether the call's clock says at `now`, with this timeout, both in microseconds, that it timed
+    /// out: it has an unanswered packet, and its mark is a timeout old.
+    pub fn is_late(&self, now: u64, timeout: u64) -> bool
+        ensures { result ≡ is_late now timeout self.now }
+    {
+        self.got < self.posted && now.saturating_sub(self.mark) >= timeout
+    }
+
     /// What the timer rule says of the call at `now`, with this timeout, both in microseconds.
     /// `is_waiting` tells whether the call's packet `got` is queued.
     pub fn timer(&self, now: u64, is_waiting: bool, timeout: u64) -> TimerRow
         ensures { result ≡ call_timer now timeout is_waiting self.now }
     {
-        if self.got >= self.posted || is_waiting || now.saturating_sub(self.mark) < timeout {
+        if is_waiting || !self.is_late(now, timeout) {
             return TimerRow::Waits;
         }
         if self.rolls < MOST_ROLLS {

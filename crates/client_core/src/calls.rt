@@ -2,7 +2,7 @@
 ghost use Rattle.std.specs.Prelude.{◌≡◌, ◌<◌, ◌≤◌, [], ◌∷◌, ◌++◌, ◌&&◌, ◌==◌, ◌↔◌, IsTrue, None};
 ghost use Rattle.std.specs.Prelude.{Some, length, option_copied, position, slice_get, slice_set};
 ghost use Rattle.std.specs.Prelude.{IfNone};
-ghost use Rattle.std.specs.List.{AllByRecursion, find, remove};
+ghost use Rattle.std.specs.List.{AllByRecursion, find, list_any, remove};
 ghost use Rattle.rpc_base.specs.Tables.{at_first, without_first};
 ghost use Rattle.rpc_base.specs.Least.{least, least_number, smaller};
 ghost use Rattle.client_core.specs.Watching.{call_number, is_after};
@@ -10,7 +10,7 @@ ghost use Rattle.client_core.specs.KeepsPool.{CanHold, KeepsPool};
 ghost use Rattle.client_core.specs.Session.{IsInTurn, can_post};
 ghost use Rattle.client_core.specs.Posting.{is_owner, marked, one_left, one_posted};
 ghost use Rattle.client_core.specs.Replies.{IsUnheld, is_request};
-ghost use Rattle.client_core.specs.Timeouts.{is_numbered};
+ghost use Rattle.client_core.specs.Timeouts.{is_late, is_numbered};
 
 use crate::call::ActiveCall;
 use arrayvec::ArrayVec;
@@ -235,6 +235,16 @@ impl Calls {
             }
         }
         true
+    }
+
+    /// Whether the clock of a call says at `now`, with this timeout, both in microseconds, that it
+    /// timed out.
+    pub fn has_late(&self, now: u64, timeout: u64) -> bool
+        ensures { result ≡ list_any (is_late now timeout) self.now }
+    {
+        self.as_slice()
+            .iter()
+            .any(|call| call.is_late(now, timeout))
     }
 
     // The least number of a call above `after`.

@@ -4,7 +4,7 @@ use Rattle.std.proofs.Common.{◌≡◌, ℕ, ◌+◌, ◌<◌, ◌≤◌, Bool,
 use Rattle.std.proofs.Common.{Option, Some}
 use Rattle.std.proofs.Common.{None, List, [], ◌∷◌, length, refl, sym, ap, subst, ◌∙◌, append_assoc}
 use Rattle.std.proofs.Common.{append-nil, arith}
-use Rattle.std.specs.Prelude.{filter, map, slice_get}
+use Rattle.std.specs.Prelude.{IfSome, filter, map, slice_get}
 use Rattle.std.specs.List.{AllByRecursion, list_any}
 use Rattle.std.proofs.lemmas.Bool.{eqb-true}
 use Rattle.std.proofs.lemmas.Bool.Decides.{nat_tests}
@@ -18,11 +18,11 @@ use Rattle.rpc_laws.specs.Calls.{is_call}
 use Rattle.rpc_laws.specs.GoBackN.{Each, Watches, WatchesSession, numbers_in}
 use Rattle.rpc_laws.specs.Steps.{Rel}
 use Rattle.session_store.specs.Changes.{calls_in}
-use Rattle.session_store.specs.Ends.{Ascends}
+use Rattle.session_store.specs.Ends.{Ascends, is_late}
 use Rattle.node_steps.specs.Notes.{MakesEnds}
 use Rattle.node_steps.specs.Seen.{asking}
 use Rattle.node_steps.specs.Timers.{calls_at, number_at}
-use Rattle.node_steps.proofs.TimerIdle.{Next, above, any_active, idle-below, idle-past}
+use Rattle.node_steps.proofs.TimerIdle.{Next, above, any_active, early-watch, idle-below, idle-past}
 use Rattle.node_steps.proofs.TimerIdle.{idle-unlisted, idle-watch, idle-watched, next-passes}
 use Rattle.node_steps.proofs.TimerIdle.{none-next, some-next}
 use Rattle.node_steps.proofs.NoteEnds.{ends-as, ends-join, ends-none, no_asks}
@@ -209,8 +209,26 @@ all-still (n ∷ ns) = ap (λ ms. n ∷ ms) (all-still ns)
 pub known-start : (i : ℕ) (s : Timed) → Known i s s
 known-start i s = λ m h. idle-unlisted m (calls_at i s) h
 
+-- where no clock says that a call timed out, none is to be looked at
+pub early-session : (timeout i : ℕ) (s : Timed)
+    → IfSome (slice_get s.lists.clients i) (λ x. false ≡ list_any (is_late s.clock timeout) x.calls)
+    → WatchesSession timeout i s [] s
+early-session timeout i s h =
+    subst (λ ns. Each (Watches timeout i) ns s [] s)
+    (all-still (numbers_in (slice_get s.lists.clients i)))
+    (all-over (Watches timeout i) s None (numbers_in (slice_get s.lists.clients i))
+    (λ m _. early-watch timeout i m s h))
+
 module _ {R K : Type 0} (log : R → Log)
     (given : K → List Done → Type 0) (timeout i : ℕ) where
+  pub early-ends : (s : Timed) (f : R) (k : K)
+      → IfSome (slice_get s.lists.clients i)
+      (λ x. false ≡ list_any (is_late s.clock timeout) x.calls)
+      → MakesEnds log given (WatchesSession timeout i) s s f f k k
+  early-ends s f k h =
+      ends-none log given (WatchesSession timeout i) s f k
+      (λ asks. early-session timeout i (asking asks s) h)
+
   pub walk-start : (a : Timed) (f : R) (k : K)
       → MakesEnds log given (Walked timeout i None) a a f f k k
   walk-start a f k =

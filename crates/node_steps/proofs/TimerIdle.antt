@@ -1,8 +1,9 @@
 -- Numbers of a session of which no call is active: looking at them notes nothing, and they stay so.
 use Rattle.std.proofs.Common.{◌≡◌, ℕ, zero, suc, ◌<◌, ◌≤◌, Bool, true, false, ◌&&◌, ◌||◌, cond, eqb}
-use Rattle.std.proofs.Common.{ltb, Option, Some, None, List, [], ◌∷◌, ◌++◌, refl, sym, ap, ◌∙◌}
+use Rattle.std.proofs.Common.{leb, ltb, not, Option, Some, None, List, [], ◌∷◌, ◌++◌, refl, sym, ap}
+use Rattle.std.proofs.Common.{◌∙◌}
 use Rattle.std.proofs.Common.{arith}
-use Rattle.std.specs.Prelude.{is_some, map, option_and_then, option_map, slice_get}
+use Rattle.std.specs.Prelude.{◌-◌, IfSome, is_some, map, option_and_then, option_map, slice_get}
 use Rattle.std.specs.List.{AllByRecursion, find, flat_map, list_any}
 use Rattle.std.proofs.lemmas.Bool.{eq-eqb, eqb-true, ne_eqb}
 use Rattle.rpc_base.specs.Tables.{at_first, without_first}
@@ -29,7 +30,7 @@ use Rattle.rpc_laws.specs.Sessions.{breaks, clients_after, ends, has_call, is_cl
 use Rattle.rpc_base.proofs.BasicLemmas.{or-false}
 use Rattle.rpc_base.proofs.TakingLemmas.{find-passes}
 use Rattle.session_store.specs.Changes.{calls_in}
-use Rattle.session_store.specs.Ends.{Ascends, is_above}
+use Rattle.session_store.specs.Ends.{Ascends, is_above, is_late, is_late_by}
 use Rattle.node_steps.proofs.PacketReplies.{found-any}
 use Rattle.node_steps.proofs.TimerNext.{both, is_next}
 
@@ -67,6 +68,52 @@ module _ (clock timeout me : ℕ) (queued : List Queued) (m : ℕ) where
       → client_facts clock timeout me queued m o ≡ []
   idle-client None h = refl
   idle-client (Some x) h = idle-calls x x.calls h
+
+-- nor do they where no clock says that a call timed out
+module _ (clock timeout me : ℕ) (queued : List Queued) (m : ℕ) where
+  waits-by : (posted waiting late few : Bool) → (posted && true && late) ≡ false
+      → cond (not (posted && not waiting && late)) Waits (cond few RollsBack Breaks) ≡ Waits
+  waits-by true true late few h = refl
+  waits-by true false true few h = cc
+  waits-by true false false few h = refl
+  waits-by false waiting late few h = refl
+
+  early-progress : (x : Client) (number : ℕ) (o : Option Progress)
+      → is_late_by clock timeout o ≡ false
+      → progress_facts clock timeout me queued x number o ≡ []
+  early-progress x number None h = refl
+  early-progress x number (Some p) h =
+      ap (row_facts me queued x number p)
+      (waits-by (ltb p.got p.posted) _ (leb timeout (clock - p.mark)) (ltb p.rolls 8) h)
+
+  early-cons : (x : Client) (c : Call) (cs : List Call) (b more : Bool)
+      → (is_late clock timeout c || more) ≡ false
+      → (more ≡ false → call_facts clock timeout me queued x (find (is_call m) cs) ≡ [])
+      → call_facts clock timeout me queued x (cond b (Some c) (find (is_call m) cs)) ≡ []
+  early-cons x c cs true more h ih =
+      early-progress x c.what.number c.progress (or-false (is_late clock timeout c) more h).0
+  early-cons x c cs false more h ih = ih (or-false (is_late clock timeout c) more h).1
+
+  early-calls : (x : Client) (cs : List Call) → list_any (is_late clock timeout) cs ≡ false
+      → call_facts clock timeout me queued x (find (is_call m) cs) ≡ []
+  early-calls x [] h = refl
+  early-calls x (c ∷ cs) h =
+      early-cons x c cs (is_call m c) (list_any (is_late clock timeout) cs) h (early-calls x cs)
+
+  early-client : (o : Option Client)
+      → IfSome o (λ x. false ≡ list_any (is_late clock timeout) x.calls)
+      → client_facts clock timeout me queued m o ≡ []
+  early-client None h = refl
+  early-client (Some x) h = early-calls x x.calls (sym h)
+
+pub early-watch : (timeout i m : ℕ) (s : Timed)
+    → IfSome (slice_get s.lists.clients i) (λ x. false ≡ list_any (is_late s.clock timeout) x.calls)
+    → Watches timeout i m s [] s
+early-watch timeout i m s h = record {
+  facts =
+      sym (early-client s.clock timeout s.lists.me s.lists.queued m (slice_get s.lists.clients i) h);
+  goes = refl;
+}
 
 pub idle-watch : (timeout i m : ℕ) (s : Timed) → any_active i m s.lists.clients ≡ false
     → Watches timeout i m s [] s

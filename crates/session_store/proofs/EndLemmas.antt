@@ -1,6 +1,6 @@
 -- What the clauses of a client session tell of a client end: its view after a call, as the definitions over
 -- histories have it.
-use Rattle.std.proofs.Common.{◌≡◌, ◌≢◌, ℕ, ◌+◌, ◌<◌, Bool, true, false, not, ◌&&◌, cond, eqb}
+use Rattle.std.proofs.Common.{◌≡◌, ◌≢◌, ℕ, ◌+◌, ◌<◌, Bool, true, false, not, ◌&&◌, ◌||◌, cond, eqb}
 use Rattle.std.proofs.Common.{ltb, Option, Some, None, List, [], ◌∷◌, ◌++◌, drop, refl, subst, sym}
 use Rattle.std.proofs.Common.{ap, ◌∙◌}
 use Rattle.std.specs.Prelude.{IfSome, IsTrue, is_some, map, option_and_then, option_map}
@@ -37,13 +37,13 @@ use Rattle.client_core.specs.Watching.{is_after, next_told, told}
 use Rattle.client_core.specs.Shown.{IsAloneAfter, after_outcome, asked, begun_event as event_begun}
 use Rattle.client_core.specs.Shown.{end_event, ending_facts, posted_event as event_posted}
 use Rattle.client_core.specs.Shown.{sent_event, shown, shown_active, shown_waiting, stepped, took}
-use Rattle.client_core.specs.Timeouts.{is_numbered}
+use Rattle.client_core.specs.Timeouts.{is_late as is_active_late, is_numbered}
 use Rattle.client_core.proofs.ShownLemmas.{found-shown, none-shown}
 use Rattle.session_store.specs.declared.stage.Stage.{Stage}
 use Rattle.session_store.specs.declared.stage.Stage.TheVariants.{Connecting, Connected, Closing, Closed}
 use Rattle.session_store.specs.declared.stage.Stage.TheVariants.{Failed, Broken}
-use Rattle.session_store.specs.Ends.{Ascends, begun_event, is_above, next_above, posted_event}
-use Rattle.session_store.specs.Ends.{shown_end, told_call}
+use Rattle.session_store.specs.Ends.{Ascends, begun_event, is_above, is_late, next_above}
+use Rattle.session_store.specs.Ends.{posted_event, shown_end, told_call}
 use Rattle.session_store.proofs.AscendsLemmas.{ascends-before, ascends-changed, ascends-end}
 use Rattle.session_store.proofs.AscendsLemmas.{ascends-front, ascends-without, few-numbered}
 use Rattle.session_store.proofs.AscendsLemmas.{least-first, unlisted}
@@ -61,6 +61,26 @@ calls-end (Closing n t) pool peer s = refl
 calls-end Closed pool peer s = refl
 calls-end Failed pool peer s = refl
 calls-end Broken pool peer s = refl
+
+-- whose clock says that a call timed out is told by the active ones
+module _ (now timeout : ℕ) where
+  none-late : (ws : List Waiting) → list_any (is_late now timeout) (map shown_waiting ws) ≡ false
+  none-late [] = refl
+  none-late (w ∷ ws) = none-late ws
+
+  late-shown : (pool : Pool) (cs : List ActiveCall) (ws : List Waiting)
+      → list_any (is_active_late now timeout) cs
+      ≡ list_any (is_late now timeout) (map (shown_active pool) cs ++ map shown_waiting ws)
+  late-shown pool [] ws = sym (none-late ws)
+  late-shown pool (c ∷ cs) ws =
+      ap (λ (b : Bool). is_active_late now timeout c || b) (late-shown pool cs ws)
+
+  pub late-end : (stage : Stage) (pool : Pool) (peer : ℕ) (s : Session)
+      → list_any (is_active_late now timeout) s.active
+      ≡ list_any (is_late now timeout) (shown_end stage pool peer s).calls
+  late-end stage pool peer s =
+      late-shown pool s.active s.slots.waiting
+      ∙ ap (list_any (is_late now timeout)) (sym (calls-end stage pool peer s))
 
 -- the active calls of an end stand in the order of their numbers
 pub active-ascends : (stage : Stage) (pool : Pool) (peer : ℕ) (s : Session)

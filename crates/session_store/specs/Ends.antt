@@ -1,5 +1,6 @@
 -- What a client end shows of its session, and the conditions of its calls.
-use Rattle.std.specs.Prelude.{ℕ, ◌<◌, nat_lt, ◌&&◌, Bool, true, Option, Some, None, is_some}
+use Rattle.std.specs.Prelude.{ℕ, ◌<◌, nat_lt, ◌&&◌, Bool, true, false, Option, Some, None}
+use Rattle.std.specs.Prelude.{is_some}
 use Rattle.std.specs.Prelude.{option_and_then, option_map, List, [], ◌∷◌}
 use Rattle.std.specs.List.{AllByRecursion, find}
 use Rattle.rpc_base.specs.declared.event.Event.{Event}
@@ -11,6 +12,7 @@ use Rattle.client_core.specs.declared.active.Active.{Active}
 use Rattle.client_core.specs.Session.{Session}
 use Rattle.client_core.specs.Shown.{shown, shown_broken}
 use Rattle.rpc_laws.specs.Calls.{is_call}
+use Rattle.rpc_laws.specs.GoBackN.{has_timed_out}
 use Rattle.rpc_laws.specs.Lives.{no_life}
 use Rattle.rpc_laws.specs.Sessions.{comes_to, no_session}
 use Rattle.rpc_laws.specs.declared.tables.Call.{Call}
@@ -63,6 +65,14 @@ told_call c = option_map (told_of c.what.number) c.progress
 -- the progress of the call with this number, if it is active
 abbrev pub progress_of : ℕ → Client → Option Progress
 progress_of number x = option_and_then (λ c. c.progress) (find (is_call number) x.calls)
+
+-- whether the clock of a call says that it timed out, whatever is queued: never of one that waits
+abbrev pub is_late_by : (now timeout : ℕ) → Option Progress → Bool
+is_late_by now timeout None = false
+is_late_by now timeout (Some p) = has_timed_out now timeout false p.got p.posted p.mark
+
+abbrev pub is_late : (now timeout : ℕ) → Call → Bool
+is_late now timeout c = is_late_by now timeout c.progress
 
 -- the events of a beginning and a posting
 abbrev pub begun_event : ℕ × ℕ → Event

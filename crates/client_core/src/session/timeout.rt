@@ -14,7 +14,7 @@ ghost use Rattle.rpc_laws.specs.declared.rows.TimerRow.TheVariants.{Waits};
 ghost use Rattle.client_core.specs.Losing.{GivesUp};
 ghost use Rattle.client_core.specs.Replies.{IsUnheld};
 ghost use Rattle.client_core.specs.Shown.{shown_active};
-ghost use Rattle.client_core.specs.Timeouts.{call_numbered, call_timer, timer_told};
+ghost use Rattle.client_core.specs.Timeouts.{call_numbered, call_timer, is_late, timer_told};
 
 use super::ClientSession;
 use super::reply::returned;
@@ -25,6 +25,14 @@ use rpc_base::CallNo;
 use rpc_laws::TimerRow;
 
 impl ClientSession {
+    /// Whether the clock of an active call says at `now`, with this timeout, both in microseconds,
+    /// that it timed out, whatever is queued.
+    pub fn has_late(&self, now: u64, timeout: u64) -> bool
+        ensures { result ≡ list_any (is_late now timeout) self.now.active }
+    {
+        self.calls.has_late(now, timeout)
+    }
+
     /// What an active call's clock says at `now`, with this timeout, both in microseconds. `queued`
     /// tells whether the call's packet `got` is queued.
     pub fn check(&self, call: CallNo, now: u64, queued: bool, timeout: u64) -> Timer

@@ -1,9 +1,11 @@
 //! Timeouts: calls are rolled back, and a session loses its peer.
 ghost use Rattle.std.specs.Prelude.{◌≡◌, ◌<◌, length, option_map, slice_get, IfSome};
+ghost use Rattle.std.specs.List.{list_any};
 ghost use Rattle.client_core.specs.declared.outcome.Outcome.TheVariants.{PeerLost};
 ghost use Rattle.rpc_laws.specs.Sessions.{breaks};
 ghost use Rattle.session_store.specs.Changes.{ActiveAt, IsConnected, IsIdle, IsLost, LosesAt};
 ghost use Rattle.session_store.specs.Changes.{MayRoll, RollsAt, RowAt};
+ghost use Rattle.session_store.specs.Ends.{is_late};
 ghost use Rattle.session_store.specs.Handing.{HandsBackIf};
 ghost use Rattle.session_store.specs.Leaving.{ChangesCalls, ChangesClient, ChangesClients};
 
@@ -15,6 +17,16 @@ use rpc_base::CallNo;
 use rpc_laws::TimerRow;
 
 impl Store {
+    /// Whether the clock of an active call of session `i` says at `now`, with this timeout, both in
+    /// microseconds, that it timed out. The queue isn't looked at.
+    pub fn has_late(&self, i: usize, now: u64, timeout: u64) -> bool
+        requires known { i < length self.now.clients }
+        ensures { IfSome (slice_get self.now.clients i)
+            (λ x. result ≡ list_any (is_late now timeout) x.calls) }
+    {
+        self.sides[i].session.has_late(now, timeout)
+    }
+
     /// What the timer rule says at `now` of an active call of session `i`, with this timeout, both
     /// in microseconds. The queue is looked at only where the clock says that the call timed out.
     pub fn timer(&self, i: usize, active: &Active, now: u64, timeout: u64) -> TimerRow

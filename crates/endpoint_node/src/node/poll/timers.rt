@@ -79,8 +79,11 @@ impl Node {
         ensures { StepsEnds R.log K.given (WatchesSession timeout i) (self.old ⟶ self.new)
             (rec.old ⟶ rec.new) (k.old ⟶ k.new) }
     {
+        // Mostly none has timed out, which one look at their clocks tells.
+        if i < self.store.clients() && !self.store.has_late(i, self.clock, timeout) {
+            return;
+        }
         // Their calls stand in the order of their numbers.
-        let _sessions = self.store.clients();
         let mut after = None;
         'calls: while let Some(call) = self.watch_next(timeout, i, after, k, rec) {
             after = Some(call);

@@ -1,12 +1,19 @@
 use Rattle.std.proofs.Common.{ap}
 use Rattle.node_steps.proofs.TimerNext.{ascends-calls}
-use Rattle.node_steps.proofs.TimerCalls.{fewer-still, known-more, known-start, walk-more}
-use Rattle.node_steps.proofs.TimerCalls.{walk-over}
-use Rattle.node_steps.proofs.TimerCalls.{walk-start}
+use Rattle.node_steps.proofs.TimerCalls.{early-ends, fewer-still, known-more, known-start}
+use Rattle.node_steps.proofs.TimerCalls.{walk-more, walk-over, walk-start}
 use Rattle.node_steps.proofs.TimerSteps.{ends-same}
 use Rattle.node_steps.specs.Handed.{timed_of}
 use Rattle.node_steps.proofs.LeavesSteps.{timed-none, timed-then}
 use Rattle.endpoint_node.proofs.node.Node.watch_calls.Goals as goal
+
+pub returns-then-not-has_late : goal.returns-then-not-has_late
+returns-then-not-has_late g c = record {
+  ended = early-ends g.R.Recorder.log g.K.Continuation.given c.args.timeout c.args.i
+      (timed_of c.args.self.now) _ _
+      (rw (← c.self.view_is) (rw c.if-not-has_late.true at c.has_late.ensures));
+  rest = timed-none g.K.Continuation.given _ _;
+}
 
 pub calls-init : goal.calls-init
 calls-init g c = (
