@@ -233,18 +233,16 @@ impl Caller {
         ensures asks { MatchBool result (AsksOne self.old.counts self.new.counts)
             (self.new.counts ≡ self.old.counts) }
     {
-        let place = ready.place;
-        let session = SessionNo((place % u32::from(self.aim.sessions.max(1))) as u16);
-        let (tag, req_type) = (u64::from(place), self.aim.req_type);
-        let asked = self.endpoint.ask(
-            memory,
+        let Ready {
+            place,
             session,
-            req_type,
-            ready.req,
-            ready.resp,
-            tag,
-            &mut self.watch,
-        );
+            req,
+            resp,
+        } = ready;
+        let (tag, req_type) = (u64::from(place), self.aim.req_type);
+        let asked = self
+            .endpoint
+            .ask(memory, session, req_type, req, resp, tag, &mut self.watch);
         match asked {
             Ok(_call) => {
                 self.slots.set_since(place, since);
@@ -254,6 +252,7 @@ impl Caller {
             Err(back) => {
                 self.slots.put(Ready {
                     place,
+                    session,
                     req: back.req,
                     resp: back.resp,
                 });
@@ -304,8 +303,18 @@ impl Caller {
         let since = self.slots.since(place);
         self.counts.time(now.saturating_sub(since));
         self.counts.end(Ending::of(done.outcome, is_right));
-        let Done { req, resp, .. } = done;
-        self.slots.put(Ready { place, req, resp });
+        let Done {
+            session,
+            req,
+            resp,
+            ..
+        } = done;
+        self.slots.put(Ready {
+            place,
+            session,
+            req,
+            resp,
+        });
     }
 
     /// Counts the calls that were over in a turn that ended at `now`, in nanoseconds. Whether there

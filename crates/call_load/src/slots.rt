@@ -4,11 +4,14 @@ ghost use Rattle.memory_count.specs.Faults.{HasCause};
 use crate::aim::Aim;
 use memory_count::{Memory, NoMemory};
 use message_buffer::MsgBuf;
+use rpc_base::SessionNo;
 
-/// A call that may be asked: the number of its place, and its two buffers.
+/// A call that may be asked: the number of its place, the session on which it is asked, and its two
+/// buffers.
 #[derive(Drop)]
 pub struct Ready {
     pub place: u32,
+    pub session: SessionNo,
     pub req: MsgBuf,
     pub resp: MsgBuf,
 }
@@ -42,6 +45,11 @@ fn buffers(memory: &mut Memory, aim: &Aim) -> Result<(MsgBuf, MsgBuf), NoMemory>
     Ok((req, resp))
 }
 
+// The session of a place: places go round the sessions.
+fn session_of(place: u32, aim: &Aim) -> SessionNo {
+    SessionNo((place % u32::from(aim.sessions.max(1))) as u16)
+}
+
 impl Slots {
     /// A place for each call that may be pending, with its buffers.
     pub fn new(memory: &mut Memory, aim: &Aim) -> Result<Slots, NoMemory>
@@ -51,8 +59,15 @@ impl Slots {
         let mut since = Vec::new(memory.alloc());
         memory.of(since.resize(aim.pending as usize, 0))?;
         'places: for place in 0..aim.pending {
+            let session = session_of(place, aim);
             let (req, resp) = buffers(memory, aim)?;
-            memory.push(&mut ready, Ready { place, req, resp })?;
+            let call = Ready {
+                place,
+                session,
+                req,
+                resp,
+            };
+            memory.push(&mut ready, call)?;
         }
         Ok(Slots { ready, since })
     }
