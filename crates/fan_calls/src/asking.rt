@@ -21,6 +21,8 @@ use memory_count::{Memory, NoMemory};
 use message_buffer::{MOST_CAPACITY, MsgBuf};
 use rpc_base::{CallNo, SessionNo, SessionState};
 use rpc_outside::{Recorder, Service};
+use std::error::Error;
+use std::fmt;
 use worker_crew::Workers;
 
 /// Why a call that asks a fan's bytes is refused.
@@ -35,6 +37,19 @@ pub enum FanError {
     /// There was no memory for the call, or for the two buffers that it is asked with.
     NoMemory,
 }
+
+impl fmt::Display for FanError {
+    fn fmt<W: fmt::Write>(&self, f: &mut fmt::Formatter<W>) -> fmt::Result {
+        match self {
+            FanError::Gone => f.write_str("the fan's buffer was taken"),
+            FanError::TooLarge { .. } => f.write_str("the request is too large"),
+            FanError::NotConnected { .. } => f.write_str("the session isn't connected"),
+            FanError::NoMemory => write!(f, "{}", NoMemory),
+        }
+    }
+}
+
+impl Error for FanError {}
 
 /// A buffer with these bytes.
 fn buffer_of(memory: &mut Memory, bytes: &[u8]) -> Result<MsgBuf, NoMemory>

@@ -1,5 +1,6 @@
 //! What a user reads of a report that fails.
 use rpc_base::NodeId;
+use std::error::Error;
 use std::fmt;
 
 /// Which claim a fact breaks, so that no history that begins so is lawful.
@@ -36,6 +37,8 @@ impl fmt::Display for Wrong {
     }
 }
 
+impl Error for Wrong {}
+
 /// Why a report fails at its line.
 #[derive(Clone, Copy, Debug, PartialEq, Eq)]
 pub enum Fault {
@@ -58,3 +61,5 @@ impl fmt::Display for Fault {
         }
     }
 }
+
+impl Error for Fault {}

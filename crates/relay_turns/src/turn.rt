@@ -20,6 +20,8 @@ use relay_steps::{pass_all, settle_one};
 use relays::Relays;
 use rpc_outside::{Clock, Link, Recorder, Service};
 use rpc_turns::{Ended, Rest, take_turn};
+use std::error::Error;
+use std::fmt;
 
 /// Why a turn of a run that relays ends the run.
 #[derive(Clone, Copy, Debug, PartialEq, Eq)]
@@ -30,6 +32,17 @@ pub enum TurnFault {
     /// then, or be lost with their handles.
     NoMemory,
 }
+
+impl fmt::Display for TurnFault {
+    fn fmt<W: fmt::Write>(&self, f: &mut fmt::Formatter<W>) -> fmt::Result {
+        match self {
+            TurnFault::LinkFault => f.write_str("the link failed"),
+            TurnFault::NoMemory => write!(f, "{}", NoMemory),
+        }
+    }
+}
+
+impl Error for TurnFault {}
 
 // No two jobs of a desk whose handles are out have one number.
 fn numbers_of<D: Checked>(desk: &Desk<D>)

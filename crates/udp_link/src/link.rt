@@ -50,7 +50,6 @@ impl Open {
 /// Packets to a peer that opens frames go several in a datagram. What there is of one is handed over
 /// where the next packet goes elsewhere or doesn't fit, where the link receives or waits, and at
 /// `flush`.
-#[derive(Drop)]
 pub struct UdpLink<'a, N: Net> {
     net: &'a N,
     memory: Memory,
@@ -69,6 +68,26 @@ pub struct UdpLink<'a, N: Net> {
     hidden: Option<Trouble>,
     /// What failed last.
     trouble: Option<Trouble>,
+}
+
+// Written by hand, so that whoever lets a link go makes a call, and proves nothing of its parts.
+impl<'a, N: Net> Drop for UdpLink<'a, N> {
+    fn drop(self) {
+        let UdpLink {
+            net: _,
+            memory: _memory,
+            open: _open,
+            peers: _peers,
+            faults: _,
+            busies: _,
+            to: _,
+            from: _,
+            sender: _sender,
+            is_vain: _,
+            hidden: _,
+            trouble: _,
+        } = self;
+    }
 }
 
 // The life in which a datagram may be of an end of this protocol: a header stands where its first

@@ -1,4 +1,5 @@
 //! What failed, in the words of a user.
+use std::error::Error;
 use std::fmt;
 use std::io::ErrorKind;
 use std::net::SocketAddr;
@@ -45,3 +46,5 @@ impl fmt::Display for Trouble {
         }
     }
 }
+
+impl Error for Trouble {}
