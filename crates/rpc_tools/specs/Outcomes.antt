@@ -85,7 +85,7 @@ Gives most (Whole bytes) input then_input =
 Gives most TooLong input then_input =
     (then_input.faults ≡ input.faults) × IfSome input.left (λ all. most < length all)
 Gives most Fault input then_input = HasRisen input.faults then_input.faults
-Gives most Memory input then_input = Unit {0}
+Gives most Memory input then_input = then_input.faults ≡ input.faults
 
 -- how many wants of memory it tells of
 abbrev pub lacks_read : Input → ℕ
@@ -124,14 +124,15 @@ pub record FailsToRead (input then_input : Unread) (page then_page : Written) : 
   pub sink : Untouched page then_page
 
 -- what a simulation may end with, by what its source has left and its sink has written. Where memory
--- is wanting nothing was written
+-- is wanting the source hadn't failed, and nothing was written
 abbrev pub Simulates : Status → (input then_input : Unread) → (page then_page : Written) → Type 0
 Simulates Done input then_input page then_page = Completes input then_input page then_page
 Simulates (BadScript bad) input then_input page then_page =
     Refuses bad input then_input page then_page
 Simulates ReadFault input then_input page then_page = FailsToRead input then_input page then_page
 Simulates WriteFault input then_input page then_page = FailsToWrite input then_input page then_page
-Simulates NoMemory input then_input page then_page = Untouched page then_page
+Simulates NoMemory input then_input page then_page =
+    (then_input.faults ≡ input.faults) × Untouched page then_page
 Simulates _ input then_input page then_page = ⊥
 
 -- the headline: Done, the source read to its end, and the report of a history that follows the
