@@ -1,4 +1,5 @@
--- Numbers of a session of which no call is active: looking at them notes nothing, and they stay so.
+-- Numbers of a session of which no call is active, and those of a session none of whose calls is
+-- late: looking at them notes nothing, and they stay so.
 use Rattle.std.proofs.Common.{◌≡◌, ℕ, zero, suc, ◌<◌, ◌≤◌, Bool, true, false, ◌&&◌, ◌||◌, cond, eqb}
 use Rattle.std.proofs.Common.{leb, ltb, not, Option, Some, None, List, [], ◌∷◌, ◌++◌, refl, sym, ap}
 use Rattle.std.proofs.Common.{◌∙◌}
@@ -71,12 +72,12 @@ module _ (clock timeout me : ℕ) (queued : List Queued) (m : ℕ) where
 
 -- nor do they where no clock says that a call timed out
 module _ (clock timeout me : ℕ) (queued : List Queued) (m : ℕ) where
-  waits-by : (posted waiting late few : Bool) → (posted && true && late) ≡ false
+  waits-unless-late : (posted waiting late few : Bool) → (posted && true && late) ≡ false
       → cond (not (posted && not waiting && late)) Waits (cond few RollsBack Breaks) ≡ Waits
-  waits-by true true late few h = refl
-  waits-by true false true few h = cc
-  waits-by true false false few h = refl
-  waits-by false waiting late few h = refl
+  waits-unless-late true true late few h = refl
+  waits-unless-late true false true few h = cc
+  waits-unless-late true false false few h = refl
+  waits-unless-late false waiting late few h = refl
 
   early-progress : (x : Client) (number : ℕ) (o : Option Progress)
       → is_late_by clock timeout o ≡ false
@@ -84,7 +85,7 @@ module _ (clock timeout me : ℕ) (queued : List Queued) (m : ℕ) where
   early-progress x number None h = refl
   early-progress x number (Some p) h =
       ap (row_facts me queued x number p)
-      (waits-by (ltb p.got p.posted) _ (leb timeout (clock - p.mark)) (ltb p.rolls 8) h)
+      (waits-unless-late (ltb p.got p.posted) _ (leb timeout (clock - p.mark)) (ltb p.rolls 8) h)
 
   early-cons : (x : Client) (c : Call) (cs : List Call) (b more : Bool)
       → (is_late clock timeout c || more) ≡ false
