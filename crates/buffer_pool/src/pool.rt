@@ -1,5 +1,6 @@
 //! The pool.
-ghost use Rattle.std.specs.Prelude.{◌≡◌, ◌<◌, ℕ, List, Some, None, length, false, IfOk, IfErr, OnOk, slice_set};
+ghost use Rattle.std.specs.Prelude.{◌≡◌, ◌<◌, ℕ, List, Some, None, length, false, IfOk, IfErr};
+ghost use Rattle.std.specs.Prelude.{OnOk, slice_set};
 ghost use Rattle.std.specs.Borrow.{sem};
 ghost use Rattle.memory_count.specs.Faults.{HasCause};
 ghost use Rattle.buffer_pool.specs.Uses.{is_full};

@@ -11,7 +11,8 @@ ghost use Rattle.rpc_laws.specs.ClientTable.{is_of_turn, is_same_size};
 ghost use Rattle.client_core.specs.KeepsPool.{IsKept};
 ghost use Rattle.client_core.specs.Replies.{call_row, end_of, replied, size_told};
 ghost use Rattle.client_core.specs.Timeouts.{call_timer, is_late, rolled_call};
-ghost use Rattle.client_core.specs.Posting.{entry_at, entry_of, head_of, marked, one_left, place_of, started};
+ghost use Rattle.client_core.specs.Posting.{entry_at, entry_of, head_of, marked, one_left};
+ghost use Rattle.client_core.specs.Posting.{place_of, started};
 
 use crate::active::Active;
 use buffer_pool::BufferPool;
@@ -229,8 +230,8 @@ impl ActiveCall {
         }
     }
 
-    /// Whether the call's clock says at `now`, with this timeout, both in microseconds, that it timed
-    /// out: it has an unanswered packet, and its mark is a timeout old.
+    /// Whether the call's clock says at `now`, with this timeout, both in microseconds, that it
+    /// timed out: it has an unanswered packet, and its mark is a timeout old.
     pub fn is_late(&self, now: u64, timeout: u64) -> bool
         ensures { result ≡ is_late now timeout self.now }
     {

@@ -1,5 +1,6 @@
 -- What a session's credits are, and what each call makes of them.
-use Rattle.std.specs.Prelude.{◌≡◌, ℕ, ◌+◌, ◌-◌, ◌≤◌, List, length, replicate, sum, slice_index, slice_set}
+use Rattle.std.specs.Prelude.{◌≡◌, ℕ, ◌+◌, ◌-◌, ◌≤◌, List, length, replicate, sum, slice_index}
+use Rattle.std.specs.Prelude.{slice_set}
 use Rattle.rpc_base.specs.declared.limits.TheConstants.{MOST_CREDITS}
 
 -- the free credits, and the unanswered packets of each of the eight slots

@@ -1,7 +1,8 @@
 //! The book of a session's credits. Each packet that is posted takes one, each answer gives it
 //! back.
 ghost use Rattle.std.specs.Prelude.{◌≡◌, ℕ, ◌<◌, ◌≤◌, slice_index};
-ghost use Rattle.credit_book.specs.Credits.{IsBalanced, limit_of, full_book, charged, given_back, rolled};
+ghost use Rattle.credit_book.specs.Credits.{IsBalanced, limit_of, full_book, charged, given_back};
+ghost use Rattle.credit_book.specs.Credits.{rolled};
 
 use rpc_base::MOST_CREDITS;
 use std::marker::Model;

@@ -45,8 +45,8 @@ no_table = record {
   slot_names = [];
 }
 
--- the hands that work for a desk are its handles that are out, each with its job's number. They work
--- at no board
+-- the hands that work for a desk are its handles that are out, each with its job's number. They
+-- work at no board
 abbrev pub hands_of : Jobs → Team
 hands_of s = record {
   board = record { board = no_table; queue = no_table };

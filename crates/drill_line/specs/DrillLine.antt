@@ -5,7 +5,8 @@ use Rattle.drill_line.specs.declared.line.Counts.{Counts}
 use Rattle.drill_line.specs.declared.line.Kind.{Kind}
 use Rattle.drill_line.specs.declared.line.Kind.TheVariants as kind
 use Rattle.rpc_base.specs.declared.event.Event.{Event}
-use Rattle.rpc_base.specs.declared.event.Event.TheVariants.{Overflowed, Dropped, Ran, Rolled, DoneOk}
+use Rattle.rpc_base.specs.declared.event.Event.TheVariants.{Overflowed, Dropped, Ran, Rolled}
+use Rattle.rpc_base.specs.declared.event.Event.TheVariants.{DoneOk}
 use Rattle.rpc_base.specs.declared.fact.Fact.{Fact}
 
 -- a fact of a kind: a handler ran, a call ended well, a call was rolled back, a packet was dropped,

@@ -1,5 +1,6 @@
 //! The script of a drill.
-ghost use Rattle.std.specs.Prelude.{◌≡◌, ◌≢◌, ◌<◌, ◌≤◌, ◌+◌, ◌*◌, ◌%◌, ◌++◌, [], ◌∷◌, All, length, IfOk, OnOk};
+ghost use Rattle.std.specs.Prelude.{◌≡◌, ◌≢◌, ◌<◌, ◌≤◌, ◌+◌, ◌*◌, ◌%◌, ◌++◌, [], ◌∷◌, All, length};
+ghost use Rattle.std.specs.Prelude.{IfOk, OnOk};
 ghost use Rattle.drill_maker.specs.Draft.{KeepsSessions};
 ghost use Rattle.drill_maker.specs.Drill.{drill_of, pairs, rest_after, rounds};
 ghost use Rattle.memory_count.specs.Faults.{HasCause};
@@ -83,7 +84,8 @@ fn add_rest_after(
     requires { length draft.old + 14 ≤ MOST_LINES }
     ensures added { OnOk result (draft.new ≡ draft.old ++ rest_after calls call) }
     ensures length { OnOk result (length draft.new ≤ length draft.old + 13) }
-    ensures none { OnOk result (call % 16 ≢ 0 → call ≢ calls → length draft.new ≡ length draft.old) }
+    ensures none { OnOk result (call % 16 ≢ 0 → call ≢ calls
+        → length draft.new ≡ length draft.old) }
     ensures cause { HasCause memory.old memory.new result }
 {
     if call % CALLS_TO_A_REST == 0 || call == calls {

@@ -3,8 +3,8 @@
 //! packets that are lost, repeated and held back as well. Each pairing of the script is of two
 //! nodes, as in every `Script`.
 //!
-//! Laws of every joint run, which follows no script: of nodes each with a service, a clock, a ring and
-//! limits of its own, whatever links are busy and whatever memory is wanting.
+//! Laws of every joint run, which follows no script: of nodes each with a service, a clock, a ring
+//! and limits of its own, whatever links are busy and whatever memory is wanting.
 ghost use Rattle.std.specs.Prelude.{List, []};
 ghost use Rattle.end_laws.specs.Genuine.{AllGenuine, Travels, WasPut};
 ghost use Rattle.end_laws.specs.Handshakes.{Agree, AllAgree};
@@ -60,9 +60,9 @@ pub fn scripts_pair_two_nodes()
     ensures { (script : List Line) → IsScript script → PairsTwoNodes script }
 {}
 
-/// In a joint run each handler runs on its call's own bytes, and each call ends with its own answer,
-/// as in `answers_own`: by the service of its node, and of nodes with the plain service by that one.
-/// So it is over wires to which only what was sent comes.
+/// In a joint run each handler runs on its call's own bytes, and each call ends with its own
+/// answer, as in `answers_own`: by the service of its node, and of nodes with the plain service by
+/// that one. So it is over wires to which only what was sent comes.
 pub fn joint_answers_own()
     ensures joint { JointAnswersOwn }
     ensures plain { PlainAnswersOwn }
@@ -86,8 +86,8 @@ pub fn joint_genuine()
     ensures { OfEveryJointRun (λ h t. Travels (WasPut (latest_first [] h)) (moment_left h t)) }
 {}
 
-/// Nodes over wires, to which no datagram comes that wasn't sent to them before, each note what they
-/// note in some joint run.
+/// Nodes over wires, to which no datagram comes that wasn't sent to them before, each note what
+/// they note in some joint run.
 pub fn wires_join()
     ensures { WiresJoin }
 {}

@@ -25,8 +25,8 @@ pub record Calls {R V W : Type 0} (log : R → Log) (service : Service.Ghosts V)
   pub handed : e.new.handed ≡ e.old.handed
 
 -- the next client session is made, with these credits, exactly where nothing refuses it and memory
--- isn't wanting; what is noted is that, or the refusal, and want of memory is noted nowhere, and has
--- its cause. It never comes before as many client sessions were made as the ring is long
+-- isn't wanting; what is noted is that, or the refusal, and want of memory is noted nowhere, and
+-- has its cause. It never comes before as many client sessions were made as the ring is long
 pub record OpensClient {R V W : Type 0} (log : R → Log) (service : Service.Ghosts V)
     (workers : Workers.Ghosts W) (credits : ℕ) (P : Rel) (told : Result ℕ ConnectError)
     (e : Change (Running V W)) (rec : Change R) (memory : Change ℕ) : Type 0 where

@@ -48,8 +48,8 @@ abbrev pub turn_of : {E : Type 0} → Result Turn E → Option Turn
 turn_of (Ok turn) = Some turn
 turn_of (Err fault) = None
 
--- what it tells by what its steps handed to the link: the answers of control packets, the requests of
--- its sessions, and packets of calls. Where one met a fault it tells nothing
+-- what it tells by what its steps handed to the link: the answers of control packets, the requests
+-- of its sessions, and packets of calls. Where one met a fault it tells nothing
 abbrev pub turn_told : {E : Type 0} → (handled : ℕ) → Listening → Asking → Result Sending E
     → Option Turn
 turn_told handled heard asked (Ok sending) =
@@ -106,8 +106,8 @@ wire_of l link = record { sent = l.sent link; troubles = troubles_of l link }
 -- was given are those whose ends were noted, in order, and the turn counts its facts. The link,
 -- where it tells what it sent, sent exactly the datagrams of the Sent facts, and failed or was busy
 -- for each packet that it didn't take. No short request in front of the receive ring was dropped
--- for want of memory, whatever the allocator did; and for each that was dropped so, and each session
--- that starved, memory was refused
+-- for want of memory, whatever the allocator did; and for each that was dropped so, and each
+-- session that starved, memory was refused
 pub record TellsOfPoll {K : Type 0} (given : K → List Done → Type 0) (service : ServiceChange)
     (told : Option Turn) (link : Change LinkTells) (node : Change Timed) (x : List Fact)
     (k : Change K) (memory : Change ℕ) : Type 0 where

@@ -11,8 +11,8 @@ use Rattle.node_steps.specs.Jobs.{staff_of}
 use Rattle.endpoint_loop.specs.Endpoints.{IsStaffed, Running, told}
 
 -- g is what the endpoint noted since it was made with these limits: g is a run of its node in its
--- life, which leaves it as it is; its service stands for what ran in the event loop; and its workers
--- have exactly its jobs
+-- life, which leaves it as it is; its service stands for what ran in the event loop; and its
+-- workers have exactly its jobs
 pub record StandsFor {V W : Type 0} (service : Service.Ghosts V) (workers : Workers.Ghosts W)
     (limits : Limits) (g : List Fact) (e : Running V W) : Type 0 where
   pub run : LifeRun (rules_of service) e.timed.lists.me e.timed.lists.life limits g

@@ -27,8 +27,8 @@ abbrev pub DeliversAll : List Carried → Rel
 DeliversAll [] s x t = (x ≡ []) × (t ≡ s)
 DeliversAll (d ∷ ds) s x t = Then (Delivers d.0 d.1) (DeliversAll ds) s x t
 
--- these datagrams came from a link, at most as many as a turn receives: they were the first of those
--- that waited, and are the last of those received, where the link tells these
+-- these datagrams came from a link, at most as many as a turn receives: they were the first of
+-- those that waited, and are the last of those received, where the link tells these
 pub record Came {L : Type 0} (received waiting : L → Option (List Carried)) (came : List Carried)
     (from to : L) : Type 0 where
   pub most : length came ≤ MOST_ARRIVALS
@@ -79,8 +79,8 @@ pub record ReceivesOnly (failed : Bool) (link then_link : LinkTells) : Type 0 wh
   pub faults : FailedAs failed link.troubles.faults then_link.troubles.faults
 
 -- the recorder grew by a delivery for each datagram that came, in order, and then by a poll. Where
--- the link didn't fail in receiving, no more datagrams came; where it did, the poll was made all the
--- same. The poll told nothing where the link failed in it
+-- the link didn't fail in receiving, no more datagrams came; where it did, the poll was made all
+-- the same. The poll told nothing where the link failed in it
 pub record MakesTurn {R K L V W : Type 0} (b : Bounds R K V W) (net : Link.Ghosts L)
     (told : Option Turn) (now : ℕ) (link : Change L) (e : Change (Running V W)) (rec : Change R)
     (k : Change K) (memory : Change ℕ) : Type 0 where

@@ -1,7 +1,7 @@
-//! The endpoint: a node with the service that answers its requests and the workers that answer those
-//! in the background. An application connects and closes sessions with it, and asks calls on them.
-//! It takes datagrams, polls, and takes turns, in each of which it receives what came over a link and
-//! polls.
+//! The endpoint: a node with the service that answers its requests and the workers that answer
+//! those in the background. An application connects and closes sessions with it, and asks calls on
+//! them. It takes datagrams, polls, and takes turns, in each of which it receives what came over a
+//! link and polls.
 #![tactic(auto)]
 
 mod endpoint;

@@ -1,6 +1,6 @@
-//! A node: the sessions of an endpoint with its rings, its inbox and its clock, and what each step of
-//! a poll and each call of an application does to them, over any service, workers, link, recorder
-//! and continuation.
+//! A node: the sessions of an endpoint with its rings, its inbox and its clock, and what each step
+//! of a poll and each call of an application does to them, over any service, workers, link,
+//! recorder and continuation.
 #![tactic(auto)]
 
 mod continuation;

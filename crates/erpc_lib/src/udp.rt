@@ -40,14 +40,14 @@ pub fn udp_running<'a, V: Service + Drop, N: Net + time::Clock>(
     Ok(node)
 }
 
-/// A run over a UDP socket with the plain service, that keeps no facts. Its crew's calls wait by the
-/// handle `H`.
+/// A run over a UDP socket with the plain service, that keeps no facts. Its crew's calls wait by
+/// the handle `H`.
 pub type UdpPlain<'a, H, N> = PlainRunning<H, UdpLink<'a, N>, SysClock<'a, N>>;
 
 /// A run of a new endpoint with the plain service and usual limits at this numeric address, with a
-/// port. Its crew has no hands, and works by itself; its calls wait by the handle `waits`. It sleeps
-/// where nothing comes, and keeps no facts. `NoMemory` comes only where memory was refused for
-/// the endpoint, and `Link` where the link can't take the address.
+/// port. Its crew has no hands, and works by itself; its calls wait by the handle `waits`. It
+/// sleeps where nothing comes, and keeps no facts. `NoMemory` comes only where memory was refused
+/// for the endpoint, and `Link` where the link can't take the address.
 pub fn udp_plain<'a, H: Wait + Drop, N: Net + time::Clock>(
     memory: &mut Memory,
     waits: H,

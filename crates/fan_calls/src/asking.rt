@@ -68,8 +68,8 @@ fn buffer_of(memory: &mut Memory, bytes: &[u8]) -> Result<MsgBuf, NoMemory>
 /// Asks a call with the fan's bytes on a client session, by a right to read them. The call is asked
 /// with a copy of the bytes and a buffer of `room` bytes for the answer, and both come back at its
 /// end. `Gone` comes exactly where the right shows that the buffer was taken. `TooLarge` and
-/// `NotConnected` come as at `Endpoint::ask`, and are noted, except where there is no memory for the
-/// two buffers. `Gone` and `NoMemory` are noted nowhere.
+/// `NotConnected` come as at `Endpoint::ask`, and are noted, except where there is no memory for
+/// the two buffers. `Gone` and `NoMemory` are noted nowhere.
 #[tactic(auto, using(crate::proofs::AskLemmas::goes_silently, crate::proofs::AskLemmas::hands_in))]
 pub fn ask_fan<V: Service, W: Workers, R: Recorder>(
     memory: &mut Memory,

@@ -215,9 +215,9 @@ abbrev pub is_too_large : ℕ → Option Answer → Bool
 is_too_large size None = false
 is_too_large size (Some answer) = length answer.bytes == size && nat_lt answer.room size
 
--- whether a fact of endpoint n is of a call, as the facts so far tell: a call that begins was asked,
--- a handler runs on its call's type and bytes, a call that ends Ok has its handler's answer, and one
--- that ends TooSmall has one of that size, above its room
+-- whether a fact of endpoint n is of a call, as the facts so far tell: a call that begins was
+-- asked, a handler runs on its call's type and bytes, a call that ends Ok has its handler's answer,
+-- and one that ends TooSmall has one of that size, above its room
 abbrev pub is_own : List Lived → Endpoint → Event → (first : List ℕ) → Bool
 is_own past n (Begun c r) first = is_some (ask_of n c past)
 is_own past n (Ran t r req_type) first = asks_so req_type first past (run_of n t r past)

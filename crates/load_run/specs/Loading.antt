@@ -158,8 +158,8 @@ abbrev pub rested_by : {L C R : Type 0} → (endpoint : End) → Rest → Edges 
     → Moment (Rested ℕ CrewState) L C R
 rested_by endpoint rest edges = record { run = rested endpoint rest; edges = edges }
 
--- a turn was made, while so often memory was refused: it was prepared, and the endpoint made a turn,
--- within it. The calls that were over then were counted, where there was memory for each
+-- a turn was made, while so often memory was refused: it was prepared, and the endpoint made a
+-- turn, within it. The calls that were over then were counted, where there was memory for each
 pub record HasLoaded {L C R : Type 0} (o : Outside L C R) (old new : Moment LoadsSoFar L C R)
     (memory : Change ℕ) : Type 0 where
   pub ready : LoadsSoFar
@@ -190,8 +190,8 @@ abbrev pub HasLoadedOnce : {L C R : Type 0} → Outside L C R
     → (old new : Moment LoadsSoFar L C R) → Type 0
 HasLoadedOnce o old new = (memory : Change ℕ) × HasLoaded o old new memory
 
--- n turns were made: its endpoint goes on by what was noted, and the calls that were asked and those
--- that ended among that were counted
+-- n turns were made: its endpoint goes on by what was noted, and the calls that were asked and
+-- those that ended among that were counted
 pub record LoadsOn {L C R : Type 0} (o : Outside L C R) (old new : Moment LoadsSoFar L C R) (n : ℕ)
     : Type 0 where
   pub runs : RunsOn plain_members crew_members o (end_at old) (end_at new) n

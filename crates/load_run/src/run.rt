@@ -141,10 +141,10 @@ fn reach_server<L: Link>(spec: &LoadSpec, link: &mut L) -> Result<Peer, Failed>
 
 impl<H: Wait + Drop> LoadRun<H> {
     /// Binds the link to the client's address, and opens a session with the server at the other
-    /// one, with 32 credits, of an endpoint of node 0 in the life of the words, with usual limits but
-    /// for its timeout. Packets to the server go several in a datagram where the words name a frame.
-    /// `LinkFault` comes exactly where a fault of the link came, and `NoMemory` only where memory was
-    /// refused.
+    /// one, with 32 credits, of an endpoint of node 0 in the life of the words, with usual limits
+    /// but for its timeout. Packets to the server go several in a datagram where the words name a
+    /// frame. `LinkFault` comes exactly where a fault of the link came, and `NoMemory` only where
+    /// memory was refused.
     pub fn start<L: Link, R: Recorder>(
         memory: &mut Memory,
         rt: H,

@@ -1,5 +1,6 @@
 //! A message's buffer.
-ghost use Rattle.std.specs.Prelude.{◌≡◌, ◌<◌, ◌≤◌, ◌+◌, ℕ, Some, length, replicate, All, IfOk, slice_get};
+ghost use Rattle.std.specs.Prelude.{◌≡◌, ◌<◌, ◌≤◌, ◌+◌, ℕ, Some, length, replicate, All, IfOk};
+ghost use Rattle.std.specs.Prelude.{slice_get};
 ghost use Rattle.std.specs.Borrow.{sem};
 ghost use Rattle.memory_count.specs.Faults.{HasCause};
 ghost use Rattle.packet_header.specs.Parts.{packet_count, part};
@@ -55,8 +56,8 @@ impl MsgBuf {
         })
     }
 
-    /// A buffer that holds these bytes, at most `MOST_CAPACITY` of them, as its message: its capacity
-    /// is their count. `NoMemory` comes only where memory was refused.
+    /// A buffer that holds these bytes, at most `MOST_CAPACITY` of them, as its message: its
+    /// capacity is their count. `NoMemory` comes only where memory was refused.
     pub fn of(memory: &mut Memory, bytes: &[u8]) -> Result<MsgBuf, NoMemory>
         requires { length bytes.now ≤ MOST_CAPACITY }
         ensures message { IfOk result (λ b. bytes_of b ≡ bytes.now) }

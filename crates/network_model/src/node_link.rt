@@ -1,5 +1,6 @@
 //! The network as the link of one node.
-ghost use Rattle.std.specs.Prelude.{◌≡◌, ◌≢◌, ◌++◌, ◌∷◌, [], Ok, None, Some, map, IfOk, IsOk, OnErr, OnOk};
+ghost use Rattle.std.specs.Prelude.{◌≡◌, ◌≢◌, ◌++◌, ◌∷◌, [], Ok, None, Some, map, IfOk, IsOk};
+ghost use Rattle.std.specs.Prelude.{OnErr, OnOk};
 ghost use Rattle.network_model.specs.Sending.{copy_from};
 ghost use Rattle.memory_count.specs.Faults.{HasCause};
 ghost use Rattle.rpc_outside.specs.declared.link.Got.TheVariants.{Nothing};

@@ -3,7 +3,8 @@ use Rattle.std.specs.Prelude.{ℕ, ◌≡◌, ◌≤◌, ◌<◌, ◌⊎◌, ◌
 use Rattle.std.specs.Prelude.{◌++◌, count_by, length}
 use Rattle.std.specs.List.{list_any}
 use Rattle.rpc_base.specs.declared.event.Event.{Event}
-use Rattle.rpc_base.specs.declared.event.Event.TheVariants.{Made, PairedClient, PairedServer, Restarted}
+use Rattle.rpc_base.specs.declared.event.Event.TheVariants.{Made, PairedClient, PairedServer}
+use Rattle.rpc_base.specs.declared.event.Event.TheVariants.{Restarted}
 use Rattle.rpc_base.specs.declared.event.Event.TheVariants.{Worked, Missed}
 use Rattle.rpc_base.specs.declared.fact.Fact.{Fact}
 use Rattle.rpc_base.specs.declared.limits.Limits.{Limits}
@@ -13,7 +14,8 @@ use Rattle.rpc_laws.specs.declared.tables.Timed.{Timed}
 use Rattle.rpc_laws.specs.AtMostOnce.{works_request}
 use Rattle.rpc_laws.specs.Deliveries.{Delivers}
 use Rattle.rpc_laws.specs.Facts.{plain}
-use Rattle.rpc_laws.specs.Groups.{Asks, Connects, Disconnects, SetsRate, client_refusal, server_refusal}
+use Rattle.rpc_laws.specs.Groups.{Asks, Connects, Disconnects, SetsRate, client_refusal}
+use Rattle.rpc_laws.specs.Groups.{server_refusal}
 use Rattle.rpc_laws.specs.Jobs.{is_job}
 use Rattle.rpc_laws.specs.NodeLists.{new_node}
 use Rattle.rpc_laws.specs.PollOrder.{Poll}
@@ -77,8 +79,8 @@ pub record LifeRun (v : Serving) (me life : ℕ) (limits : Limits) (g : List Fac
       ≤ 1
   pub answers : Answers v [] g
 
--- g is what a node notes from when it is made in this life: that life, and where it is restarted the
--- next one. The Made that the world notes of it stands before g
+-- g is what a node notes from when it is made in this life: that life, and where it is restarted
+-- the next one. The Made that the world notes of it stands before g
 pub data NodeRun (v : Serving) (me : ℕ) (limits : Limits) : ℕ → List Fact → Timed → Type 0 where
   lives_on : (life : ℕ) (g : List Fact) (t : Timed) → LifeRun v me life limits g t
       → NodeRun v me limits life g t

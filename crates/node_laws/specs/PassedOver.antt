@@ -1,5 +1,5 @@
--- What a datagram changes that is no packet or finds no room, and a packet that is dropped or heard:
--- nothing but its list and its count.
+-- What a datagram changes that is no packet or finds no room, and a packet that is dropped or
+-- heard: nothing but its list and its count.
 use Rattle.std.specs.Prelude.{◌≡◌, ℕ, drop}
 use Rattle.rpc_base.specs.declared.state.DropReason.{DropReason}
 use Rattle.rpc_base.specs.declared.event.Event.TheVariants.{Bad, Dropped, Heard, Overflowed}

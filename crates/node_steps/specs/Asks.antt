@@ -17,7 +17,8 @@ refusal_in state = Some (NotConnected state)
 
 -- why a call of so many bytes is refused on a session in this state
 abbrev pub refusal_of : ℕ → SessionState → Option AskError
-refusal_of len state = if nat_lt MOST_MESSAGE_BYTES len then Some (TooLarge len) else refusal_in state
+refusal_of len state =
+    if nat_lt MOST_MESSAGE_BYTES len then Some (TooLarge len) else refusal_in state
 
 -- a call that nothing refuses has the next number, unless memory is wanting. One that is refused
 -- comes back as it was

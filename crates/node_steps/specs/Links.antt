@@ -53,8 +53,8 @@ abbrev pub FailedAs : (failed : Bool) → (old new : ℕ) → Type 0
 FailedAs true old new = HasRisen old new
 FailedAs false old new = new ≡ old
 
--- what a link counted while these facts were noted: for each packet that it didn't take it failed or
--- was busy
+-- what a link counted while these facts were noted: for each packet that it didn't take it failed
+-- or was busy
 pub record CountsUnsent (x : List Fact) (failed : Bool) (from to : Troubles) : Type 0 where
   pub held : HeldBack (unsent_in x) from to
   pub cause : FailedAs failed from.faults to.faults

@@ -37,7 +37,8 @@ pub record AddsServer {R T E : Type 0} (log : R → Log) (P : Rel) (told : Resul
 pub record MakesClient {R : Type 0} (log : R → Log) (credits : ℕ) (P : Rel)
     (told : Result ℕ ConnectError) (node : Change Holding) (rec : Change R) : Type 0 where
   pub number : IfOk told (λ s. s ≡ length node.old.lists.clients)
-  pub makes : UnlessNoMemory told (Makes log P (timed_of node.old) (timed_of node.new) rec.old rec.new)
+  pub makes : UnlessNoMemory told
+      (Makes log P (timed_of node.old) (timed_of node.new) rec.old rec.new)
   pub accepted : OnOk told (client_refusal credits node.old.lists ≡ None)
   pub refused : IfErr told (λ why. refused_as why ≡ client_refusal credits node.old.lists)
   pub jobs : node.new.lists.jobs ≡ node.old.lists.jobs
@@ -50,7 +51,8 @@ pub record MakesClient {R : Type 0} (log : R → Log) (credits : ℕ) (P : Rel)
 pub record MakesServer {R : Type 0} (log : R → Log) (credits : ℕ) (P : Rel)
     (told : Result ℕ ConnectError) (node : Change Holding) (rec : Change R) : Type 0 where
   pub number : IfOk told (λ t. t ≡ node.old.lists.server_numbers)
-  pub makes : UnlessNoMemory told (Makes log P (timed_of node.old) (timed_of node.new) rec.old rec.new)
+  pub makes : UnlessNoMemory told
+      (Makes log P (timed_of node.old) (timed_of node.new) rec.old rec.new)
   pub accepted : OnOk told (server_refusal credits node.old.lists ≡ None)
   pub refused : IfErr told (λ why. refused_as why ≡ server_refusal credits node.old.lists)
   pub clients : node.new.lists.clients ≡ node.old.lists.clients

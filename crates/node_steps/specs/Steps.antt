@@ -54,7 +54,8 @@ pub record StepsReplies {R : Type 0} (log : R → Log) (P : Rel) (node : Change 
 -- a step by which calls may end
 pub record StepsEnds {R K : Type 0} (log : R → Log) (given : K → List Done → Type 0) (P : Rel)
     (node : Change Holding) (rec : Change R) (k : Change K) : Type 0 where
-  pub ended : MakesEnds log given P (timed_of node.old) (timed_of node.new) rec.old rec.new k.old k.new
+  pub ended : MakesEnds log given P (timed_of node.old) (timed_of node.new) rec.old rec.new k.old
+      k.new
   pub rest : LeavesTimed given node.old node.new k.old k.new
 
 -- what the control packets of an inbox leave: the receive ring, that all requests are of types that
@@ -84,7 +85,8 @@ IsFlushed owner queued = list_any (is_owned owner) queued ≡ false
 -- a datagram comes in, and it is told what became of it
 pub record StepsIn {R : Type 0} (log : R → Log) (peer : ℕ) (bytes : List ℕ)
     (is told : Delivery) (node : Change Holding) (rec : Change R) : Type 0 where
-  pub makes : Makes log (Delivers peer bytes) (timed_of node.old) (timed_of node.new) rec.old rec.new
+  pub makes : Makes log (Delivers peer bytes) (timed_of node.old) (timed_of node.new) rec.old
+      rec.new
   pub rest : LeavesServing node.old node.new
   pub answered : told ≡ is
 
@@ -116,7 +118,8 @@ pub record StepsHeard {R L : Type 0} (log : R → Log) (net : Link.Ghosts L) (P 
 pub record StepsSent {R L E : Type 0} (log : R → Log) (net : Link.Ghosts L)
     (told : Result Sending E) (node : Change Holding) (rec : Change R) (link : Change L)
     : Type 0 where
-  pub sent : MakesSent log net.sent SendsSome (timed_of node.old) (timed_of node.new) rec.old rec.new
+  pub sent : MakesSent log net.sent SendsSome (timed_of node.old) (timed_of node.new) rec.old
+      rec.new
       link.old link.new
   pub all : IfOk told (λ s. s.busy ≡ false → (line node.new.clock node.new.lists.queued ≡ [])
       × (net.busies link.new ≡ net.busies link.old))

@@ -1,5 +1,5 @@
--- A client session as it is made, how far a call has come as it begins, and the two halves of a fact's change of a node's lists: the
--- tables that look at others, and those that stand alone.
+-- A client session as it is made, how far a call has come as it begins, and the two halves of a
+-- fact's change of a node's lists: the tables that look at others, and those that stand alone.
 use Rattle.std.specs.Prelude.{ℕ, [], None}
 use Rattle.rpc_base.specs.declared.fact.Fact.{Fact}
 use Rattle.rpc_base.specs.declared.state.SessionState.{SessionState}

@@ -122,7 +122,8 @@ fn take_progress(
     head: &Option<MessageHeader>,
     body: &[u8],
 ) -> Result<(), NoMemory>
-    ensures progress { OnOk result (progress.new ≡ took_reply clock head.now body.now progress.old) }
+    ensures progress { OnOk result
+        (progress.new ≡ took_reply clock head.now body.now progress.old) }
     ensures cause { HasCause memory.old memory.new result }
 {
     let Some(head) = head else {

@@ -87,7 +87,8 @@ pub fn open(
     peer: Peer,
     credits: u16,
 ) -> Result<(), NoMemory>
-    ensures clients { OnOk result (clients.new ≡ clients.old ++ opened_end number peer credits ∷ []) }
+    ensures clients { OnOk result
+        (clients.new ≡ clients.old ++ opened_end number peer credits ∷ []) }
     ensures cause { HasCause memory.old memory.new result }
 {
     let way = Way {
@@ -233,7 +234,8 @@ pub fn ask(
     session: SessionNo,
     what: Asking,
 ) -> Result<(), NoMemory>
-    ensures clients { OnOk result (clients.new ≡ at_first (is_client session) (asks what) clients.old) }
+    ensures clients { OnOk result
+        (clients.new ≡ at_first (is_client session) (asks what) clients.old) }
     ensures cause { HasCause memory.old memory.new result }
 {
     let Some(place) = place_of(clients, session) else {

@@ -25,8 +25,8 @@ pub fn facts_tell_their_bytes()
     ensures { (script : List Line) (h : List Fact) → Follows script h → AllTold h }
 {}
 
-/// No fact of a run of one node has other bytes than those that its line shows, whatever its service
-/// and whatever arrives.
+/// No fact of a run of one node has other bytes than those that its line shows, whatever its
+/// service and whatever arrives.
 pub fn runs_tell_their_bytes()
     ensures { RunsTellTheirBytes }
 {}

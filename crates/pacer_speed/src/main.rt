@@ -1,6 +1,6 @@
-//! Adds packets to a pacer and takes them out, to have their instructions counted: `pacer_speed WAITING
-//! ROUNDS` puts so many in, and then takes one out and puts one in, over and over. It tells how many
-//! came out.
+//! Adds packets to a pacer and takes them out, to have their instructions counted: `pacer_speed
+//! WAITING ROUNDS` puts so many in, and then takes one out and puts one in, over and over. It tells
+//! how many came out.
 #![tactic(auto)]
 
 use memory_count::{Memory, NoMemory};

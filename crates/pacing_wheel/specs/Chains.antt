@@ -1,5 +1,6 @@
 -- Chains in an array: which places of it a chain has, and that no place is in two.
-use Rattle.std.specs.Prelude.{◌≡◌, ℕ, zero, suc, ◌+◌, ◌<◌, ◌≤◌, List, [], ◌∷◌, ◌++◌, None, length, map, slice_index_or}
+use Rattle.std.specs.Prelude.{◌≡◌, ℕ, zero, suc, ◌+◌, ◌<◌, ◌≤◌, List, [], ◌∷◌, ◌++◌, None, length}
+use Rattle.std.specs.Prelude.{map, slice_index_or}
 use Rattle.std.specs.List.{AllByRecursion}
 use Rattle.rpc_base.specs.Totals.{only}
 use Rattle.rpc_base.specs.declared.owner.Owner.TheVariants.{Control}

@@ -1,5 +1,6 @@
 -- The entries of a pacer, and which of them are due.
-use Rattle.std.specs.Prelude.{ℕ, suc, ◌≡◌, ◌≤◌, ◌<◌, ◌+◌, ◌%◌, ◌^◌, Option, Some, None, true, false, Bool, ◌&&◌, ◌==◌, nat_le, List, [], ◌∷◌, drop, length, if◌then◌else◌}
+use Rattle.std.specs.Prelude.{ℕ, suc, ◌≡◌, ◌≤◌, ◌<◌, ◌+◌, ◌%◌, ◌^◌, Option, Some, None, true, false}
+use Rattle.std.specs.Prelude.{Bool, ◌&&◌, ◌==◌, nat_le, List, [], ◌∷◌, drop, length, if◌then◌else◌}
 use Rattle.std.specs.List.{AllByRecursion}
 use Rattle.rpc_base.specs.declared.owner.Owner.{Owner}
 use Rattle.rpc_base.specs.Owners.{same_owner}
@@ -99,4 +100,5 @@ StandsAt cursor place p = Covers cursor p.due × (p.due % 4096 ≡ place) × (p.
 -- so do all entries of the lists of this place and of those behind it
 abbrev pub AllStand : (cursor place : ℕ) → List (List Paced) → Type 0
 AllStand cursor place [] = Unit {0}
-AllStand cursor place (l ∷ ls) = AllByRecursion (StandsAt cursor place) l × AllStand cursor (suc place) ls
+AllStand cursor place (l ∷ ls) =
+    AllByRecursion (StandsAt cursor place) l × AllStand cursor (suc place) ls

@@ -1,6 +1,8 @@
 //! Lists of entries in one array: chains of its places, and a stack of those that are free.
-ghost use Rattle.std.specs.Prelude.{◌≡◌, ◌<◌, ◌-◌, ◌+◌, ◌++◌, ◌∷◌, ◌↔◌, [], drop, length, replicate};
-ghost use Rattle.std.specs.Prelude.{IfOk, IsOk, IsSome, IsTrue, Some, cond, not, set, slice_get, ◌&&◌};
+ghost use Rattle.std.specs.Prelude.{◌≡◌, ◌<◌, ◌-◌, ◌+◌, ◌++◌, ◌∷◌, ◌↔◌, [], drop, length};
+ghost use Rattle.std.specs.Prelude.{replicate};
+ghost use Rattle.std.specs.Prelude.{IfOk, IsOk, IsSome, IsTrue, Some, cond, not, set, slice_get};
+ghost use Rattle.std.specs.Prelude.{◌&&◌};
 ghost use Rattle.std.specs.Prelude.{slice_index_or, vec_capacity, ℕ, ◌≤◌};
 ghost use Rattle.std.specs.List.{find};
 ghost use Rattle.memory_count.specs.Faults.{HasCause};

@@ -88,7 +88,8 @@ impl Dial {
         self.waiting += 1;
     }
 
-    /// The entry that is due first, where it is due at `now`. It looks at no place behind that time.
+    /// The entry that is due first, where it is due at `now`. It looks at no place behind that
+    /// time.
     pub fn first_due(&self, now: u64) -> Option<Paced>
         ensures { result ≡ least (is_due now) due_of self.now.items }
     {

@@ -1,5 +1,6 @@
 //! The pacer.
-ghost use Rattle.std.specs.Prelude.{◌≡◌, ◌<◌, ◌≤◌, ◌↔◌, ◌+◌, [], false, length, option_map, slice_get};
+ghost use Rattle.std.specs.Prelude.{◌≡◌, ◌<◌, ◌≤◌, ◌↔◌, ◌+◌, [], false, length, option_map};
+ghost use Rattle.std.specs.Prelude.{slice_get};
 ghost use Rattle.std.specs.Prelude.{IfOk, IfSome, IsNone, IsOk, IsTrue, drop};
 ghost use Rattle.std.specs.List.{AllByRecursion, find, list_any};
 ghost use Rattle.std.specs.List.Sorted.{IsNonDecreasingBy};
@@ -24,9 +25,9 @@ pub struct Paced {
     pub entry: Entry,
 }
 
-/// The packets that were posted and aren't due yet: by the times when they are due, and among equals
-/// by their adding. Those that are due within one turn of the wheel stand in its places, all others
-/// in a list by due times.
+/// The packets that were posted and aren't due yet: by the times when they are due, and among
+/// equals by their adding. Those that are due within one turn of the wheel stand in its places, all
+/// others in a list by due times.
 #[derive(Drop)]
 pub struct Pacer {
     dial: Dial,
@@ -205,7 +206,8 @@ impl Pacer {
 
     // Takes out that owner's entry of this number, among equals the one that is due first.
     fn take_with(&mut self, owner: &Owner, number: u16) -> Option<Entry>
-        ensures taken { result ≡ option_map entry_of (find (is_entry_of owner.now number) self.old.items) }
+        ensures taken { result
+            ≡ option_map entry_of (find (is_entry_of owner.now number) self.old.items) }
         ensures left { self.new
             ≡ wheel (without_first (is_entry_of owner.now number) self.old.items) self.old.size }
     {

@@ -81,8 +81,8 @@ impl Frame {
         self.count == 0 || self.bytes.len() + LENGTH_BYTES + len <= most as usize
     }
 
-    /// Puts a packet of this head and body behind the others. It has no room exactly where there are
-    /// others, and the datagram would have more than `most` bytes.
+    /// Puts a packet of this head and body behind the others. It has no room exactly where there
+    /// are others, and the datagram would have more than `most` bytes.
     pub fn push(&mut self, head: &[u8], body: &[u8], most: u32) -> bool
         requires packet { length head.now + length body.now ≤ MOST_PACKET_BYTES }
         requires most { most ≤ MOST_FRAME_BYTES }

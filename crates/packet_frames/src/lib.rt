@@ -1,5 +1,5 @@
-//! Several packets in one datagram: how they are put in, and how they are taken out. It knows nothing
-//! of sockets and peers, nor of what packets say.
+//! Several packets in one datagram: how they are put in, and how they are taken out. It knows
+//! nothing of sockets and peers, nor of what packets say.
 #![tactic(auto)]
 
 mod frame;

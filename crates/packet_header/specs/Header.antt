@@ -117,7 +117,8 @@ abbrev pub MessageLength : Kind → (size number length : ℕ) → Type 0
 MessageLength Request size number n = n ≡ HEAD_BYTES + part_size size number
 MessageLength Rfr size number n = n ≡ HEAD_BYTES
 MessageLength Cr size number n = n ≡ HEAD_BYTES
-MessageLength Response size number n = (n ≡ HEAD_BYTES + tail size) ⊎ ((PART_BYTES ≤ size) × (n ≡ MOST_DATAGRAM_BYTES))
+MessageLength Response size number n =
+    (n ≡ HEAD_BYTES + tail size) ⊎ ((PART_BYTES ≤ size) × (n ≡ MOST_DATAGRAM_BYTES))
 
 -- a datagram of n bytes is as long as its header tells
 abbrev pub HasLength : Packet → ℕ → Type 0

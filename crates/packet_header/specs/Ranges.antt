@@ -10,7 +10,8 @@ use Rattle.packet_header.specs.declared.packet.ControlKind.TheVariants.{Disconne
 use Rattle.packet_header.specs.declared.ranges.Span.{Span}
 use Rattle.packet_header.specs.declared.ranges.ControlRow.{ControlRow}
 use Rattle.packet_header.specs.Parts.{packet_count}
-use Rattle.rpc_base.specs.declared.limits.TheConstants.{MOST_CREDITS, MOST_MESSAGE_BYTES, SESSION_NUMBERS}
+use Rattle.rpc_base.specs.declared.limits.TheConstants.{MOST_CREDITS, MOST_MESSAGE_BYTES}
+use Rattle.rpc_base.specs.declared.limits.TheConstants.{SESSION_NUMBERS}
 
 -- the numbers from low to high, both among them
 abbrev pub span : ℕ → ℕ → Span

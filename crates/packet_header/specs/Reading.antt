@@ -18,7 +18,8 @@ use Rattle.packet_header.specs.declared.packet.ControlHeader.{ControlHeader}
 use Rattle.packet_header.specs.declared.packet.Packet.{Packet}
 use Rattle.packet_header.specs.declared.packet.Packet.TheVariants.{Message, Control}
 use Rattle.packet_header.specs.declared.packet.BadPacket.{BadPacket}
-use Rattle.packet_header.specs.declared.packet.BadPacket.TheVariants.{Short, Magic, Field, Length, Kind as NoKind}
+use Rattle.packet_header.specs.declared.packet.BadPacket.TheVariants.{Short, Magic, Field, Length}
+use Rattle.packet_header.specs.declared.packet.BadPacket.TheVariants.{Kind as NoKind}
 use Rattle.packet_header.specs.declared.decoding.AnyKind.{AnyKind}
 use Rattle.packet_header.specs.declared.decoding.AnyKind.TheVariants.{OfMessage, OfControl}
 use Rattle.packet_header.specs.Parts.{part_size, tail}
@@ -145,7 +146,8 @@ message_read m n =
 
 -- a datagram of session control, by its fields and its length
 unfoldable pub control_read : ControlHeader → (padding length : ℕ) → Result Packet BadPacket
-control_read c padding n = checked (control_fault c padding) (n == HEAD_BYTES) (Control c) HEAD_BYTES n
+control_read c padding n =
+    checked (control_fault c padding) (n == HEAD_BYTES) (Control c) HEAD_BYTES n
 
 -- a datagram that begins as a header does, by its kind
 abbrev pub read_as : Option AnyKind → List ℕ → Result Packet BadPacket

@@ -7,9 +7,12 @@ use Rattle.packet_header.specs.declared.packet.ControlKind.{ControlKind}
 use Rattle.packet_header.specs.declared.packet.Packet.{Packet}
 use Rattle.packet_header.specs.declared.packet.Packet.TheVariants.{Message, Control}
 use Rattle.packet_header.specs.declared.packet.BadPacket.{BadPacket}
-use Rattle.packet_header.specs.declared.packet.BadPacket.TheVariants.{Short, Magic, Field, Length, Kind as NoKind}
-use Rattle.packet_header.specs.Header.{HasHead, HasLength, InRange, control_code, kind_code, number_at}
-use Rattle.packet_header.specs.Reading.{control_at, control_fields, first_outside, message_at, message_fields, wanted}
+use Rattle.packet_header.specs.declared.packet.BadPacket.TheVariants.{Short, Magic, Field, Length}
+use Rattle.packet_header.specs.declared.packet.BadPacket.TheVariants.{Kind as NoKind}
+use Rattle.packet_header.specs.Header.{HasHead, HasLength, InRange, control_code, kind_code}
+use Rattle.packet_header.specs.Header.{number_at}
+use Rattle.packet_header.specs.Reading.{control_at, control_fields, first_outside, message_at}
+use Rattle.packet_header.specs.Reading.{message_fields, wanted}
 
 -- a whole header with the magic byte and this kind
 pub record IsOfKind (code : ℕ) (bytes : List ℕ) : Type 0 where

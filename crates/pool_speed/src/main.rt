@@ -1,7 +1,7 @@
 //! Measures borrowing and giving back: `pool_speed table THREADS TIMES` does so that many times on
 //! each of 1, 2 or 4 threads, with a shared pool, and `pool_speed mutex THREADS TIMES` with a pool
-//! behind one lock. Each writes how often a buffer was lent, and tells on standard error how long it
-//! took. Without words it does a few of both on one thread.
+//! behind one lock. Each writes how often a buffer was lent, and tells on standard error how long
+//! it took. Without words it does a few of both on one thread.
 #![tactic(auto)]
 
 mod locked;

@@ -102,8 +102,8 @@ fn ask_job<V: Service, D: Checked, R: Recorder>(
 }
 
 /// Asks a job of the other server, on the session that stands with it, or works it here where its
-/// call is refused. `NoMemory` comes only where memory for the call was refused; its handle is given
-/// up then.
+/// call is refused. `NoMemory` comes only where memory for the call was refused; its handle is
+/// given up then.
 pub fn pass_on<V: Service, D: Checked, R: Recorder>(
     memory: &mut Memory,
     endpoint: &mut Endpoint<V, Desk<D>>,

@@ -77,8 +77,8 @@ fn settle_all<V: Service, D: Checked>(
 }
 
 // Settles the ends of these calls, and passes on each job that waits. `NoMemory` comes where memory
-// was refused to keep a call that was over, and then nothing is done, and where it is refused for the
-// call of a job.
+// was refused to keep a call that was over, and then nothing is done, and where it is refused for
+// the call of a job.
 fn relay_all<V: Service, D: Checked, R: Recorder>(
     memory: &mut Memory,
     endpoint: &mut Endpoint<V, Desk<D>>,
@@ -103,8 +103,8 @@ fn relay_all<V: Service, D: Checked, R: Recorder>(
 /// that was over in it is settled, in order; and then each job that was given gets its handle and
 /// is asked of the other server, or worked here where that is refused. So no job waits behind it.
 /// `NoMemory` comes only where memory was refused for the call of a job or to keep a call that was
-/// over, and otherwise `LinkFault` comes exactly where a fault of the link came; all is done then as
-/// without one.
+/// over, and otherwise `LinkFault` comes exactly where a fault of the link came; all is done then
+/// as without one.
 pub fn relay_turn<V, D, L, C, R>(
     memory: &mut Memory,
     endpoint: &mut Endpoint<V, Desk<D>>,

@@ -8,8 +8,8 @@ use Rattle.deferred_calls.specs.declared.job.Numbered.{Numbered}
 use Rattle.message_buffer.specs.Buffer.{bytes_of}
 use Rattle.worker_board.specs.declared.Parcel.{Parcel}
 
--- how many jobs may be out, the jobs that were asked of the other server, in order of giving, and how
--- many jobs were answered with its answers, and how many here
+-- how many jobs may be out, the jobs that were asked of the other server, in order of giving, and
+-- how many jobs were answered with its answers, and how many here
 pub record Relaying : Type 0 where
   pub limit : ℕ
   pub asked : List Numbered
@@ -53,7 +53,8 @@ Settles answer d desk then_desk old new =
     EndsJob answer d desk then_desk old new
     ⊎ (IsNobodys d.tag old × (then_desk ≡ desk) × (new ≡ old))
 
--- a desk was given these jobs, and some that were answered were taken; its handles that are out stay
+-- a desk was given these jobs, and some that were answered were taken; its handles that are out
+-- stay
 pub record GoesOn (gave : List Parcel) (old new : Jobs) : Type 0 where
   pub left : open_of new ≡ open_of old ++ gave
   pub hands : hands_of new ≡ hands_of old

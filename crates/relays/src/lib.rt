@@ -1,5 +1,5 @@
-//! Jobs of a desk that are asked of another server: which were asked, and how many were answered with
-//! its answers, and how many here. It asks and sends nothing by itself.
+//! Jobs of a desk that are asked of another server: which were asked, and how many were answered
+//! with its answers, and how many here. It asks and sends nothing by itself.
 #![tactic(auto)]
 
 mod answering;

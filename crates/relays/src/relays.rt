@@ -14,8 +14,8 @@ use memory_count::{Memory, NoMemory};
 use std::collections::VecDeque;
 use std::marker::Model;
 
-/// The jobs of a desk that were asked of another server, whose handles it keeps until their calls are
-/// over, and how many jobs were answered. It must be spent.
+/// The jobs of a desk that were asked of another server, whose handles it keeps until their calls
+/// are over, and how many jobs were answered. It must be spent.
 pub struct Relays {
     jobs: u32,
     asked: VecDeque<Deferred>,

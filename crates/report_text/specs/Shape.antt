@@ -5,7 +5,8 @@ use Rattle.rpc_base.specs.declared.event.Event.TheVariants.{Asked, Sent, Unsent,
 use Rattle.rpc_base.specs.declared.event.Event.TheVariants.{Overflowed, Bad, Ran, DoneOk}
 use Rattle.report_text.specs.declared.shape.Shape.{Shape}
 use Rattle.report_text.specs.declared.shape.Shape.TheVariants.{Word, One, Two, Three, Four, Five}
-use Rattle.report_text.specs.declared.shape.Shape.TheVariants.{Ending, State, Reason, Entry, Datagram}
+use Rattle.report_text.specs.declared.shape.Shape.TheVariants.{Ending, State, Reason, Entry}
+use Rattle.report_text.specs.declared.shape.Shape.TheVariants.{Datagram}
 use Rattle.report_text.specs.declared.shape.Tail.{Tail}
 use Rattle.report_text.specs.declared.shape.Tail.TheVariants.{Nothing, First, Both}
 use Rattle.report_text.specs.Names.{owner_text, state_text, reason_text, bytes_text}

@@ -1,5 +1,5 @@
--- While no datagram was repeated, no call rolled back and no node restarted, a packet that is on its
--- way is unanswered, and stands in one place only.
+-- While no datagram was repeated, no call rolled back and no node restarted, a packet that is on
+-- its way is unanswered, and stands in one place only.
 use Rattle.std.specs.Prelude.{ℕ, ◌≡◌, ◌≤◌, ◌<◌, ◌+◌, ◌-◌, ◌==◌, ◌&&◌, not, Bool}
 use Rattle.std.specs.Prelude.{false, Option, Some, None, List, length, count_by, slice_get, true}
 use Rattle.std.specs.Bool.{MatchBool}

@@ -34,8 +34,8 @@ pub fn joint_messages_fit()
     ensures { OfEveryJointRun (λ h t. MessagesFit h) }
 {}
 
-/// Where a joint run leaves its nodes and copies, each packet of a call stands in one place only, as
-/// in `packets_stand_once`, unless a datagram was repeated or a call rolled back.
+/// Where a joint run leaves its nodes and copies, each packet of a call stands in one place only,
+/// as in `packets_stand_once`, unless a datagram was repeated or a call rolled back.
 pub fn joint_packets_stand_once()
     ensures { OfEveryJointRun (LeavesAs (λ w. Calm w.past → IsTidy w)) }
 {}

@@ -1,5 +1,5 @@
-//! Laws of calm histories that follow a script, and of calm joint runs: no message finds a full ring,
-//! and no packet stands in two places. It runs nothing.
+//! Laws of calm histories that follow a script, and of calm joint runs: no message finds a full
+//! ring, and no packet stands in two places. It runs nothing.
 #![tactic(auto)]
 
 mod laws;

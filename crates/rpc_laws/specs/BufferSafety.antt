@@ -5,7 +5,8 @@ use Rattle.std.specs.Prelude.{length, slice_get}
 use Rattle.std.specs.List.{find, slice_set}
 use Rattle.rpc_base.specs.declared.limits.TheConstants.{HEAD_BYTES}
 use Rattle.packet_header.specs.declared.packet.ControlHeader.{ControlHeader}
-use Rattle.packet_header.specs.declared.packet.ControlKind.TheVariants.{DisconnectRequest, DisconnectReply}
+use Rattle.packet_header.specs.declared.packet.ControlKind.TheVariants.{DisconnectRequest}
+use Rattle.packet_header.specs.declared.packet.ControlKind.TheVariants.{DisconnectReply}
 use Rattle.packet_header.specs.declared.packet.Packet.TheVariants.{Control as ControlPacket}
 use Rattle.packet_header.specs.Header.{AreBytes, Spells}
 use Rattle.rpc_base.specs.declared.event.Event.{Event}
@@ -21,7 +22,8 @@ use Rattle.rpc_laws.specs.declared.tables.Lists.{Lists}
 use Rattle.rpc_laws.specs.declared.tables.Outgoing.{Outgoing}
 use Rattle.rpc_laws.specs.declared.tables.Server.{Server}
 use Rattle.rpc_laws.specs.ControlSteps.{own_request}
-use Rattle.rpc_laws.specs.ControlTable.{connect_reply, disconnect_as, is_end_of, named_end, reply_row}
+use Rattle.rpc_laws.specs.ControlTable.{connect_reply, disconnect_as, is_end_of, named_end}
+use Rattle.rpc_laws.specs.ControlTable.{reply_row}
 use Rattle.rpc_laws.specs.Groups.{has_no_room, servers_spent}
 use Rattle.rpc_laws.specs.Lives.{first_life}
 use Rattle.rpc_laws.specs.NodeLists.{after, new_lists, restarted_lists}
@@ -81,8 +83,8 @@ pub record IsOpened (s : Lists) (peer session : ℕ) (x : Client) : Type 0 where
   pub found : find (is_client session) s.clients ≡ Some x
   pub to_peer : x.way.peer ≡ peer
 
--- a node takes no session of so many credits for the client session that a peer has in this life: no
--- server session is its other end, and there is no room for one, or no number
+-- a node takes no session of so many credits for the client session that a peer has in this life:
+-- no server session is its other end, and there is no room for one, or no number
 pub record TakesNoSession (s : Lists) (peer client life credits : ℕ) : Type 0 where
   pub unknown : find (is_end_of peer client life) s.servers ≡ None
   pub full : (has_no_room credits s || servers_spent s) ≡ true

@@ -4,10 +4,12 @@ use Rattle.std.specs.Prelude.{ℕ, ◌≡◌, ◌-◌, ◌==◌, ◌||◌, not, 
 use Rattle.std.specs.Prelude.{None, List, [], ◌∷◌, ◌++◌, length, map, slice_get, if◌then◌else◌}
 use Rattle.packet_header.specs.Header.{AreBytes, Spells}
 use Rattle.packet_header.specs.declared.packet.ControlHeader.{ControlHeader}
-use Rattle.packet_header.specs.declared.packet.ControlKind.TheVariants.{ConnectRequest, DisconnectRequest}
+use Rattle.packet_header.specs.declared.packet.ControlKind.TheVariants.{ConnectRequest}
+use Rattle.packet_header.specs.declared.packet.ControlKind.TheVariants.{DisconnectRequest}
 use Rattle.packet_header.specs.declared.packet.Packet.TheVariants.{Control as ControlPacket}
 use Rattle.rpc_base.specs.declared.event.Event.{Event}
-use Rattle.rpc_base.specs.declared.event.Event.TheVariants.{Heard, Sent, Unsent, FailedNoAnswer, ClosedUnheard}
+use Rattle.rpc_base.specs.declared.event.Event.TheVariants.{Heard, Sent, Unsent, FailedNoAnswer}
+use Rattle.rpc_base.specs.declared.event.Event.TheVariants.{ClosedUnheard}
 use Rattle.rpc_base.specs.declared.fact.Fact.{Fact}
 use Rattle.rpc_base.specs.declared.owner.Owner.TheVariants.{Control}
 use Rattle.rpc_base.specs.declared.state.SessionState.{SessionState}

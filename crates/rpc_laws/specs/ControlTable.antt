@@ -1,5 +1,6 @@
 -- The control rule: what a control packet does at a node. The first row that holds decides.
-use Rattle.std.specs.Prelude.{ℕ, ◌==◌, nat_lt, ◌&&◌, ◌||◌, not, Bool, false, Option, Some, None, List, [], ◌∷◌}
+use Rattle.std.specs.Prelude.{ℕ, ◌==◌, nat_lt, ◌&&◌, ◌||◌, not, Bool, false, Option, Some, None}
+use Rattle.std.specs.Prelude.{List, [], ◌∷◌}
 use Rattle.std.specs.Prelude.{◌++◌, flat_map, if◌then◌else◌}
 use Rattle.std.specs.List.{find}
 use Rattle.packet_header.specs.declared.packet.ControlHeader.{ControlHeader}
@@ -13,7 +14,8 @@ use Rattle.rpc_base.specs.declared.event.Event.TheVariants.{Connected as IsConne
 use Rattle.rpc_base.specs.declared.event.Event.TheVariants.{ClosedHeard, Ended}
 use Rattle.rpc_base.specs.declared.fact.Fact.{Fact}
 use Rattle.rpc_base.specs.declared.state.SessionState.{SessionState}
-use Rattle.rpc_base.specs.declared.state.SessionState.TheVariants.{Connecting, Connected, Spent, Closing}
+use Rattle.rpc_base.specs.declared.state.SessionState.TheVariants.{Connecting, Connected, Spent}
+use Rattle.rpc_base.specs.declared.state.SessionState.TheVariants.{Closing}
 use Rattle.rpc_laws.specs.declared.rows.ControlRow.{ControlRow}
 use Rattle.rpc_laws.specs.declared.rows.ControlRow.TheVariants.{Ignores, Confirms, Declines}
 use Rattle.rpc_laws.specs.declared.rows.ControlRow.TheVariants.{Starves, Accepts, Ends, Misses}
@@ -156,7 +158,8 @@ session_end me queued (Some v) = session_flushes me queued v ++ plain me (Ended 
 abbrev pub control_facts : Lists → ℕ → ControlHeader → ControlRow → List Fact
 control_facts s peer h Declines = plain s.me (Declined peer h.client h.credits) ∷ []
 control_facts s peer h Starves = plain s.me (Starved peer h.client h.credits) ∷ []
-control_facts s peer h (Accepts t) = plain s.me (Accepted t peer h.client h.credits h.from_life) ∷ []
+control_facts s peer h (Accepts t) =
+    plain s.me (Accepted t peer h.client h.credits h.from_life) ∷ []
 control_facts s peer h Ends =
     session_end s.me s.queued (named_end peer h.client h.from_life h.server s.servers)
 control_facts s peer h (Connects t) = plain s.me (IsConnected h.client t h.from_life) ∷ []

@@ -1,12 +1,13 @@
--- Lives: an endpoint has a number from its making to its end, and knows lives of its peers. A node's
--- own life stands in its lists.
+-- Lives: an endpoint has a number from its making to its end, and knows lives of its peers. A
+-- node's own life stands in its lists.
 use Rattle.std.specs.Prelude.{ℕ, max, Option, Some, None, List, replicate, slice_index, slice_set}
 use Rattle.packet_header.specs.declared.life.TheConstants.{FIRST_LIFE}
 use Rattle.packet_header.specs.declared.packet.ControlHeader.{ControlHeader}
 use Rattle.packet_header.specs.declared.packet.ControlKind.{ControlKind}
 use Rattle.packet_header.specs.declared.packet.ControlKind.TheVariants.{ConnectReply}
 use Rattle.rpc_base.specs.declared.event.Event.{Event}
-use Rattle.rpc_base.specs.declared.event.Event.TheVariants.{PairedClient, PairedServer, Sent, Unsent}
+use Rattle.rpc_base.specs.declared.event.Event.TheVariants.{PairedClient, PairedServer, Sent}
+use Rattle.rpc_base.specs.declared.event.Event.TheVariants.{Unsent}
 use Rattle.rpc_base.specs.declared.limits.TheConstants.{PEERS}
 use Rattle.rpc_base.specs.declared.owner.Owner.TheVariants.{Control}
 use Rattle.rpc_laws.specs.Front.{control_of}

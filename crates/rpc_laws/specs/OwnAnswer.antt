@@ -45,8 +45,8 @@ pub record IsCallOf (past : List Lived) (n : Endpoint) (c : ℕ) (m : Endpoint)
   pub asked : Contains past (noted_with n (Asked c session req_type room) ask)
   pub begun : Contains past (noted n (Begun c r))
 
--- the handler ran for call c of endpoint n, which had been asked and begun before that, and answered
--- with these bytes; the facts stand with the newest first
+-- the handler ran for call c of endpoint n, which had been asked and begun before that, and
+-- answered with these bytes; the facts stand with the newest first
 pub record IsAnswerTo (past : List Lived) (n : Endpoint) (c room : ℕ) (answer : List ℕ)
     : Type 0 where
   pub node : Endpoint

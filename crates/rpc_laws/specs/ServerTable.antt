@@ -8,7 +8,8 @@ use Rattle.std.specs.List.{find}
 pub use Rattle.packet_header.specs.Kinds.{is_last, is_rfr}
 use Rattle.packet_header.specs.Parts.{packet_count}
 use Rattle.packet_header.specs.declared.packet.MessageHeader.{MessageHeader}
-use Rattle.rpc_base.specs.declared.event.Event.TheVariants.{Posted, Took, Again, Dropped, Given, Ran}
+use Rattle.rpc_base.specs.declared.event.Event.TheVariants.{Posted, Took, Again, Dropped, Given}
+use Rattle.rpc_base.specs.declared.event.Event.TheVariants.{Ran}
 use Rattle.rpc_base.specs.declared.fact.Fact.{Fact}
 use Rattle.rpc_base.specs.declared.owner.Owner.TheVariants.{Reply}
 use Rattle.rpc_base.specs.declared.state.DropReason.TheVariants.{NoSession, WrongPeer, Old}

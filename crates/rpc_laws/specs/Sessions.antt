@@ -1,6 +1,7 @@
 -- Client sessions with their calls, as the facts of a node leave them. The calls of a session stand
 -- in the order of their numbers: those that are active, and then those that wait.
-use Rattle.std.specs.Prelude.{ℕ, ◌+◌, ◌-◌, ◌%◌, ◌==◌, ◌&&◌, Bool, true, false, Option, Some, None, List}
+use Rattle.std.specs.Prelude.{ℕ, ◌+◌, ◌-◌, ◌%◌, ◌==◌, ◌&&◌, Bool, true, false, Option, Some, None}
+use Rattle.std.specs.Prelude.{List}
 use Rattle.std.specs.Prelude.{[], ◌∷◌, ◌++◌, slice_index, slice_set, if◌then◌else◌}
 use Rattle.std.specs.List.{list_any}
 use Rattle.rpc_base.specs.declared.event.Event.{Event}
@@ -18,7 +19,8 @@ use Rattle.rpc_base.specs.declared.state.SessionState.TheVariants.{Closed, Faile
 use Rattle.rpc_base.specs.declared.state.SessionState.TheVariants.{Broken as IsBroken}
 use Rattle.packet_header.specs.declared.packet.ControlHeader.{ControlHeader}
 use Rattle.packet_header.specs.declared.packet.ControlKind.{ControlKind}
-use Rattle.packet_header.specs.declared.packet.ControlKind.TheVariants.{ConnectRequest, DisconnectRequest}
+use Rattle.packet_header.specs.declared.packet.ControlKind.TheVariants.{ConnectRequest}
+use Rattle.packet_header.specs.declared.packet.ControlKind.TheVariants.{DisconnectRequest}
 use Rattle.packet_header.specs.declared.packet.MessageHeader.{MessageHeader}
 use Rattle.rpc_laws.specs.declared.tables.Asking.{Asking}
 use Rattle.rpc_laws.specs.declared.tables.Client.{Client}

@@ -16,8 +16,8 @@ pub record Output : Type 0 where
   pub log : CallLog
 
 -- the datagrams that were sent, given out and not given out, the address that was bound last, where
--- it is told, the room for all that are sent, the calls, and the sends among them: the named ones of
--- these are busy
+-- it is told, the room for all that are sent, the calls, and the sends among them: the named ones
+-- of these are busy
 pub record Linked : Type 0 where
   pub sent : List Carried
   pub received : List Carried

@@ -3,8 +3,8 @@ use Rattle.std.specs.Prelude.{◌≡◌, ℕ, List, ◌++◌, Option, Result, Ma
 use Rattle.std.specs.Io.KnownBytes.{Appends}
 use Rattle.memory_count.specs.Faults.{HasRisen}
 
--- what contracts see of a sink: the bytes that were written, where the sink tells them, and how many
--- calls failed so far
+-- what contracts see of a sink: the bytes that were written, where the sink tells them, and how
+-- many calls failed so far
 pub record Written : Type 0 where
   pub written : Option (List ℕ)
   pub faults : ℕ

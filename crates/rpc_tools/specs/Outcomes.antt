@@ -31,11 +31,11 @@ pub record Untouched (old new : Written) : Type 0 where
   pub quiet : new.faults ≡ old.faults
 
 -- the report of the history of the script was written: no other history follows the script, and the
--- report shows each fact with all its bytes, so the text names that one history. It is lawful; before
--- a datagram is repeated and a call is rolled back each packet of a session stands in one place at
--- most, and only while it is unanswered; and at the end each node's tables of calls and of requests
--- say what its facts tell. Where nothing moves at the end of a command, each call that isn't over has
--- a cause
+-- report shows each fact with all its bytes, so the text names that one history. It is lawful;
+-- before a datagram is repeated and a call is rolled back each packet of a session stands in one
+-- place at most, and only while it is unanswered; and at the end each node's tables of calls and of
+-- requests say what its facts tell. Where nothing moves at the end of a command, each call that
+-- isn't over has a cause
 pub record Reports (script : List Line) (page then_page : Written) : Type 0 where
   pub history : List Fact
   pub follows : Follows script history
@@ -123,8 +123,8 @@ pub record FailsToRead (input then_input : Unread) (page then_page : Written) : 
   pub fault : HasRisen input.faults then_input.faults
   pub sink : Untouched page then_page
 
--- what a simulation may end with, by what its source has left and its sink has written. Where memory
--- is wanting the source hadn't failed, and nothing was written
+-- what a simulation may end with, by what its source has left and its sink has written. Where
+-- memory is wanting the source hadn't failed, and nothing was written
 abbrev pub Simulates : Status → (input then_input : Unread) → (page then_page : Written) → Type 0
 Simulates Done input then_input page then_page = Completes input then_input page then_page
 Simulates (BadScript bad) input then_input page then_page =

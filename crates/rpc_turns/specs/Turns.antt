@@ -54,8 +54,8 @@ pub record TakesTurn {V W L C R K : Type 0} (service : Service.Ghosts V)
   pub counts : CountsTurn told new.run.endpoint.timed.lists old.run.rest new.run.rest
 
 -- what the facts of a turn tell besides: the calls that the continuation was given are those whose
--- ends were noted, in order; no call was asked; and the link, where it tells what it sent, sent just
--- the datagrams that were noted as sent
+-- ends were noted, in order; no call was asked; and the link, where it tells what it sent, sent
+-- just the datagrams that were noted as sent
 pub record TellsMore {K : Type 0} (given : K → List Done → Type 0)
     (sent then_sent : Option (List Carried)) (noted : List Fact) (from to : K) : Type 0 where
   pub dones : List Done
@@ -88,9 +88,9 @@ pub record RunsOn {V W L C R : Type 0} (service : Service.Ghosts V) (workers : W
   pub count : length times ≡ n
   pub ticks : GivesAll o.gave old.edges.clock new.edges.clock times
 
--- what a run did in so many turns since it was around these edges, whose endpoint is the one that is
--- left: the facts are a run of node 0 in this life with these limits, the link, where it tells that,
--- sent just what they say was sent, and the clock gave a number for each turn
+-- what a run did in so many turns since it was around these edges, whose endpoint is the one that
+-- is left: the facts are a run of node 0 in this life with these limits, the link, where it tells
+-- that, sent just what they say was sent, and the clock gave a number for each turn
 pub record HasTurned {V W L C R : Type 0} (service : Service.Ghosts V) (workers : Workers.Ghosts W)
     (o : Outside L C R) (life : ℕ) (limits : Limits) (old : Edges L C R)
     (new : Moment (Running V W) L C R) (made : ℕ) : Type 0 where

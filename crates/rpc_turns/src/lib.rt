@@ -1,6 +1,6 @@
-//! Turns of an endpoint by a clock: each waits by the link where the run is asleep, takes one number
-//! of the clock, and makes one turn of the endpoint. `Running` owns an endpoint with all that it
-//! needs for them.
+//! Turns of an endpoint by a clock: each waits by the link where the run is asleep, takes one
+//! number of the clock, and makes one turn of the endpoint. `Running` owns an endpoint with all
+//! that it needs for them.
 #![tactic(auto)]
 
 mod buffers;

@@ -48,9 +48,9 @@ fn plain_duty(memory: &mut Memory) -> Result<Arc<PlainDuty, Global>, NoMemory>
 }
 
 /// The endpoint of node 0 in this life with a ring of 1,024 places, 64 jobs and this timeout, of 1
-/// to 60,000,000 microseconds, which noted nothing so far, over a crew of `hands` hands, at most 16,
-/// each of which is offered to the spawner, which has no hand out. `NoMemory` comes only where there
-/// is none for the crew or the endpoint; no hand is out then.
+/// to 60,000,000 microseconds, which noted nothing so far, over a crew of `hands` hands, at most
+/// 16, each of which is offered to the spawner, which has no hand out. `NoMemory` comes only where
+/// there is none for the crew or the endpoint; no hand is out then.
 pub fn plain_endpoint<H: Wait + Drop, P: Spawner<Hand<PlainDuty>>>(
     memory: &mut Memory,
     rt: H,

@@ -111,7 +111,8 @@ impl<V: Service, W: Workers, L: Link, C: Clock, R: Recorder> Running<V, W, L, C,
         }
     }
 
-    /// Takes this address for the link's own. `Failed` comes exactly where a fault of the link came.
+    /// Takes this address for the link's own. `Failed` comes exactly where a fault of the link
+    /// came.
     pub fn bind(&mut self, addr: &str) -> Result<(), Failed>
         ensures endpoint { self.new.endpoint ≡ self.old.endpoint }
         ensures rec { self.new.edges.rec ≡ self.old.edges.rec }
@@ -262,9 +263,9 @@ pub type PlainRunning<H, L, C> = Running<PlainService, PlainCrew<H>, L, C, NoRec
 
 impl<H: Wait + Drop, L: Link + Drop, C: Clock + Drop> PlainRunning<H, L, C> {
     /// A run of a new endpoint in its first life with the plain service and usual limits, over this
-    /// link and by this clock. Its crew has no hands, and works by itself; its calls wait by the handle `rt`. It
-    /// sleeps where nothing comes, and keeps no facts. `NoMemory` comes only where there is none
-    /// for the endpoint.
+    /// link and by this clock. Its crew has no hands, and works by itself; its calls wait by the
+    /// handle `rt`. It sleeps where nothing comes, and keeps no facts. `NoMemory` comes only where
+    /// there is none for the endpoint.
     pub fn plain(
         memory: &mut Memory,
         rt: H,

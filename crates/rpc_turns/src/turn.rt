@@ -15,8 +15,8 @@ use rpc_outside::{Clock, Link, Recorder, Service};
 use worker_crew::Workers;
 
 /// Waits by the link where the run is asleep, takes one number of the clock, and makes one turn of
-/// the endpoint then. `LinkFault` comes exactly where a fault of the link came. The workers have the
-/// hands that they had.
+/// the endpoint then. `LinkFault` comes exactly where a fault of the link came. The workers have
+/// the hands that they had.
 pub fn take_turn<V, W, L, C, K, R>(
     memory: &mut Memory,
     endpoint: &mut Endpoint<V, W>,

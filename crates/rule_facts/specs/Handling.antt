@@ -46,7 +46,8 @@ pub record FrontsAt (X : Untold → List Fact) (facts : List Fact) (n : ℕ) : T
 
 -- the answer is how many of the facts are those of a rule in some case; it is None where they begin
 -- with those of none
-pub record SomeFronts (X : Untold → List Fact) (facts : List Fact) (answer : Option ℕ) : Type 0 where
+pub record SomeFronts (X : Untold → List Fact) (facts : List Fact)
+    (answer : Option ℕ) : Type 0 where
   pub some : IfSome answer (FrontsAt X facts)
   pub only : IsNone answer → (case : Untold) → Starts (X case) facts → ⊥
 

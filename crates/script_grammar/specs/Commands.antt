@@ -1,7 +1,8 @@
 -- The commands: the words and ranges of each. All words of a line are taken before any number is
 -- read, so that Shape comes before Number, and numbers before the bytes of a call, so that Number
 -- comes before Hex.
-use Rattle.std.specs.Prelude.{ℕ, List, [], ◌∷◌, codes, Option, Some, None, Result, Ok, Err, ok_or, if◌then◌else◌}
+use Rattle.std.specs.Prelude.{ℕ, List, [], ◌∷◌, codes, Option, Some, None, Result, Ok, Err, ok_or}
+use Rattle.std.specs.Prelude.{if◌then◌else◌}
 use Rattle.script_grammar.specs.declared.bad.BadWhy.{BadWhy}
 use Rattle.script_grammar.specs.declared.bad.BadWhy.TheVariants.{Word}
 use Rattle.script_grammar.specs.declared.command.TheConstants.{LAST_SESSION, LAST_TYPE}

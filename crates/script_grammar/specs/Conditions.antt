@@ -11,7 +11,8 @@ use Rattle.script_grammar.specs.declared.line.AskBytes.TheVariants.{Given, Count
 use Rattle.script_grammar.specs.declared.line.Command.{Command}
 use Rattle.script_grammar.specs.declared.line.Command.TheVariants.{Node, Pair, Connect, Disconnect}
 use Rattle.script_grammar.specs.declared.line.Command.TheVariants.{Rate, Call, Poll, Arrive, Lose}
-use Rattle.script_grammar.specs.declared.line.Command.TheVariants.{Repeat, Tick, Work, Settle, Restart}
+use Rattle.script_grammar.specs.declared.line.Command.TheVariants.{Repeat, Tick, Work, Settle}
+use Rattle.script_grammar.specs.declared.line.Command.TheVariants.{Restart}
 use Rattle.script_grammar.specs.declared.line.Line.{Line}
 
 -- a call sends at most 2,097,152 bytes

@@ -1,7 +1,8 @@
 //! The bytes that a call sends.
 ghost use Rattle.std.specs.Prelude.{◌≡◌, ◌*◌, ◌<◌, ◌≤◌, length, Some, IfSome, IfOk, IfErr, ok_or};
 ghost use Rattle.memory_count.specs.Faults.{HasRisenBy};
-ghost use Rattle.script_grammar.specs.Ask.{hex_digit, hex_byte, hex_bytes, count_in, given_in, ask_in};
+ghost use Rattle.script_grammar.specs.Ask.{hex_digit, hex_byte, hex_bytes, count_in, given_in};
+ghost use Rattle.script_grammar.specs.Ask.{ask_in};
 ghost use Rattle.script_grammar.specs.Conditions.{IsAskInRange};
 ghost use Rattle.script_grammar.specs.Told.{IsRefusal, IsTold, lacks};
 

@@ -1,6 +1,7 @@
 //! What stands before a line, as far as it decides what the line may say.
 ghost use Rattle.std.specs.Prelude.{◌≡◌};
-ghost use Rattle.script_grammar.specs.Rules.{names_one, names_two, misnamed, node_admitted, other_admitted, admitted};
+ghost use Rattle.script_grammar.specs.Rules.{names_one, names_two, misnamed, node_admitted};
+ghost use Rattle.script_grammar.specs.Rules.{other_admitted, admitted};
 
 use crate::bad::BadWhy;
 use crate::line::Command;

@@ -1,5 +1,6 @@
 //! The reader of scripts, line by line.
-ghost use Rattle.std.specs.Prelude.{◌≡◌, ◌+◌, ◌≤◌, ℕ, List, [], ◌∷◌, All, Ok, Err, IfOk, IfErr, OnOk, false};
+ghost use Rattle.std.specs.Prelude.{◌≡◌, ◌+◌, ◌≤◌, ℕ, List, [], ◌∷◌, All, Ok, Err, IfOk, IfErr};
+ghost use Rattle.std.specs.Prelude.{OnOk, false};
 ghost use Rattle.memory_count.specs.Faults.{HasRisenBy};
 ghost use Rattle.script_grammar.specs.Conditions.{IsInRange};
 ghost use Rattle.script_grammar.specs.Lines.{lines_of};

@@ -1,5 +1,6 @@
 //! Lines and words of a text, by position of their ends.
-ghost use Rattle.std.specs.Prelude.{◌≡◌, ◌<◌, ◌==◌, [], ◌∷◌, length, Ok, Err, IfOk, IfErr, IfSome, IfNone};
+ghost use Rattle.std.specs.Prelude.{◌≡◌, ◌<◌, ◌==◌, [], ◌∷◌, length, Ok, Err, IfOk, IfErr, IfSome};
+ghost use Rattle.std.specs.Prelude.{IfNone};
 ghost use Rattle.std.specs.List.{position};
 ghost use Rattle.script_grammar.specs.Lines.{lines_of};
 ghost use Rattle.script_grammar.specs.Rest.{words_left};

@@ -120,7 +120,8 @@ fn show(
     drawn: &mut Listed<Drawn>,
 ) -> Result<(), NoMemory>
     requires { place < length facts.now }
-    ensures drawn { OnOk result (drawn.new ≡ drawn.old ++ things_at facts.now place fact.now tracks.now) }
+    ensures drawn { OnOk result
+        (drawn.new ≡ drawn.old ++ things_at facts.now place fact.now tracks.now) }
     ensures cause { HasCause memory.old memory.new result }
 {
     match fact.who {

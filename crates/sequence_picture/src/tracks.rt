@@ -36,7 +36,8 @@ fn repeat(
     copy: u32,
     tracks: &mut Listed<Track>,
 ) -> Result<(), NoMemory>
-    ensures tracks { OnOk result (tracks.new ≡ tracks_after_net place (Event.Repeated copy) tracks.old) }
+    ensures tracks { OnOk result
+        (tracks.new ≡ tracks_after_net place (Event.Repeated copy) tracks.old) }
     ensures cause { HasCause memory.old memory.new result }
 {
     let copy = copy as usize;

@@ -159,8 +159,8 @@ StopsEarly o words old new =
     ⊎ ((made : ℕ) × (run : ServesSoFar) × (made ≤ words.turns)
     × HasServedSome o words made old (record { run = run; edges = new }))
 
--- how `serve` ends: the line was written, or a front of it where the sink failed; or the link failed,
--- or there was no memory to start, and nothing was written
+-- how `serve` ends: the line was written, or a front of it where the sink failed; or the link
+-- failed, or there was no memory to start, and nothing was written
 abbrev pub Serves : {L C R : Type 0} → Status → Outside L C R → ServeWords
     → (old new : Edges L C R) → (page then_page : Written) → Type 0
 Serves status.Done o words old new page then_page =

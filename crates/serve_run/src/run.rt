@@ -88,11 +88,10 @@ fn listen<L: Link>(spec: &ServeSpec, link: &mut L) -> Result<(), Failed>
 }
 
 impl<H: Wait + Drop> ServeRun<H> {
-    /// Binds the link to the address, for an endpoint of node 0 in the life of the words, with usual
-    /// limits but for its timeout, and starts its crew: each of its hands, at most 16, is offered to
-    /// the spawner, which has no hand out.
-    /// `LinkFault` comes exactly where a fault of the link came, and `NoMemory` only where memory
-    /// was refused; no hand is out then.
+    /// Binds the link to the address, for an endpoint of node 0 in the life of the words, with
+    /// usual limits but for its timeout, and starts its crew: each of its hands, at most 16, is
+    /// offered to the spawner, which has no hand out. `LinkFault` comes exactly where a fault of
+    /// the link came, and `NoMemory` only where memory was refused; no hand is out then.
     pub fn start<L: Link, P: Spawner<Hand<PlainDuty>>>(
         memory: &mut Memory,
         rt: H,
@@ -128,9 +127,9 @@ impl<H: Wait + Drop> ServeRun<H> {
     }
 
     /// Makes a turn: waits by the link where the run is asleep, takes one number of the clock, and
-    /// makes one turn of the endpoint then. It is over with `LinkFault` exactly where a fault of the
-    /// link came, and otherwise with `Done` exactly where this was the last turn. A turn is made
-    /// only while some are left. The crew has the hands that it had.
+    /// makes one turn of the endpoint then. It is over with `LinkFault` exactly where a fault of
+    /// the link came, and otherwise with `Done` exactly where this was the last turn. A turn is
+    /// made only while some are left. The crew has the hands that it had.
     pub fn turn<L: Link, C: Clock, R: Recorder>(
         &mut self,
         memory: &mut Memory,

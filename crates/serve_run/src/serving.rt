@@ -40,8 +40,8 @@ fn turn_all<H: Wait + Drop, L: Link, C: Clock, R: Recorder>(
 /// Serves at the address of the words for as many turns as they say, with a crew of as many hands,
 /// which work its background calls whether or not the words name a server in `relay`, and writes a
 /// line that counts what happened. `LinkFault` comes exactly where a fault of the link came,
-/// `WriteFault` exactly where one of the sink did, and `NoMemory` only where memory was refused. The
-/// spawner has no hand out before and after; it may wait for the hands.
+/// `WriteFault` exactly where one of the sink did, and `NoMemory` only where memory was refused.
+/// The spawner has no hand out before and after; it may wait for the hands.
 pub fn serve<H, K, L, C, P, R>(
     memory: &mut Memory,
     rt: H,

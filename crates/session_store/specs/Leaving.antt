@@ -1,5 +1,6 @@
 -- What a call changes of a store, and that it leaves all else as it was.
-use Rattle.std.specs.Prelude.{ℕ, ◌≡◌, ◌++◌, ◌∷◌, [], List, IfSome, None, OnErr, OnOk, Option, Result}
+use Rattle.std.specs.Prelude.{ℕ, ◌≡◌, ◌++◌, ◌∷◌, [], List, IfSome, None, OnErr, OnOk, Option}
+use Rattle.std.specs.Prelude.{Result}
 use Rattle.std.specs.Prelude.{slice_get}
 use Rattle.packet_rings.specs.Values.{EntryValue}
 use Rattle.rpc_base.specs.Tables.{without_first}

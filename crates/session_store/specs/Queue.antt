@@ -1,5 +1,6 @@
 -- The queue of a store, as it is seen: its front, and what is sent and flushed of it.
-use Rattle.std.specs.Prelude.{ℕ, ◌≡◌, Bool, true, Option, Some, None, IfSome, List, option_map, slice_get}
+use Rattle.std.specs.Prelude.{ℕ, ◌≡◌, Bool, true, Option, Some, None, IfSome, List, option_map}
+use Rattle.std.specs.Prelude.{slice_get}
 use Rattle.std.specs.List.{find}
 use Rattle.rpc_base.specs.Owners.{same_owner}
 use Rattle.rpc_base.specs.Tables.{at_first}

@@ -1,5 +1,5 @@
--- Sessions that share a pool and a transmit ring: what they show, and what always holds of them. The
--- ring has here all that is queued, also what is paced.
+-- Sessions that share a pool and a transmit ring: what they show, and what always holds of them.
+-- The ring has here all that is queued, also what is paced.
 use Rattle.std.specs.Prelude.{◌≡◌, ℕ, ◌+◌, ◌*◌, ◌<◌, ◌≤◌, ◌==◌, ◌&&◌, nat_lt, Bool, true, false}
 use Rattle.std.specs.Prelude.{Option}
 use Rattle.std.specs.Prelude.{Some, None, List, [], ◌∷◌, count_by, length, map, sum_by, slice_get}

@@ -10,13 +10,15 @@ use Rattle.shared_pool.specs.declared.view.View.{View}
 
 pub record KeepsPromises (capacity : ℕ) (s : State Slot View) : Type 0 where
   -- no two seats hold a loan of one place
-  pub one_holder : (p i j : ℕ) (v w : View) → get_elem? s.views i ≡ some v → get_elem? s.views j ≡ some w
+  pub one_holder : (p i j : ℕ) (v w : View) → get_elem? s.views i ≡ some v
+      → get_elem? s.views j ≡ some w
       → 0 < holds p v → 0 < holds p w → i ≡ j
   -- and no seat holds two
   pub one_loan : (p i : ℕ) (v : View) → get_elem? s.views i ≡ some v → holds p v ≤ 1
   -- each generation of a place was lent at most once, and given back at most once, after its loan
   pub lent_once : (p g : ℕ) → p < length s.homes → total (got p g) s.views ≤ 1
-  pub back_once : (p g : ℕ) → p < length s.homes → total (gave p g) s.views ≤ total (got p g) s.views
+  pub back_once : (p g : ℕ) → p < length s.homes → total (gave p g) s.views
+      ≤ total (got p g) s.views
   -- a buffer at home stands in the slot of its place
   pub at_home : (p : ℕ) → p < length s.homes → slice_index s.words p % 2 ≡ 0
       → HasBuffer capacity (get_elem? s.homes p)

@@ -4,7 +4,8 @@ use Rattle.std.specs.Prelude.{None, List, [], ◌∷◌, ◌++◌, length, map, 
 use Rattle.std.specs.Bool.{MatchBool}
 use Rattle.std.specs.List.{filter, list_all, list_any, remove, range_with_len, slice_set}
 use Rattle.rpc_base.specs.declared.event.Event.{Event}
-use Rattle.rpc_base.specs.declared.event.Event.TheVariants.{Made, PairedClient, PairedServer, Restarted}
+use Rattle.rpc_base.specs.declared.event.Event.TheVariants.{Made, PairedClient, PairedServer}
+use Rattle.rpc_base.specs.declared.event.Event.TheVariants.{Restarted}
 use Rattle.rpc_base.specs.declared.event.Event.TheVariants.{Dropped, Starved, Unsent, Missed}
 use Rattle.rpc_base.specs.declared.event.Event.TheVariants.{Carried, Lost, Polled, Repeated, Ticked}
 use Rattle.rpc_base.specs.declared.fact.Fact.{Fact}
@@ -52,8 +53,8 @@ pub record AtNode (P : Rel) (n : ℕ) (s : Stage) (x : List Fact) (t : Stage) : 
     clock = s.clock;
   }
 
--- node R: the next node is made in its first life, with a ring of R places, 64 jobs and a timeout of
--- 5,000
+-- node R: the next node is made in its first life, with a ring of R places, 64 jobs and a timeout
+-- of 5,000
 pub record Makes (ring : ℕ) (s : Stage) (x : List Fact) (t : Stage) : Type 0 where
   pub facts : x ≡ plain (length s.nodes) (Made ring) ∷ []
   pub left : t ≡ record s {

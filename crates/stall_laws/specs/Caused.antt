@@ -111,7 +111,8 @@ CauseBy h n x c None = active_calls x ≡ 8
 -- so it is for each call of each session of a node
 abbrev pub CausedAt : List Fact → ℕ → Lists → Type 0
 CausedAt h n l =
-    AllByRecursion (λ x. AllByRecursion (λ c. CauseBy h (here n l) x c.what.number c.progress) x.calls)
+    AllByRecursion
+    (λ x. AllByRecursion (λ c. CauseBy h (here n l) x c.what.number c.progress) x.calls)
     l.clients
 
 abbrev pub Caused : List Fact → Type 0

@@ -180,9 +180,9 @@ impl Histogram {
     }
 
     /// The bucket in which a share of the times ends, in hundred thousandths: so many of them are
-    /// at or below its greatest time, and fewer below its least one. The last time of that share, in
-    /// order of size, is one of its, and no more than a 128th off from any other of it. `None` comes
-    /// exactly where no time was counted.
+    /// at or below its greatest time, and fewer below its least one. The last time of that share,
+    /// in order of size, is one of its, and no more than a 128th off from any other of it. `None`
+    /// comes exactly where no time was counted.
     pub fn percentile(&self, share: u32) -> Option<Span>
         requires { share ≤ SHARES }
         ensures none { (result ≡ None) ↔ (self.now.count ≡ 0) }

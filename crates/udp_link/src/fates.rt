@@ -8,8 +8,8 @@ const TOO_LONG: i32 = 90;
 /// The system's number for want of room for a datagram (ENOBUFS).
 const NO_ROOM: i32 = 105;
 
-/// Whether an error is the fate of a datagram that was sent before: nobody listened there, or no way
-/// led there.
+/// Whether an error is the fate of a datagram that was sent before: nobody listened there, or no
+/// way led there.
 pub fn is_lost(kind: ErrorKind) -> bool {
     matches!(
         kind,

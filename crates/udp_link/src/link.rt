@@ -44,12 +44,12 @@ impl Open {
 }
 
 /// A link over a UDP socket, which is bound once and never waits but where it is told to. Addresses
-/// are numeric, of IPv4 or IPv6, with a port. Peers have numbers, up to 256 of them at a time; those
-/// that an application named keep theirs, and others until they are forgotten. A number that was
-/// forgotten goes to no peer that asks to connect in a lower life than an earlier one of it did.
-/// Packets to a peer that opens frames go several in a datagram. What there is of one is handed over
-/// where the next packet goes elsewhere or doesn't fit, where the link receives or waits, and at
-/// `flush`.
+/// are numeric, of IPv4 or IPv6, with a port. Peers have numbers, up to 256 of them at a time;
+/// those that an application named keep theirs, and others until they are forgotten. A number that
+/// was forgotten goes to no peer that asks to connect in a lower life than an earlier one of it
+/// did. Packets to a peer that opens frames go several in a datagram. What there is of one is
+/// handed over where the next packet goes elsewhere or doesn't fit, where the link receives or
+/// waits, and at `flush`.
 pub struct UdpLink<'a, N: Net> {
     net: &'a N,
     memory: Memory,

@@ -18,7 +18,8 @@ enum Standing {
     Free,
     /// Each packet to the peer goes alone.
     Alone,
-    /// A frame came from the peer, so it opens them: of so many bytes, the most that are sent to it.
+    /// A frame came from the peer, so it opens them: of so many bytes, the most that are sent to
+    /// it.
     Came(u32),
     /// It was named as one that opens frames of at most so many bytes.
     Named(u32),
@@ -31,8 +32,8 @@ struct Place {
     standing: Standing,
     /// Whether an application named it: then it keeps its number.
     is_kept: bool,
-    /// The greatest life in which a peer of this number asked to connect, 0 before. An endpoint knows
-    /// peers by their numbers, and answers none that asks in a lower life.
+    /// The greatest life in which a peer of this number asked to connect, 0 before. An endpoint
+    /// knows peers by their numbers, and answers none that asks in a lower life.
     told: u32,
 }
 
@@ -160,9 +161,9 @@ impl Peers {
         Some(peer)
     }
 
-    /// A number for the peer of this address, which has none and sends in this life: the one that it
-    /// had, where no other peer has it since; else one whose peers asked to connect in no greater
-    /// life. None comes where there is no such number, or no memory for one more.
+    /// A number for the peer of this address, which has none and sends in this life: the one that
+    /// it had, where no other peer has it since; else one whose peers asked to connect in no
+    /// greater life. None comes where there is no such number, or no memory for one more.
     pub fn add(&mut self, memory: &mut Memory, address: &Address, life: Life) -> Option<Peer> {
         let number = match self.find(address) {
             Ok(at) => *self.sorted.get(at)?,
@@ -187,8 +188,8 @@ impl Peers {
         Some(number)
     }
 
-    /// The number of the peer of this address, which keeps it. None comes where it has none, and 256
-    /// others have one or there is no memory for one more.
+    /// The number of the peer of this address, which keeps it. None comes where it has none, and
+    /// 256 others have one or there is no memory for one more.
     pub fn named(&mut self, memory: &mut Memory, address: &Address) -> Option<Peer> {
         let known = self.known(address);
         let peer = match known {

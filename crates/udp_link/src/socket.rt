@@ -26,8 +26,8 @@ pub fn send(fd: i32, datagram: &[u8], to: &Address) -> io::Result<()> {
     if sent < 0 { Err(last_error()) } else { Ok(()) }
 }
 
-/// Receives one datagram, to the front of the room, and the address that it came from; the result is
-/// its length. What doesn't fit is lost.
+/// Receives one datagram, to the front of the room, and the address that it came from; the result
+/// is its length. What doesn't fit is lost.
 pub fn receive(fd: i32, room: &mut [u8], from: &mut Address) -> io::Result<usize>
     ensures { IfOk result (λ len. len ≤ length room.new) }
 {

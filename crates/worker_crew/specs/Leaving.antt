@@ -17,8 +17,8 @@ pub record LeftState : Type 0 where
 abbrev pub jobs_of : List Finished → List Job
 jobs_of fs = map (λ (f : Finished). job_of f.parcel) fs
 
--- the job of an offer that was collected comes back with its answer, and that of one whose take-back
--- was won comes back as it was offered
+-- the job of an offer that was collected comes back with its answer, and that of one whose
+-- take-back was won comes back as it was offered
 abbrev pub ComesBack : (ℕ → List ℕ → List ℕ) → Offer → Finished → Type 0
 ComesBack answer o f =
     ((f.worked ≡ true) × (o.end ≡ Collected) × (job_of f.parcel ≡ job_of o.parcel)

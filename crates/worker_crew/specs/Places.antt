@@ -1,5 +1,6 @@
 -- The places of a crew's board: those with a job, in the order of giving, and those that are free.
-use Rattle.std.specs.Prelude.{◌≡◌, ℕ, ◌+◌, ◌<◌, ◌≤◌, Bool, true, false, List, [], ◌∷◌, ◌++◌, length, map}
+use Rattle.std.specs.Prelude.{◌≡◌, ℕ, ◌+◌, ◌<◌, ◌≤◌, Bool, true, false, List, [], ◌∷◌, ◌++◌, length}
+use Rattle.std.specs.Prelude.{map}
 use Rattle.std.specs.Prelude.{take, drop}
 use Rattle.rpc_base.specs.Totals.{total}
 use Rattle.worker_board.specs.declared.view.Offer.{Offer}

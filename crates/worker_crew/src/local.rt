@@ -1,11 +1,13 @@
 //! Workers on the caller's own thread.
 ghost use Rattle.std.specs.Prelude.{◌≡◌, ◌≤◌, ◌<◌, ◌↔◌, ◌+◌, [], ◌∷◌, ◌++◌, length, drop};
-ghost use Rattle.std.specs.Prelude.{slice_get, option_to_list, true, Some, None, IsNone, IsErr, IsOk};
+ghost use Rattle.std.specs.Prelude.{slice_get, option_to_list, true, Some, None, IsNone, IsErr};
+ghost use Rattle.std.specs.Prelude.{IsOk};
 ghost use Rattle.std.specs.Prelude.{IfNone, IfSome, IfOk, IfErr, OnOk, OnErr, IsPermutation};
 ghost use Rattle.std.specs.List.{remove};
 ghost use Rattle.std.specs.VecDeque.{deque_capacity};
 ghost use Rattle.memory_count.specs.Faults.{HasCause};
-ghost use Rattle.worker_crew.specs.Jobs.{job_of, HasRoom, IsAnswered, IsFull, TakesFirst, FoundUnfinished};
+ghost use Rattle.worker_crew.specs.Jobs.{job_of, HasRoom, IsAnswered, IsFull, TakesFirst};
+ghost use Rattle.worker_crew.specs.Jobs.{FoundUnfinished};
 ghost use Rattle.worker_crew.specs.Local.{Works, answered, given_to, out_of};
 
 use crate::workers::{Finished, Workers};

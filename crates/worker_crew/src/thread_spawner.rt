@@ -66,8 +66,8 @@ pub fn launch<D: Duty + Drop + Send + Sync + 'static, R: Threads + Wait + Copy +
 /// A thread that a hand of the plain duty is on.
 pub type Child = PromisedHandle<Hand<PlainDuty>, SameHand<PlainDuty>>;
 
-/// Starts a hand of the plain duty, or hands it back: `launch`, with the runtime that only a program
-/// or a test has.
+/// Starts a hand of the plain duty, or hands it back: `launch`, with the runtime that only a
+/// program or a test has.
 pub type Launcher = Box<dyn Fn(Hand<PlainDuty>) -> Result<Child, Hand<PlainDuty>>>;
 
 /// Starts each hand on a thread of its own, and joins it. A trait's method can't start a thread for

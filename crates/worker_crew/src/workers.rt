@@ -4,7 +4,8 @@ ghost use Rattle.std.specs.Prelude.{option_map, true, IsTrue};
 ghost use Rattle.std.specs.Prelude.{IsErr, IfErr, IfSome, IfNone, OnOk, OnErr, IsPermutation};
 ghost use Rattle.worker_board.specs.declared.Parcel.{Parcel};
 ghost use Rattle.worker_crew.specs.Crews.{Team};
-ghost use Rattle.worker_crew.specs.Jobs.{Job, job_of, HasRoom, IsAnswered, IsFull, TakesFirst, FoundUnfinished};
+ghost use Rattle.worker_crew.specs.Jobs.{Job, job_of, HasRoom, IsAnswered, IsFull, TakesFirst};
+ghost use Rattle.worker_crew.specs.Jobs.{FoundUnfinished};
 
 use worker_board::Parcel;
 

@@ -82,9 +82,9 @@ impl<V: Service, W: Workers> Endpoint<V, W> {
     /// with a Polled. Its clock doesn't fall. Calls that end go to `k`. A busy link stops the
     /// sending of what is queued. So does a fault of the link; the packet that met it stays in
     /// front of the queue. A control packet that the link doesn't take is gone. `LinkFault` comes
-    /// at the end of the poll, exactly where a fault of the link came in it. For each request that it
-    /// drops for want of memory, and for each session that starves, memory was refused. No request of
-    /// one packet is dropped so, where it is handled inline and its answer fits in one.
+    /// at the end of the poll, exactly where a fault of the link came in it. For each request that
+    /// it drops for want of memory, and for each session that starves, memory was refused. No
+    /// request of one packet is dropped so, where it is handled inline and its answer fits in one.
     pub fn poll<L: Link, K: Continuation, R: Recorder>(
         &mut self,
         memory: &mut Memory,

@@ -7,8 +7,8 @@ use rpc_base::Peer;
 // As many as a turn receives datagrams.
 const MOST_SENDERS: usize = 64;
 
-/// The peers from which the datagrams of a turn came, one after another: one whose datagrams came in
-/// a row stands there once.
+/// The peers from which the datagrams of a turn came, one after another: one whose datagrams came
+/// in a row stands there once.
 #[derive(Clone, Copy)]
 pub(super) struct Senders {
     peers: [Peer; MOST_SENDERS],

@@ -122,8 +122,8 @@ impl<V: Service, W: Workers> Endpoint<V, W> {
     }
 
     /// Sets the rate of a client session, in bytes per millisecond: its packets are paced from now
-    /// on, or not where it is 0. Those that are queued keep their times. Err comes exactly where the
-    /// session isn't live, with its state, and then nothing changed.
+    /// on, or not where it is 0. Those that are queued keep their times. Err comes exactly where
+    /// the session isn't live, with its state, and then nothing changed.
     pub fn set_rate<R: Recorder>(
         &mut self,
         session: SessionNo,

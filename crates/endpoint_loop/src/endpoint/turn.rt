@@ -70,8 +70,8 @@ impl<V: Service, W: Workers> Endpoint<V, W> {
 
     /// Takes a turn at the moment `now`, in microseconds: receives datagrams until none waits, at
     /// most 64, delivers each, and polls. A fault of the link ends the receiving, and it polls all
-    /// the same. Then, where no datagram is left to be handled, the link forgets each peer from whom
-    /// one came and with whom no session is live. What it tells is what the poll told.
+    /// the same. Then, where no datagram is left to be handled, the link forgets each peer from
+    /// whom one came and with whom no session is live. What it tells is what the poll told.
     /// `LinkFault` comes at its end, exactly where a fault of the link came in receiving or in the
     /// poll.
     pub fn turn<L: Link, K: Continuation, R: Recorder>(

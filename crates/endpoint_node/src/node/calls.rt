@@ -52,7 +52,8 @@ impl Node {
         waiting: Waiting,
         rec: &mut R,
     ) -> Result<(), Waiting>
-        requires connected { state_of (find (is_client session) self.old.lists.clients) ≡ Connected }
+        requires connected { state_of (find (is_client session) self.old.lists.clients)
+            ≡ Connected }
         requires call { waiting.call ≡ self.old.lists.asked }
         requires message { waiting.req.len ≤ MOST_MESSAGE_BYTES }
         ensures makes { OnOk result (Makes R.log (Asks session waiting.req_type

@@ -41,8 +41,8 @@ fn set_rate_at(paces: &mut Vec<Pace>, i: usize, rate: u32)
 
 impl Node {
     /// Sets the rate of a client session, in bytes per millisecond: its packets are paced from now
-    /// on, or not where it is 0. Those that are queued keep their times. Err comes exactly where the
-    /// session isn't live, with its state, and then nothing changed.
+    /// on, or not where it is 0. Those that are queued keep their times. Err comes exactly where
+    /// the session isn't live, with its state, and then nothing changed.
     pub fn set_rate<R: Recorder>(
         &mut self,
         session: SessionNo,
@@ -51,7 +51,8 @@ impl Node {
     ) -> Result<(), SessionState>
         ensures step { Steps R.log (SetsRate session rate) (self.old ⟶ self.new)
             (rec.old ⟶ rec.new) }
-        ensures rated { RatedAs (state_of (find (is_client session) self.old.lists.clients)) result }
+        ensures rated { RatedAs (state_of (find (is_client session) self.old.lists.clients))
+            result }
         ensures unchanged { OnErr result (self.new ≡ self.old) }
     {
         let state = self.state(session);

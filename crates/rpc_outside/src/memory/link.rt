@@ -1,6 +1,7 @@
 //! A link in memory, which fails and is busy exactly where it is told to.
 ghost use Rattle.std.specs.Prelude.{◌≡◌, ◌≢◌, ◌+◌, ◌≤◌, ◌↔◌, [], ◌∷◌, ◌++◌, length, take};
-ghost use Rattle.std.specs.Prelude.{slice_get, option_map, vec_len, vec_capacity, None, Some, Ok, IsErr};
+ghost use Rattle.std.specs.Prelude.{slice_get, option_map, vec_len, vec_capacity, None, Some, Ok};
+ghost use Rattle.std.specs.Prelude.{IsErr};
 ghost use Rattle.std.specs.Prelude.{IsOk, IsNone, IsSome, IfOk, IfSome, OnOk, OnErr};
 ghost use Rattle.rpc_outside.specs.CallLog.{IsNamed, IsLogged, fresh, passed, failed};
 ghost use Rattle.memory_count.specs.Faults.{HasCause, HasRisen};
@@ -87,8 +88,8 @@ fn keep(sent: &mut Vec<Sent>, room: usize, to: Peer, head: &[u8], body: &[u8]) -
 }
 
 /// A link that keeps what is sent. Every address is that of peer 0. Contracts see the datagrams
-/// that were sent, that were given out and that wait, the address that was bound last, the room, and
-/// the logs of the calls and of the sends.
+/// that were sent, that were given out and that wait, the address that was bound last, the room,
+/// and the logs of the calls and of the sends.
 #[derive(Debug, Drop)]
 pub struct MemLink {
     arrivals: Arrivals,

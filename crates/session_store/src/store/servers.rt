@@ -82,7 +82,8 @@ impl Store {
 
     /// A server session in which no request began is taken in: its number is above those of the
     /// others. `NoMemory` comes only where memory was refused, and never while there are fewer
-    /// server sessions than half as many as packets have room in the ring; the session is gone then.
+    /// server sessions than half as many as packets have room in the ring; the session is gone
+    /// then.
     pub fn take_server(
         &mut self,
         memory: &mut Memory,

@@ -13,8 +13,8 @@ use rpc_outside::Duty;
 
 impl<D: Duty> Board<D> {
     /// Claims the job of a ticket, by one exchange from ready to claimed. `None` comes exactly
-    /// where that found another word of the place: a later one, 0, or that of an earlier offer. Then
-    /// the ticket is one more of the seat's lost list.
+    /// where that found another word of the place: a later one, 0, or that of an earlier offer.
+    /// Then the ticket is one more of the seat's lost list.
     pub fn claim(&self, seat: &mut HandSeat, ticket: Ticket) -> Option<Parcel>
         requires board { IsHandOf self.now seat.old }
         requires place { ticket.place < places_of self.now }

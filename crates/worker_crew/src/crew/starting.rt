@@ -1,5 +1,6 @@
 //! A crew is made: its memory first, then its hands.
-ghost use Rattle.std.specs.Prelude.{◌≡◌, ◌≤◌, ◌<◌, ◌-◌, ◌+◌, ◌++◌, ◌↔◌, [], length, true, false, IfOk};
+ghost use Rattle.std.specs.Prelude.{◌≡◌, ◌≤◌, ◌<◌, ◌-◌, ◌+◌, ◌++◌, ◌↔◌, [], length, true, false};
+ghost use Rattle.std.specs.Prelude.{IfOk};
 ghost use Rattle.std.specs.Prelude.{OnErr, vec_len, vec_capacity, ℕ, List};
 ghost use Rattle.std.specs.VecDeque.{deque_capacity};
 ghost use Rattle.memory_count.specs.Faults.{HasCause, HasRisenBy};
@@ -138,8 +139,8 @@ fn share_out<D: Duty + Drop, P: Spawner<Hand<D>>>(
 impl<D: Duty + Drop, R: Wait> Crew<D, R> {
     /// Makes a crew that takes `jobs` jobs, 1 to 1,024, and offers each of `hands` hands, at most
     /// 16, to the spawner, which has no hand out. Hands that are handed back stay with the crew;
-    /// where no hand was started they are retired, and the crew works by itself. Its memory is taken
-    /// before a hand is started; where there is none the spawner is as before.
+    /// where no hand was started they are retired, and the crew works by itself. Its memory is
+    /// taken before a hand is started; where there is none the spawner is as before.
     pub fn start<P: Spawner<Hand<D>>>(
         memory: &mut Memory,
         rt: R,

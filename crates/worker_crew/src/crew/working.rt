@@ -1,8 +1,10 @@
 //! What an endpoint asks of a crew.
 ghost use Rattle.std.specs.Prelude.{◌≡◌, ◌≤◌, ◌<◌, ◌+◌, ◌∷◌, ◌++◌, [], ◌↔◌, length, map, true};
-ghost use Rattle.std.specs.Prelude.{false, option_map, IsTrue, IsNone, IsErr, IfErr, IfSome, IfNone};
+ghost use Rattle.std.specs.Prelude.{false, option_map, IsTrue, IsNone, IsErr, IfErr, IfSome};
+ghost use Rattle.std.specs.Prelude.{IfNone};
 ghost use Rattle.std.specs.Prelude.{OnOk, OnErr, IsPermutation};
-ghost use Rattle.worker_crew.specs.Jobs.{job_of, HasRoom, IsAnswered, IsFull, TakesFirst, FoundUnfinished};
+ghost use Rattle.worker_crew.specs.Jobs.{job_of, HasRoom, IsAnswered, IsFull, TakesFirst};
+ghost use Rattle.worker_crew.specs.Jobs.{FoundUnfinished};
 ghost use Rattle.worker_crew.specs.Crews.{untold, names, team_of, has_hands, SameHands, KeepsTo};
 ghost use Rattle.worker_crew.specs.Crews.{GaveTicket, SameTickets};
 ghost use Rattle.worker_crew.specs.Dispatching.{jobs_in, looks_in, MissedEach};
@@ -94,8 +96,8 @@ impl<D: Duty, R: Wait> Workers for Crew<D, R> {
     ghost team = { team_of };
 
     /// As the trait says; the job waits behind all others. Where hands were started its ticket is
-    /// put into the queue, or waits with the crew, which it does only where as many were put as there
-    /// are places.
+    /// put into the queue, or waits with the crew, which it does only where as many were put as
+    /// there are places.
     fn give(&mut self, job: Parcel) -> Result<(), Parcel>
         requires room { HasRoom D.answer job }
         ensures full { IsErr result ↔ IsFull self.old.dispatching.places
