@@ -1,7 +1,7 @@
 //! A fan, and the rights to read it.
 ghost use Rattle.std.specs.Prelude.{◌≡◌, ◌≤◌, length, IfSome, IfOk, IfErr, option_map};
 ghost use Rattle.message_buffer.specs.Buffer.{bytes_of};
-ghost use Rattle.message_buffer.specs.declared.block.TheConstants.{MOST_CAPACITY};
+ghost use Rattle.rpc_base.specs.declared.limits.TheConstants.{MOST_CAPACITY};
 ghost use Rattle.fan_buffer.specs.Fans.{fan_bytes, HasBytes};
 ghost use Rattle.fan_buffer.specs.Readings.{IsReadingOf, message_shown};
 

@@ -7,7 +7,7 @@ ghost use Rattle.endpoint_loop.specs.Endpoints.{Leaves};
 ghost use Rattle.endpoint_loop.specs.Stands.{GoesOn};
 ghost use Rattle.memory_count.specs.Faults.{HasCause, HasRisenBy};
 ghost use Rattle.message_buffer.specs.Buffer.{bytes_of, capacity_of};
-ghost use Rattle.message_buffer.specs.declared.block.TheConstants.{MOST_CAPACITY};
+ghost use Rattle.rpc_base.specs.declared.limits.TheConstants.{MOST_CAPACITY};
 ghost use Rattle.rpc_laws.specs.Groups.{Asks, state_of};
 ghost use Rattle.rpc_laws.specs.Sessions.{is_client};
 ghost use Rattle.fan_buffer.specs.Fans.{fan_bytes};

@@ -1,7 +1,7 @@
 -- How a block of bytes is a buffer: the header of packet 0, then the data, then the other headers.
 use Rattle.std.specs.Prelude.{◌≡◌, ◌≤◌, ℕ, zero, suc, ◌+◌, ◌-◌, ◌*◌, ◌==◌, if◌then◌else◌, List, []}
 use Rattle.std.specs.Prelude.{◌∷◌, length, take, drop}
-use Rattle.rpc_base.specs.declared.limits.TheConstants.{HEAD_BYTES}
+use Rattle.rpc_base.specs.declared.limits.TheConstants.{HEAD_BYTES, MOST_CAPACITY}
 use Rattle.packet_header.specs.Parts.{packet_count}
 use Rattle.message_buffer.specs.Buffer.{Buffer}
 
@@ -36,4 +36,4 @@ head_start capacity index = if index == 0 then 0 else capacity + HEAD_BYTES * in
 pub record FitsBlock (block : List ℕ) (capacity len : ℕ) : Type 0 where
   pub size : length block ≡ block_size capacity
   pub within : len ≤ capacity
-  pub most : capacity ≤ 4194304
+  pub most : capacity ≤ MOST_CAPACITY

@@ -5,10 +5,7 @@ ghost use Rattle.packet_header.specs.Parts.{packet_count};
 ghost use Rattle.message_buffer.specs.Block.{block_size, head_start};
 
 use packet_header::count;
-use rpc_base::HEAD_BYTES;
-
-/// The largest capacity of a buffer, in bytes.
-pub const MOST_CAPACITY: u32 = 4_194_304;
+use rpc_base::{HEAD_BYTES, MOST_CAPACITY};
 
 /// The length of the block of a buffer of this capacity.
 pub fn block_bytes(capacity: u32) -> usize

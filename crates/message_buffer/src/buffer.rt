@@ -6,7 +6,7 @@ ghost use Rattle.memory_count.specs.Faults.{HasCause};
 ghost use Rattle.packet_header.specs.Parts.{packet_count, part};
 ghost use Rattle.message_buffer.specs.Buffer.{bytes_of, capacity_of, stamped, with_len, written};
 
-use crate::block::{MOST_CAPACITY, block_bytes, head_at};
+use crate::block::{block_bytes, head_at};
 use memory_count::{Memory, NoMemory};
 use packet_header::part_len;
 use rpc_base::{HEAD_BYTES, PART_BYTES};

@@ -5,5 +5,5 @@
 mod block;
 mod buffer;
 
-pub use block::MOST_CAPACITY;
 pub use buffer::MsgBuf;
+pub use rpc_base::MOST_CAPACITY;

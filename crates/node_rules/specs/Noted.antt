@@ -12,8 +12,8 @@ use Rattle.rpc_base.specs.declared.event.Event.TheVariants.{PairedClient, Paired
 use Rattle.rpc_base.specs.declared.event.Event.TheVariants.{Worked}
 use Rattle.rpc_base.specs.declared.fact.Fact.{Fact}
 use Rattle.rpc_base.specs.declared.fact.Who.TheVariants.{Node}
-use Rattle.rpc_base.specs.declared.limits.TheConstants.{MOST_CREDITS, MOST_MESSAGE_BYTES}
-use Rattle.rpc_base.specs.declared.limits.TheConstants.{SESSION_NUMBERS}
+use Rattle.rpc_base.specs.declared.limits.TheConstants.{MOST_CAPACITY, MOST_CREDITS}
+use Rattle.rpc_base.specs.declared.limits.TheConstants.{MOST_MESSAGE_BYTES, SESSION_NUMBERS}
 use Rattle.rpc_base.specs.declared.state.SessionState.{SessionState}
 use Rattle.rpc_base.specs.declared.state.SessionState.TheVariants.{Unknown, Connecting, Connected}
 use Rattle.rpc_base.specs.declared.state.SessionState.TheVariants.{Closing as IsClosing, Closed}
@@ -97,8 +97,10 @@ is_call_answer s (Rated x rate) len = is_live (state_in x s)
 is_call_answer s (Nrate x state) len =
     not (is_live (state_in x s)) && is_state state (state_in x s)
 is_call_answer s (Asked c x y room) len =
-    (c == s.asked) && (nat_le len MOST_MESSAGE_BYTES && is_open (state_in x s))
-is_call_answer s (NcallTooLarge x size) len = nat_lt MOST_MESSAGE_BYTES size
+    (c == s.asked)
+    && (nat_le len MOST_MESSAGE_BYTES && (nat_le room MOST_CAPACITY && is_open (state_in x s)))
+is_call_answer s (NcallTooLarge x size) len =
+    nat_lt MOST_MESSAGE_BYTES size && nat_le size MOST_CAPACITY
 is_call_answer s (NcallState x state) len =
     not (is_open (state_in x s)) && is_state state (state_in x s)
 is_call_answer s _ len = false

@@ -15,8 +15,8 @@ ghost use Rattle.node_rules.specs.SingleFacts.{BeginsPolls, IsGroup};
 
 use node_tables::{place_of_client, read_control, read_message};
 use rpc_base::{
-    Event, Fact, MOST_CALLS, MOST_CREDITS, MOST_MESSAGE_BYTES, RequestNo, SESSION_NUMBERS,
-    SessionNo, SessionState, Who,
+    Event, Fact, MOST_CALLS, MOST_CAPACITY, MOST_CREDITS, MOST_MESSAGE_BYTES, RequestNo,
+    SESSION_NUMBERS, SessionNo, SessionState, Who,
 };
 use rpc_laws::{Client, Lists, Server};
 
@@ -316,12 +316,18 @@ fn is_call_answer(lists: &Lists, event: &Event, len: usize) -> bool
             let own = state_in(lists, *session);
             !is_live(own) && is_state(*state, own)
         }
-        Event::Asked { call, session, .. } => {
+        Event::Asked {
+            call,
+            session,
+            room,
+            ..
+        } => {
             call.0 == lists.asked
                 && len <= MOST_MESSAGE_BYTES as usize
+                && *room <= MOST_CAPACITY
                 && is_open(state_in(lists, *session))
         }
-        Event::NcallTooLarge { len, .. } => MOST_MESSAGE_BYTES < *len,
+        Event::NcallTooLarge { len, .. } => MOST_MESSAGE_BYTES < *len && *len <= MOST_CAPACITY,
         Event::NcallState { session, state } => {
             let own = state_in(lists, *session);
             !is_open(own) && is_state(*state, own)

@@ -14,6 +14,9 @@ pub const MOST_DATAGRAM_BYTES: usize = 1_044;
 /// The bytes of the largest message.
 pub const MOST_MESSAGE_BYTES: u32 = 1_048_576;
 
+/// The bytes of the largest buffer of a message, and so of the room for an answer.
+pub const MOST_CAPACITY: u32 = 4_194_304;
+
 /// The credits of a session, in packets: at least 1, and no more than these.
 pub const MOST_CREDITS: u16 = 256;
 

@@ -1,5 +1,5 @@
 -- What an application call notes at a node, and what room its sessions leave.
-use Rattle.std.specs.Prelude.{ℕ, ◌≡◌, ◌+◌, ◌==◌, ◌||◌, nat_lt, nat_le, Bool, not, Option, Some}
+use Rattle.std.specs.Prelude.{ℕ, ◌≡◌, ◌≤◌, ◌+◌, ◌==◌, ◌||◌, nat_lt, nat_le, Bool, not, Option, Some}
 use Rattle.std.specs.Prelude.{None, List, [], ◌∷◌, length, sum_by, if◌then◌else◌}
 use Rattle.std.specs.List.{find}
 use Rattle.rpc_base.specs.declared.event.Event.{Event}
@@ -10,8 +10,8 @@ use Rattle.rpc_base.specs.declared.event.Event.TheVariants.{NconnectNumbers}
 use Rattle.rpc_base.specs.declared.fact.Fact.{Fact}
 use Rattle.rpc_base.specs.declared.state.SessionState.{SessionState}
 use Rattle.rpc_base.specs.declared.state.SessionState.TheVariants.{Unknown, Connected, Spent}
-use Rattle.rpc_base.specs.declared.limits.TheConstants.{MOST_CALLS, MOST_MESSAGE_BYTES}
-use Rattle.rpc_base.specs.declared.limits.TheConstants.{SESSION_NUMBERS}
+use Rattle.rpc_base.specs.declared.limits.TheConstants.{MOST_CALLS, MOST_CAPACITY}
+use Rattle.rpc_base.specs.declared.limits.TheConstants.{MOST_MESSAGE_BYTES, SESSION_NUMBERS}
 use Rattle.rpc_laws.specs.declared.tables.Client.{Client}
 use Rattle.rpc_laws.specs.declared.tables.Lists.{Lists}
 use Rattle.rpc_laws.specs.declared.tables.Timed.{Timed}
@@ -41,10 +41,13 @@ ask_fact session req_type room ask s =
     if nat_lt MOST_MESSAGE_BYTES (length ask) then plain s.me (NcallTooLarge session (length ask))
     else ask_by_state (state_of (find (is_client session) s.clients)) session req_type room ask s
 
+-- a call is asked or refused; its message, and the room for its answer, fit in buffers
 pub record Asks (session req_type : ℕ) (ask : List ℕ) (room : ℕ) (s : Timed) (x : List Fact)
     (t : Timed) : Type 0 where
   pub facts : x ≡ ask_fact session req_type room ask s.lists ∷ []
   pub goes : Goes s x t
+  pub ask_fits : length ask ≤ MOST_CAPACITY
+  pub room_fits : room ≤ MOST_CAPACITY
 
 -- the credits of a client session that is live
 abbrev pub live_credits : Client → ℕ
