@@ -9,7 +9,7 @@ ghost use Rattle.message_buffer.specs.Buffer.{bytes_of, capacity_of, stamped, wi
 use crate::block::{block_bytes, head_at};
 use memory_count::{Memory, NoMemory};
 use packet_header::part_len;
-use rpc_base::{HEAD_BYTES, PART_BYTES};
+use rpc_base::{HEAD_BYTES, MOST_CAPACITY, PART_BYTES};
 use std::marker::Model;
 
 /// A message and the headers of its packets, in one block of memory. Contracts see its length, its
