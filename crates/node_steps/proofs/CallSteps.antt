@@ -11,7 +11,8 @@ use Rattle.std.proofs.lemmas.Option.{slice_get_within}
 use Rattle.rpc_base.specs.declared.event.Event.TheVariants.{Asked}
 use Rattle.rpc_base.specs.declared.fact.Fact.{Fact}
 use Rattle.rpc_base.specs.declared.limits.Limits.{Limits}
-use Rattle.rpc_base.specs.declared.limits.TheConstants.{MOST_CALLS, MOST_MESSAGE_BYTES}
+use Rattle.rpc_base.specs.declared.limits.TheConstants.{MOST_CALLS, MOST_CAPACITY}
+use Rattle.rpc_base.specs.declared.limits.TheConstants.{MOST_MESSAGE_BYTES}
 use Rattle.rpc_base.specs.declared.state.SessionState.TheVariants.{Connected}
 use Rattle.rpc_base.proofs.FirstLemmas.{counted-cons}
 use Rattle.rpc_base.proofs.PlaceLemmas.{all-at, set-here}
@@ -37,7 +38,7 @@ use Rattle.node_laws.proofs.StateLemmas.{told-connected, told-few}
 use Rattle.session_store.specs.Changes.{ChangesAt}
 use Rattle.session_store.specs.Sides.{Shown}
 use Rattle.session_store.proofs.AscendsLemmas.{ascends-end}
-use Rattle.session_store.proofs.ListLemmas.{all-set, sum-one}
+use Rattle.session_ends.proofs.ListLemmas.{all-set, sum-one}
 use Rattle.node_steps.specs.Fits.{CallsAscend, Fits, IsSettled}
 use Rattle.node_steps.specs.Notes.{Makes}
 use Rattle.node_steps.specs.Seen.{Tallies, asking_jobs, seen_node}
@@ -227,10 +228,11 @@ module _ (me : ℕ) (limits : Limits) (tallies : Tallies) (paces : List Pace) (j
   pub node-asked : {R : Type 0} (log : R → Log)
       (before after : R) (session c room : ℕ) (bytes : List ℕ) → session ≡ i → c ≡ tallies.asked
       → room ≡ what.room → bytes ≡ what.ask → length what.ask ≤ MOST_MESSAGE_BYTES
+      → room ≤ MOST_CAPACITY
       → Grew (log before) (log after) (with_bytes me (Asked c session what.req_type room) bytes ∷ [])
       → Makes log (Asks session what.req_type what.ask what.room) (seen jobs)
       (seen_now jobs) before after
-  node-asked log before after session c room bytes at-i at-c at-room at-bytes few grew =
+  node-asked log before after session c room bytes at-i at-c at-room at-bytes few fits-room grew =
       subst (λ (n : ℕ). Makes log (Asks n what.req_type what.ask what.room) (seen jobs)
       (seen_now jobs) before after) (sym at-i) (record {
         noted = asked ∷ [];
@@ -238,6 +240,8 @@ module _ (me : ℕ) (limits : Limits) (tallies : Tallies) (paces : List Pace) (j
         step = λ js. record {
           facts = ap (λ (f : Fact). f ∷ []) (facts-by js);
           goes = goes (asking_jobs js jobs);
+          ask_fits = omega (arith, few);
+          room_fits = subst (λ (n : ℕ). n ≤ MOST_CAPACITY) at-room fits-room;
         };
       })
     where

@@ -31,8 +31,8 @@ use Rattle.session_mgmt.specs.Control.{found_in, other_end, own_end}
 use Rattle.session_mgmt.specs.declared.control.Found.{Found}
 use Rattle.session_mgmt.specs.declared.control.OtherEnd.{OtherEnd}
 use Rattle.session_mgmt.specs.declared.control.OwnEnd.{OwnEnd}
-use Rattle.session_store.specs.declared.side.ClientEnd.{ClientEnd}
-use Rattle.session_store.specs.declared.server.ServerEnd.{ServerEnd}
+use Rattle.session_ends.specs.declared.side.ClientEnd.{ClientEnd}
+use Rattle.session_ends.specs.declared.server.ServerEnd.{ServerEnd}
 use Rattle.session_store.specs.Changes.{IsClientEnd, IsEnd}
 use Rattle.node_steps.proofs.CallSteps.{client-by}
 use Rattle.node_steps.proofs.StatusSteps.{there}

@@ -42,7 +42,7 @@ use Rattle.node_laws.proofs.LeftLemmas.{same-slot}
 use Rattle.node_laws.proofs.PutLemmas.{owner-is}
 use Rattle.node_laws.proofs.ControlLemmas.{slot-within}
 use Rattle.session_store.specs.Changes.{IsDrained}
-use Rattle.session_store.specs.Queue.{is_owned}
+use Rattle.session_ends.specs.Joined.{is_owned}
 use Rattle.session_store.specs.Serving.{without_owned}
 use Rattle.session_store.specs.Sides.{Shown}
 use Rattle.node_steps.specs.Ends.{LeavesSessions, ending, flushing_slot, flushing_slots}

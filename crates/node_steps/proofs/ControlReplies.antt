@@ -32,7 +32,7 @@ use Rattle.rpc_outside.specs.Recording.{Grew, Log}
 use Rattle.session_store.specs.Changes.{ChangesAt, IsInState}
 use Rattle.session_store.specs.Ends.{Ascends}
 use Rattle.session_store.specs.Sides.{Shown}
-use Rattle.session_store.proofs.ListLemmas.{all-set}
+use Rattle.session_ends.proofs.ListLemmas.{all-set}
 use Rattle.node_steps.specs.Fits.{CallsAscend, Fits, IsSettled}
 use Rattle.node_steps.specs.Notes.{Makes}
 use Rattle.node_steps.specs.Seen.{Tallies, asking_jobs, seen_node}

@@ -47,9 +47,10 @@ use Rattle.node_laws.proofs.WorkLemmas.{job-has-worker}
 use Rattle.server_core.proofs.FlushLemmas.{grew-then}
 use Rattle.server_core.specs.Steps.{gone_on_as}
 use Rattle.session_store.specs.Changes.{is_waited}
-use Rattle.session_store.specs.Sides.{HasRoom, Shown, queued_of}
+use Rattle.session_store.specs.Sides.{HasRoom, Shown}
+use Rattle.session_ends.specs.Joined.{queued_of}
 use Rattle.node_steps.proofs.QueueEntries.{put-all, replies-more}
-use Rattle.session_store.proofs.ListLemmas.{all-set}
+use Rattle.session_ends.proofs.ListLemmas.{all-set}
 use Rattle.worker_board.specs.declared.Parcel.{Parcel}
 use Rattle.node_steps.specs.Jobs.{AllBackground, AnswersTo, AsksOf, is_named}
 use Rattle.node_steps.specs.Fits.{Fits, HasCredit, IsSendable}

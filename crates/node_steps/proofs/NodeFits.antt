@@ -25,7 +25,7 @@ use Rattle.node_laws.specs.Kept.{Kept}
 use Rattle.node_laws.specs.QueuedPackets.{asks_in, is_ask}
 use Rattle.node_laws.proofs.KeptLemmas.{kept-total}
 use Rattle.node_laws.proofs.TotalLemmas.{table_free}
-use Rattle.session_store.proofs.ListLemmas.{sum-one}
+use Rattle.session_ends.proofs.ListLemmas.{sum-one}
 use Rattle.rpc_base.specs.declared.limits.TheConstants.{MOST_RING}
 use Rattle.rpc_laws.specs.declared.tables.Timed.{Timed}
 use Rattle.node_steps.specs.Fits.{Fits, HasCredit, IsSendable, IsSettled, has_server, is_of_call}

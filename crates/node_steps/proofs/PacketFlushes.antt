@@ -23,7 +23,7 @@ use Rattle.rpc_laws.specs.Service.{Answers, Serving, served_after_all}
 use Rattle.rpc_outside.specs.Served.{Served}
 use Rattle.node_laws.proofs.FlushLemmas.{flush-after, no-more-same}
 use Rattle.node_laws.proofs.QueueLemmas.{flushed-none, taken_out}
-use Rattle.session_store.specs.Queue.{is_owned}
+use Rattle.session_ends.specs.Joined.{is_owned}
 use Rattle.session_store.specs.Serving.{without_owned}
 use Rattle.node_steps.specs.Fits.{IsSendable}
 

@@ -61,7 +61,7 @@ use Rattle.node_laws.proofs.ReplyLemmas.{replies-allowed}
 use Rattle.session_store.specs.Hearing.{RepliesAt}
 use Rattle.session_store.specs.Sides.{Shown}
 use Rattle.session_store.proofs.AscendsLemmas.{ascends-changed, ascends-without}
-use Rattle.session_store.proofs.ListLemmas.{all-set, set-own}
+use Rattle.session_ends.proofs.ListLemmas.{all-set, set-own}
 use Rattle.node_steps.specs.Fits.{CallsAscend, Fits, IsSettled}
 use Rattle.node_steps.specs.Replies.{Drops, HearsReply}
 use Rattle.node_steps.specs.Notes.{Makes}

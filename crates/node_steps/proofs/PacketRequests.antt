@@ -70,8 +70,9 @@ use Rattle.server_core.specs.Scene.{incoming}
 use Rattle.session_store.specs.Serving.{HandlesAt, handled_facts, in_store, queue_handled, row_at}
 use Rattle.session_store.specs.Serving.{without_owned}
 use Rattle.session_store.specs.Joined.{put_ready}
-use Rattle.session_store.specs.Sides.{Shown, queued_of}
-use Rattle.session_store.proofs.ListLemmas.{all-set, set-own}
+use Rattle.session_store.specs.Sides.{Shown}
+use Rattle.session_ends.specs.Joined.{queued_of}
+use Rattle.session_ends.proofs.ListLemmas.{all-set, set-own}
 use Rattle.node_steps.specs.Changes.{◌⟶◌, Change}
 use Rattle.node_steps.specs.Fits.{Fits, HasCredit, IsSendable}
 use Rattle.node_steps.specs.Lacks.{is_lack, lacks_in}

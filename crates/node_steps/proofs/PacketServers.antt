@@ -31,7 +31,7 @@ use Rattle.server_core.specs.Scene.{Scene, incoming}
 use Rattle.rpc_outside.specs.declared.service.Service as Service
 use Rattle.session_store.specs.Serving.{HandlesAt}
 use Rattle.session_store.specs.Sides.{Shown}
-use Rattle.session_store.proofs.ListLemmas.{all-set}
+use Rattle.session_ends.proofs.ListLemmas.{all-set}
 use Rattle.node_steps.specs.Fits.{IsSendable}
 use Rattle.node_steps.specs.Seen.{Asks, arrival_of, asking_jobs}
 use Rattle.node_steps.specs.Requests.{AllServed}

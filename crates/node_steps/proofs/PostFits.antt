@@ -28,9 +28,9 @@ use Rattle.node_laws.proofs.KeptLemmas.{kept-after}
 use Rattle.node_laws.proofs.PostLemmas.{begun-allowed, posted-allowed}
 use Rattle.session_store.specs.Changes.{BeginsAt, PostsAt}
 use Rattle.session_store.specs.Effects.{packet_of_entry, request_in}
-use Rattle.session_store.specs.Joined.{queued_at}
+use Rattle.session_ends.specs.Joined.{queued_at}
 use Rattle.session_store.specs.Sides.{Shown}
-use Rattle.session_store.proofs.ListLemmas.{all-set}
+use Rattle.session_ends.proofs.ListLemmas.{all-set}
 use Rattle.node_steps.specs.Fits.{Fits, IsSendable, IsSettled, pace_no}
 use Rattle.client_core.proofs.CallsLemmas.{length-at_first}
 use Rattle.node_laws.proofs.NumberLemmas.{numbered-kept}

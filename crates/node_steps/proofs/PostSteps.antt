@@ -21,7 +21,7 @@ use Rattle.node_laws.proofs.NumberLemmas.{numbered-at}
 use Rattle.session_store.specs.Changes.{BeginsAt, PostsAt, PostsNext}
 use Rattle.session_store.specs.Ends.{Ascends}
 use Rattle.session_store.proofs.AscendsLemmas.{ascends-changed}
-use Rattle.session_store.proofs.ListLemmas.{all-set, sum-one}
+use Rattle.session_ends.proofs.ListLemmas.{all-set, sum-one}
 use Rattle.node_steps.specs.Fits.{CallsAscend}
 use Rattle.node_steps.specs.Measures.{free_at, waiting_at, waiting_in}
 use Rattle.rpc_base.proofs.BasicLemmas.{some-of}

@@ -28,11 +28,10 @@ use Rattle.rpc_laws.specs.NodeLists.{after}
 use Rattle.rpc_laws.specs.Queues.{flush_facts, is_queued, numbers_of, put, replies}
 use Rattle.node_laws.proofs.KeptLemmas.{kept-after}
 use Rattle.server_core.proofs.FlushLemmas.{none-cons, not-equal, put-first, put-later, some-is}
-use Rattle.session_store.specs.Queue.{is_owned, queued_number}
+use Rattle.session_ends.specs.Joined.{is_owned, queued_number, queued_of}
 use Rattle.session_store.specs.Sides.{Shown}
 use Rattle.packet_rings.specs.Values.{EntryValue}
 use Rattle.session_store.specs.Joined.{without_due}
-use Rattle.session_store.specs.Sides.{queued_of}
 use Rattle.node_steps.specs.Fits.{Fits, IsSendable}
 use Rattle.node_steps.specs.Notes.{Makes}
 use Rattle.node_steps.specs.Seen.{Tallies, asking, asking_jobs, seen_node}

@@ -39,11 +39,11 @@ use Rattle.rpc_laws.specs.Queues.{is_due, is_queued, is_reply, made_ready, repli
 use Rattle.rpc_laws.specs.Requests.{is_request, is_server}
 use Rattle.rpc_laws.specs.Sessions.{is_client, sends}
 use Rattle.node_laws.proofs.KeptLemmas.{kept-after}
-use Rattle.session_store.specs.Queue.{IsFront, SendsFront, clients_sent, packet_in}
-use Rattle.session_store.specs.Queue.{peer_in}
-use Rattle.session_store.specs.Sides.{Shown, queued_of}
+use Rattle.session_store.specs.Queue.{IsFront, SendsFront, clients_sent, packet_in, peer_in}
+use Rattle.session_store.specs.Sides.{Shown}
+use Rattle.session_ends.specs.Joined.{queued_of, is_some_due}
 use Rattle.session_store.proofs.AscendsLemmas.{ascends-changed}
-use Rattle.session_store.specs.Joined.{is_some_due, without_due}
+use Rattle.session_store.specs.Joined.{without_due}
 use Rattle.node_steps.proofs.QueueEntries.{replies-made, sendable-made}
 use Rattle.node_steps.specs.Fits.{CallsAscend, Fits, IsSendable, IsSettled, is_of_call}
 use Rattle.node_steps.specs.Notes.{Makes, MakesSent}

@@ -46,7 +46,7 @@ use Rattle.node_laws.proofs.NumberLemmas.{numbered-get}
 use Rattle.node_laws.proofs.ValidLemmas.{valid_after}
 use Rattle.session_store.specs.Changes.{IsIdle, calls_in}
 use Rattle.session_store.specs.Sides.{Shown}
-use Rattle.session_store.proofs.ListLemmas.{all-set, set-own}
+use Rattle.session_ends.proofs.ListLemmas.{all-set, set-own}
 use Rattle.node_steps.specs.Given.{Gave}
 use Rattle.node_steps.specs.Fits.{CallsAscend, Fits, IsSettled}
 use Rattle.node_steps.specs.Notes.{Makes, MakesEnds, is_end}

@@ -34,8 +34,8 @@ use Rattle.packet_header.specs.Ranges.{Within, lives}
 use Rattle.rpc_laws.specs.Lives.{life_in, raised_by}
 use Rattle.rpc_laws.specs.ControlSteps.{own_request}
 use Rattle.rpc_laws.specs.declared.tables.Way.{Way}
-use Rattle.session_store.specs.declared.side.ClientEnd.{ClientEnd}
-use Rattle.session_store.specs.Changes.{IsClientEnd, has_request}
+use Rattle.session_ends.specs.declared.side.ClientEnd.{ClientEnd}
+use Rattle.session_store.specs.Changes.{IsClientEnd, has_request, ChangesAt, IsInState, sent_again}
 use Rattle.rpc_laws.specs.ControlSteps.{request_by, retry_row}
 use Rattle.rpc_laws.specs.Facts.{plain, with_two}
 use Rattle.rpc_laws.specs.Front.{control_in, control_of}
@@ -51,7 +51,6 @@ use Rattle.node_laws.proofs.Allowed.{Allowed}
 use Rattle.rpc_laws.specs.Groups.{told_state}
 use Rattle.node_laws.proofs.NumberLemmas.{numbered-at}
 use Rattle.node_steps.proofs.CallStates.{told-request}
-use Rattle.session_store.specs.Changes.{ChangesAt, IsInState, sent_again}
 use Rattle.session_store.specs.Sides.{Shown}
 use Rattle.node_steps.specs.ControlRows.{Spoke}
 use Rattle.node_steps.specs.Counts.{is_sent}

@@ -33,10 +33,10 @@ use Rattle.node_laws.proofs.KeptLemmas.{kept-after}
 use Rattle.node_laws.proofs.NumberLemmas.{numbered-get}
 use Rattle.session_store.specs.Changes.{ActiveAt, MayRoll, RollsAt}
 use Rattle.session_store.specs.Ends.{progress_of}
-use Rattle.session_store.specs.Queue.{is_owned}
+use Rattle.session_ends.specs.Joined.{is_owned}
 use Rattle.session_store.specs.Sides.{Shown}
 use Rattle.session_store.proofs.AscendsLemmas.{ascends-changed}
-use Rattle.session_store.proofs.ListLemmas.{all-set}
+use Rattle.session_ends.proofs.ListLemmas.{all-set}
 use Rattle.node_steps.specs.Fits.{CallsAscend, Fits, IsSettled}
 use Rattle.node_steps.specs.Notes.{Makes}
 use Rattle.node_steps.specs.Seen.{Tallies, asking, asking_jobs, seen_node}

@@ -12,7 +12,7 @@ use Rattle.rpc_laws.specs.declared.tables.Queued.{Queued}
 use Rattle.rpc_laws.specs.Deliveries.{Delivers}
 use Rattle.rpc_laws.specs.Pacing.{line}
 use Rattle.rpc_laws.specs.PollOrder.{SendsSome}
-use Rattle.session_store.specs.Queue.{is_owned}
+use Rattle.session_ends.specs.Joined.{is_owned}
 use Rattle.rpc_laws.specs.Steps.{Rel}
 use Rattle.memory_count.specs.Faults.{HasCause, HasRisen}
 use Rattle.rpc_outside.specs.Linking.{NoneComes}

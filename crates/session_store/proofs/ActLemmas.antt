@@ -21,17 +21,18 @@ use Rattle.server_core.specs.Flushing.{HoldsReplies, is_reply_of, named_by}
 use Rattle.server_core.specs.KeepsPool.{answer_names, names as slot_names}
 use Rattle.server_core.specs.Session.{Session as Serving, answer_of}
 use Rattle.server_core.specs.Shown.{shown as shown_server}
-use Rattle.session_store.specs.declared.side.Side.{Side}
-use Rattle.session_store.specs.declared.stage.Stage.{Stage}
-use Rattle.session_store.specs.declared.stage.Stage.TheVariants.{Connecting, Connected, Closing, Closed}
-use Rattle.session_store.specs.declared.stage.Stage.TheVariants.{Failed, Broken}
+use Rattle.session_ends.specs.declared.side.Side.{Side}
+use Rattle.session_ends.specs.declared.stage.Stage.{Stage}
+use Rattle.session_ends.specs.declared.stage.Stage.TheVariants.{Connecting, Connected, Closing}
+use Rattle.session_ends.specs.declared.stage.Stage.TheVariants.{Closed, Failed, Broken}
 use Rattle.session_store.specs.Ends.{shown_end}
-use Rattle.session_store.specs.Sides.{ServerHolds, ServerKept, ServerQueued, SideKept, SideQueued}
-use Rattle.session_store.specs.Sides.{shown_side, side_handed}
+use Rattle.session_store.specs.Sides.{ServerHolds, ServerQueued, SideQueued, shown_side}
+use Rattle.session_store.specs.Sides.{side_handed}
+use Rattle.session_ends.specs.Sides.{ServerKept, SideKept}
 use Rattle.session_store.proofs.BesideLemmas.{rest, rest-all, rest-count}
-use Rattle.session_store.proofs.PlaceLemmas.{IsSame, calls-handed, calls-kept, calls-shown, named-full}
-use Rattle.session_store.proofs.PlaceLemmas.{names-own, names-rest, served-full, slots-kept}
-use Rattle.session_store.proofs.PlaceLemmas.{slots-shown}
+use Rattle.session_store.proofs.PlaceLemmas.{IsSame, calls-handed, calls-kept, calls-shown}
+use Rattle.session_store.proofs.PlaceLemmas.{named-full, names-own, names-rest, served-full}
+use Rattle.session_store.proofs.PlaceLemmas.{slots-kept, slots-shown}
 use Rattle.buffer_pool.proofs.PlacesLemmas.{named-one}
 use Rattle.server_core.proofs.HoldLemmas.{full-not-empty}
 

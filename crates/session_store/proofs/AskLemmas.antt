@@ -19,28 +19,29 @@ use Rattle.session_slots.specs.declared.waiting.Waiting.{Waiting}
 use Rattle.client_core.specs.KeepsPool.{names}
 use Rattle.client_core.specs.Session.{Session, new_session}
 use Rattle.server_core.specs.Session.{Session as Serving}
-use Rattle.session_store.specs.declared.side.Side.{Side}
-use Rattle.session_store.specs.declared.stage.Stage.{Stage}
-use Rattle.session_store.specs.declared.stage.Stage.TheVariants.{Connecting, Connected, Closing, Closed}
-use Rattle.session_store.specs.declared.stage.Stage.TheVariants.{Failed, Broken}
+use Rattle.session_ends.specs.declared.side.Side.{Side}
+use Rattle.session_ends.specs.declared.stage.Stage.{Stage}
+use Rattle.session_ends.specs.declared.stage.Stage.TheVariants.{Connecting, Connected, Closing}
+use Rattle.session_ends.specs.declared.stage.Stage.TheVariants.{Closed, Failed, Broken}
 use Rattle.session_store.specs.Changes.{ChangesAt}
 use Rattle.session_store.specs.Leaving.{ChangesCalls}
-use Rattle.session_store.specs.Joined.{joined, shown_with, undue}
+use Rattle.session_ends.specs.Joined.{joined}
+use Rattle.session_store.specs.Joined.{shown_with, undue}
 use Rattle.pacing_wheel.specs.Wheel.{Wheel}
 use Rattle.session_store.proofs.ChangesLemmas.{changes-calls}
 use Rattle.session_store.proofs.UndueLemmas.{flat}
-use Rattle.client_core.specs.Effects.{Waits}
-use Rattle.session_store.specs.Effects.{SideWaits, asking_in}
+use Rattle.session_ends.specs.Effects.{SideWaits}
+use Rattle.session_store.specs.Effects.{asking_in}
 use Rattle.session_store.specs.Ends.{shown_end}
-use Rattle.session_store.specs.Sides.{HasSlots, IsOf, IsOfOwner, IsOfSide, Kept, Shown, SideAscends}
-use Rattle.session_store.specs.Sides.{places_in, served_places, SideKept, SideQueued, shown_of}
-use Rattle.session_store.specs.Sides.{shown_side}
+use Rattle.session_store.specs.Sides.{HasSlots, IsOf, IsOfOwner, Kept, Shown, SideAscends}
+use Rattle.session_store.specs.Sides.{places_in, served_places, SideQueued, shown_of, shown_side}
+use Rattle.session_store.specs.Sides.{side_handed}
+use Rattle.session_ends.specs.Sides.{IsOfSide, SideKept}
 use Rattle.client_core.specs.Handing.{handed_waiting}
 use Rattle.session_store.specs.Handing.{HandsInAt}
-use Rattle.session_store.specs.Sides.{side_handed}
 use Rattle.session_store.proofs.EndLemmas.{Steps, ask-steps, calls-end}
 use Rattle.session_store.proofs.KeptLemmas.{ClientActs, client-kept, clients-set, handed-set}
-use Rattle.session_store.proofs.ListLemmas.{sum-set}
+use Rattle.session_ends.proofs.ListLemmas.{sum-set}
 use Rattle.session_store.proofs.StandLemmas.{stands-all}
 
 -- a session that is connected is there, not broken, and has turns left
@@ -162,14 +163,6 @@ module _ (pool : Pool) (sides : List Side) (servers : List Serving) (tx : Ring E
       → OnOk r (ChangesAt i (asks (asking_in w)) seen.clients (map (shown_side pool) now))
   clients-ask w now (Ok u) kept above h = asked-clients w now kept above h
   clients-ask w now (Err e) kept above h = tt
-
-pub side-waits : {E : Type 0} (i : ℕ) (w : Waiting) (sides : List Side) (side : Side)
-    (later : Session) → slice_get sides i ≡ Some side → (r : Result (Unit {0}) E)
-    → OnOk r (Waits w side.session later)
-    → OnOk r (SideWaits i w sides (slice_set sides i (record side { session = later })))
-side-waits i w sides side later at (Ok u) waits =
-    record { side = side; at = at; later = later; step = waits; changed = refl }
-side-waits i w sides side later at (Err e) waits = tt
 
 -- one session more
 get-front : {A : Type 0} (xs : List A) (y x : A) (j : ℕ) → slice_get xs j ≡ Some x

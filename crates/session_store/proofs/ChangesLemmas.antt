@@ -11,9 +11,10 @@ use Rattle.rpc_laws.specs.declared.tables.Client.{Client}
 use Rattle.rpc_laws.specs.declared.tables.Queued.{Queued}
 use Rattle.server_core.specs.Session.{Session as Serving}
 use Rattle.server_core.specs.Shown.{shown as shown_server}
-use Rattle.session_store.specs.declared.side.Side.{Side}
+use Rattle.session_ends.specs.declared.side.Side.{Side}
 use Rattle.session_store.specs.Leaving.{ChangesCalls, ChangesClients, ChangesQueue}
-use Rattle.session_store.specs.Joined.{queue_of, shown_with}
+use Rattle.session_ends.specs.Joined.{queue_of}
+use Rattle.session_store.specs.Joined.{shown_with}
 use Rattle.session_store.specs.Sides.{Shown, places_in, served_places, shown_side, side_handed}
 
 -- references are no part of what is seen of server sessions

@@ -8,7 +8,7 @@ use Rattle.packet_rings.specs.Entries.{is_reply as is_reply_entry, is_reply_owne
 use Rattle.packet_rings.specs.Values.{EntryValue}
 use Rattle.rpc_laws.specs.declared.tables.Queued.{Queued}
 use Rattle.rpc_laws.specs.Queues.{is_reply, replies}
-use Rattle.session_store.specs.Sides.{queued_of}
+use Rattle.session_ends.specs.Joined.{queued_of}
 
 same-reply : (o : Owner) → is_reply o ≡ is_reply_owner o
 same-reply (Ask s r) = refl

@@ -39,9 +39,9 @@ use Rattle.client_core.specs.Shown.{end_event, ending_facts, posted_event as eve
 use Rattle.client_core.specs.Shown.{sent_event, shown, shown_active, shown_waiting, stepped, took}
 use Rattle.client_core.specs.Timeouts.{is_late as is_active_late, is_numbered}
 use Rattle.client_core.proofs.ShownLemmas.{found-shown, none-shown}
-use Rattle.session_store.specs.declared.stage.Stage.{Stage}
-use Rattle.session_store.specs.declared.stage.Stage.TheVariants.{Connecting, Connected, Closing, Closed}
-use Rattle.session_store.specs.declared.stage.Stage.TheVariants.{Failed, Broken}
+use Rattle.session_ends.specs.declared.stage.Stage.{Stage}
+use Rattle.session_ends.specs.declared.stage.Stage.TheVariants.{Connecting, Connected, Closing}
+use Rattle.session_ends.specs.declared.stage.Stage.TheVariants.{Closed, Failed, Broken}
 use Rattle.session_store.specs.Ends.{Ascends, begun_event, is_above, is_late, next_above}
 use Rattle.session_store.specs.Ends.{posted_event, shown_end, told_call}
 use Rattle.session_store.proofs.AscendsLemmas.{ascends-before, ascends-changed, ascends-end}

@@ -1,12 +1,11 @@
 -- A server session ends, of which no reply is queued: what always holds of a store holds then.
-use Rattle.std.proofs.Common.{◌≡◌, ℕ, zero, suc, ◌+◌, ◌%◌, ◌≤◌, ◌<◌, Bool, true, false, ◌||◌, eqb}
-use Rattle.std.proofs.Common.{Option, Some, None, List, [], ◌∷◌, length, refl, sym, ap, subst, ◌∙◌}
-use Rattle.std.proofs.Common.{inl, inr, arith, get_or}
-use Rattle.std.specs.Prelude.{IfSome, IsTrue, map, option_map, position, slice_get, slice_set, sum_by}
+use Rattle.std.proofs.Common.{◌≡◌, ℕ, zero, suc, ◌+◌, ◌%◌, ◌<◌, Bool, true, false, eqb, Option}
+use Rattle.std.proofs.Common.{Some, None, List, [], ◌∷◌, length, refl, sym, ap, subst, ◌∙◌, inl}
+use Rattle.std.proofs.Common.{inr, arith, get_or}
+use Rattle.std.specs.Prelude.{IfSome, IsTrue, map, option_map, position, slice_get, slice_set}
 use Rattle.std.specs.List.{AllByRecursion, find, list_any, position_or_len, remove}
 use Rattle.std.proofs.lemmas.List.{length-map}
 use Rattle.std.proofs.lemmas.Bool.{cases_eq, eq-eqb, ne_eqb}
-use Rattle.std.proofs.lemmas.List.Sums.{sum_by-cons}
 use Rattle.rpc_base.specs.Owners.{same_owner}
 use Rattle.rpc_base.specs.Tables.{without_first}
 use Rattle.rpc_base.proofs.BasicLemmas.{or-false}
@@ -26,26 +25,26 @@ use Rattle.client_core.proofs.ShownLemmas.{found-shown}
 use Rattle.server_core.specs.Flushing.{HoldsReplies, is_reply_of, named_by}
 use Rattle.server_core.specs.KeepsPool.{names as slot_names, places as slot_places}
 use Rattle.server_core.specs.Serving.{IsUnheld}
-use Rattle.server_core.specs.Session.{Session as Serving, answer_of, is_in_slot, owner_in}
-use Rattle.server_core.specs.Session.{owner_of}
+use Rattle.server_core.specs.Session.{Session as Serving, answer_of, is_in_slot, owner_in, owner_of}
 use Rattle.server_core.specs.Shown.{shown as shown_server, shown_request}
 use Rattle.server_core.specs.declared.slot.SlotRequest.{SlotRequest}
 use Rattle.server_core.specs.declared.slot.Stored.{Stored}
-use Rattle.session_store.specs.declared.side.Side.{Side}
+use Rattle.session_ends.specs.declared.side.Side.{Side}
 use Rattle.session_store.specs.Changes.{IsDrained}
-use Rattle.session_store.specs.Queue.{is_owned}
+use Rattle.session_ends.specs.Joined.{is_owned, joined, queue_of, queued_of}
 use Rattle.server_core.specs.Replies.{is_owner}
-use Rattle.session_store.specs.Effects.{ServerEnds}
-use Rattle.session_store.specs.Joined.{joined, queue_of, shown_with}
-use Rattle.session_store.specs.Sides.{HasPlaces, IsOf, IsOfOwner, Kept, Rises, ServerHolds}
-use Rattle.session_store.specs.Sides.{ServerKept, ServerQueued, Shown, is_end}
-use Rattle.session_store.specs.Sides.{numbers_in, places_in, queued_of, served_places}
-use Rattle.session_store.specs.Sides.{ends_at, is_of_older, shown_side, side_handed}
-use Rattle.session_store.proofs.KeptLemmas.{ServerActs, clients-same, handed-same, server-acted, server-places}
-use Rattle.session_store.proofs.KeptLemmas.{servers-set}
-use Rattle.session_store.proofs.ListLemmas.{get-there}
+use Rattle.session_ends.specs.Effects.{ServerEnds}
+use Rattle.session_store.specs.Joined.{shown_with}
+use Rattle.session_store.specs.Sides.{HasPlaces, IsOf, IsOfOwner, Kept, ServerHolds, ServerQueued}
+use Rattle.session_store.specs.Sides.{Shown, is_end, places_in, served_places, shown_side}
+use Rattle.session_store.specs.Sides.{side_handed}
+use Rattle.session_ends.specs.Sides.{Rises, ServerKept, numbers_in, ends_at, is_of_older}
+use Rattle.session_store.proofs.KeptLemmas.{ServerActs, clients-same, handed-same, server-acted}
+use Rattle.session_store.proofs.KeptLemmas.{server-places, servers-set}
+use Rattle.session_ends.proofs.ListLemmas.{get-there, all-removed, any-removed, map-removed}
+use Rattle.session_ends.proofs.ListLemmas.{remove-set, sum-less, sum-removed}
 use Rattle.session_store.proofs.ReplyGoneLemmas.{position-seen}
-use Rattle.session_store.proofs.SearchLemmas.{found-at}
+use Rattle.session_ends.proofs.SearchLemmas.{found-at}
 use Rattle.session_store.proofs.StandLemmas.{ends-all}
 use Rattle.session_store.proofs.UndueLemmas.{any-undue, queue-undue}
 
@@ -54,50 +53,6 @@ eqb-turned a b = elim (cases_eq a b) [
   | inl same ↦ rw same refl
   | inr away ↦ ne_eqb a b away ∙ sym (ne_eqb b a (λ e. away (sym e)))
 ]
-
--- one element of a list is taken out
-module _ {A : Type 0} where
-  pub remove-set : (xs : List A) (i : ℕ) (y : A) → remove (slice_set xs i y) i ≡ remove xs i
-  remove-set [] i y = refl
-  remove-set (z ∷ zs) zero y = refl
-  remove-set (z ∷ zs) (suc i) y = ap (λ ws. z ∷ ws) (remove-set zs i y)
-
-  pub all-removed : (P : A → Type 0) (xs : List A) (i : ℕ) → AllByRecursion P xs
-      → AllByRecursion P (remove xs i)
-  all-removed P [] zero all = tt
-  all-removed P [] (suc i) all = tt
-  all-removed P (z ∷ zs) zero all = all.1
-  all-removed P (z ∷ zs) (suc i) all = (all.0, all-removed P zs i all.1)
-
-  pub sum-removed : (g : A → ℕ) (xs : List A) (i : ℕ) → sum_by g (remove xs i) ≤ sum_by g xs
-  sum-removed g [] zero = omega arith
-  sum-removed g [] (suc i) = omega arith
-  sum-removed g (z ∷ zs) zero = omega (arith, sum_by-cons g z zs)
-  sum-removed g (z ∷ zs) (suc i) =
-      omega (arith, sum_by-cons g z zs, sum_by-cons g z (remove zs i), sum-removed g zs i)
-
-  pub sum-less : (g : A → ℕ) (xs : List A) (i : ℕ) (x : A) → slice_get xs i ≡ Some x
-      → sum_by g (remove xs i) + g x ≡ sum_by g xs
-  sum-less g [] i x e = cc
-  sum-less g (z ∷ zs) zero x e =
-      let same : z ≡ x = cc in omega (arith, sum_by-cons g z zs, ap g same)
-  sum-less g (z ∷ zs) (suc i) x e =
-      omega (arith, sum_by-cons g z zs, sum_by-cons g z (remove zs i), sum-less g zs i x e)
-
-  pub any-removed : (p : A → Bool) (xs : List A) (i : ℕ) (x : A) → slice_get xs i ≡ Some x
-      → p x ≡ false → list_any p (remove xs i) ≡ list_any p xs
-  any-removed p [] i x e none = cc
-  any-removed p (z ∷ zs) zero x e none =
-      let same : z ≡ x = cc in
-      let no : p z ≡ false = ap p same ∙ none in rw no refl
-  any-removed p (z ∷ zs) (suc i) x e none = ap (λ b. p z || b) (any-removed p zs i x e none)
-
-pub map-removed : {A B : Type 0} (f : A → B) (xs : List A) (i : ℕ)
-    → map f (remove xs i) ≡ remove (map f xs) i
-map-removed f [] zero = refl
-map-removed f [] (suc i) = refl
-map-removed f (z ∷ zs) zero = refl
-map-removed f (z ∷ zs) (suc i) = ap (λ ws. f z ∷ ws) (map-removed f zs i)
 
 rises-removed : (ns : List ℕ) (i : ℕ) → Rises ns → Rises (remove ns i)
 rises-removed [] zero up = tt

@@ -23,18 +23,17 @@ use Rattle.server_core.specs.KeepsPool.{names as slot_names}
 use Rattle.server_core.specs.Session.{IsSession as IsServing, Session as Serving, newest}
 use Rattle.server_core.specs.Session.{new_session}
 use Rattle.server_core.specs.Shown.{shown as shown_server}
-use Rattle.session_store.specs.declared.side.Side.{Side}
+use Rattle.session_ends.specs.declared.side.Side.{Side}
 use Rattle.session_store.specs.Changes.{AnswersAt, FinishesAt, is_waited}
 use Rattle.session_store.specs.Effects.{ServerFinishes}
 use Rattle.server_core.specs.Finishing.{Finishes}
-use Rattle.session_store.specs.Sides.{HasPlaces, IsOf, IsOfOwner, Kept, Rises, ServerHolds}
-use Rattle.session_store.specs.Sides.{ServerKept, ServerQueued, is_end, numbers_in, places_in}
-use Rattle.session_store.specs.Sides.{served_places, shown_side}
-use Rattle.session_store.specs.Sides.{side_handed}
+use Rattle.session_store.specs.Sides.{HasPlaces, IsOf, IsOfOwner, Kept, ServerHolds, ServerQueued}
+use Rattle.session_store.specs.Sides.{is_end, places_in, served_places, shown_side, side_handed}
+use Rattle.session_ends.specs.Sides.{Rises, ServerKept, numbers_in}
 use Rattle.session_store.proofs.BesideLemmas.{rest-push}
 use Rattle.session_store.proofs.KeptLemmas.{ServerActs, clients-same, handed-same, server-acted}
 use Rattle.session_store.proofs.KeptLemmas.{server-places, servers-set}
-use Rattle.session_store.proofs.ListLemmas.{set-own}
+use Rattle.session_ends.proofs.ListLemmas.{set-own}
 use Rattle.session_store.proofs.ReplyGoneLemmas.{end-at}
 use Rattle.session_store.proofs.StandLemmas.{ends-all}
 use Rattle.rpc_base.proofs.BasicLemmas.{or-right}

@@ -7,19 +7,19 @@ use Rattle.rpc_base.specs.Least.{least}
 use Rattle.rpc_base.specs.declared.owner.Owner.{Owner}
 use Rattle.packet_rings.specs.Entries.{is_of, number_of}
 use Rattle.packet_rings.specs.Values.{EntryValue}
-use Rattle.session_store.specs.Queue.{is_owned, queued_number}
+use Rattle.session_ends.specs.Joined.{is_owned, queued_number, queued_of, joined, queue_of}
 use Rattle.rpc_base.specs.declared.owner.Owner.TheVariants.{Ask, Reply, Control}
 use Rattle.rpc_base.specs.Owners.{same_owner}
 use Rattle.std.proofs.lemmas.Bool.{and_parts, eqb-true}
 use Rattle.buffer_pool.specs.Pool.{Pool}
 use Rattle.packet_rings.specs.Rings.{Ring}
 use Rattle.server_core.specs.Session.{Session as Serving}
-use Rattle.session_store.specs.declared.side.Side.{Side}
-use Rattle.session_store.specs.Sides.{Kept, Shown, queued_of, shown_of, shown_side}
+use Rattle.session_ends.specs.declared.side.Side.{Side}
+use Rattle.session_store.specs.Sides.{Kept, Shown, shown_of, shown_side}
 use Rattle.pacing_wheel.specs.Wheel.{Wheel}
-use Rattle.session_store.specs.Joined.{joined, queue_of, without_due}
-use Rattle.session_store.proofs.LeastMapLemmas.{least-map}
-use Rattle.session_store.proofs.ListLemmas.{get-there}
+use Rattle.session_store.specs.Joined.{without_due}
+use Rattle.session_ends.proofs.LeastMapLemmas.{least-map}
+use Rattle.session_ends.proofs.ListLemmas.{get-there}
 use Rattle.session_store.proofs.UndueLemmas.{queue-undue}
 use Rattle.session_store.proofs.StandLemmas.{owner-is}
 

@@ -16,13 +16,14 @@ use Rattle.rpc_laws.specs.Pacing.{line}
 use Rattle.rpc_laws.specs.Queues.{is_due}
 use Rattle.rpc_laws.specs.declared.tables.Client.{Client}
 use Rattle.server_core.specs.Session.{Session as Serving}
-use Rattle.session_store.specs.declared.side.Side.{Side}
+use Rattle.session_ends.specs.declared.side.Side.{Side}
 use Rattle.session_store.specs.Queue.{IsFront, SendsFront, clients_sent, packet_in, peer_in}
 use Rattle.pacing_wheel.specs.Wheel.{Wheel}
 use Rattle.rpc_laws.specs.declared.tables.Queued.{Queued}
-use Rattle.session_store.specs.Joined.{is_some_due, joined, queue_of, shown_with, without_due}
+use Rattle.session_ends.specs.Joined.{is_some_due, joined, queue_of, queued_of}
+use Rattle.session_store.specs.Joined.{shown_with, without_due}
 use Rattle.session_store.proofs.UndueLemmas.{queue-undue}
-use Rattle.session_store.specs.Sides.{IsOf, IsOfOwner, Kept, Shown, queued_of, shown_of, shown_side}
+use Rattle.session_store.specs.Sides.{IsOf, IsOfOwner, Kept, Shown, shown_of, shown_side}
 use Rattle.session_store.proofs.GoneLemmas.{front-peer}
 use Rattle.session_store.proofs.ReplyGoneLemmas.{end-peer}
 

@@ -27,22 +27,22 @@ use Rattle.client_core.specs.Shown.{packet_of}
 use Rattle.client_core.proofs.CallsLemmas.{length-at_first}
 use Rattle.client_core.proofs.OutcomeLemmas.{active-found}
 use Rattle.server_core.specs.Session.{Session as Serving}
-use Rattle.session_store.specs.declared.side.Side.{Side}
+use Rattle.session_ends.specs.declared.side.Side.{Side}
 use Rattle.client_core.specs.Keeping.{LeavesEntry}
-use Rattle.session_store.specs.Effects.{SideFlushes, SideSends, SpellsIn}
-use Rattle.session_store.specs.declared.stage.Stage.{Stage}
-use Rattle.session_store.specs.declared.stage.Stage.TheVariants.{Connecting, Connected, Closing, Closed}
-use Rattle.session_store.specs.declared.stage.Stage.TheVariants.{Failed, Broken}
+use Rattle.session_ends.specs.Effects.{SideFlushes, SideSends, SpellsIn}
+use Rattle.session_ends.specs.declared.stage.Stage.{Stage}
+use Rattle.session_ends.specs.declared.stage.Stage.TheVariants.{Connecting, Connected, Closing}
+use Rattle.session_ends.specs.declared.stage.Stage.TheVariants.{Closed, Failed, Broken}
 use Rattle.session_store.specs.Ends.{shown_end}
 use Rattle.session_store.specs.Queue.{clients_sent, packet_in, peer_in}
-use Rattle.session_store.specs.Sides.{HasSlots, IsOf, IsOfSide, Kept, SideAscends, SideQueued}
-use Rattle.session_store.specs.Sides.{places_in, served_places, shown_of, shown_side}
-use Rattle.session_store.specs.Sides.{side_handed}
+use Rattle.session_store.specs.Sides.{HasSlots, IsOf, Kept, SideAscends, SideQueued, places_in}
+use Rattle.session_store.specs.Sides.{served_places, shown_of, shown_side, side_handed}
+use Rattle.session_ends.specs.Sides.{IsOfSide}
 use Rattle.session_store.proofs.BesideLemmas.{rest-taken}
 use Rattle.session_store.proofs.EndLemmas.{Steps, ask-end, same-owners, sends-one}
 use Rattle.session_store.proofs.KeptLemmas.{ClientActs, client-kept, client-places, clients-set}
 use Rattle.session_store.proofs.KeptLemmas.{handed-kept}
-use Rattle.session_store.proofs.ListLemmas.{set-own}
+use Rattle.session_ends.proofs.ListLemmas.{set-own}
 use Rattle.session_store.proofs.PostedLemmas.{spare-released}
 use Rattle.session_store.proofs.StandLemmas.{OfSide, all-taken, of-side, stands-all}
 use Rattle.session_store.proofs.StoreLemmas.{own-ask}

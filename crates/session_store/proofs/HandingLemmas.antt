@@ -7,7 +7,7 @@ use Rattle.session_slots.specs.declared.waiting.Waiting.{Waiting}
 use Rattle.client_core.specs.declared.call.ActiveCall.{ActiveCall}
 use Rattle.client_core.specs.Handing.{handed_active, handed_waiting}
 use Rattle.client_core.specs.Shown.{shown_active, shown_waiting}
-use Rattle.session_store.specs.declared.side.Side.{Side}
+use Rattle.session_ends.specs.declared.side.Side.{Side}
 use Rattle.session_store.specs.Handing.{AreOfCalls, asked_by, asked_in}
 use Rattle.session_store.specs.Sides.{shown_side, side_handed}
 use Rattle.session_store.proofs.EndLemmas.{calls-end}

@@ -46,11 +46,11 @@ use Rattle.server_core.specs.Session.{Session as Serving, answer_of, newest, own
 use Rattle.server_core.specs.Steps.{asked_with}
 use Rattle.server_core.specs.Shown.{shown as shown_server, shown_request}
 use Rattle.session_store.specs.Effects.{ServerStep}
-use Rattle.session_store.specs.Joined.{paced_of, put_ready}
-use Rattle.session_store.specs.Queue.{is_owned}
+use Rattle.session_ends.specs.Joined.{paced_of, is_owned, queued_of}
+use Rattle.session_store.specs.Joined.{put_ready}
 use Rattle.session_store.specs.Serving.{without_owned}
-use Rattle.session_store.specs.Sides.{ServerHolds, ServerQueued, queued_of}
-use Rattle.session_store.proofs.JoinLemmas.{queue-behind}
+use Rattle.session_store.specs.Sides.{ServerHolds, ServerQueued}
+use Rattle.session_ends.proofs.JoinLemmas.{queue-behind}
 use Rattle.session_store.proofs.ServeLemmas.{seen-after, served-same}
 
 -- a packet of a call is no reply to any request

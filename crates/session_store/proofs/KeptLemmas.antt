@@ -1,6 +1,6 @@
 -- What always holds of a store holds yet, once one of its sessions acted.
-use Rattle.std.proofs.Common.{◌≡◌, ◌≢◌, ℕ, zero, suc, ◌+◌, ◌*◌, ◌≤◌, ◌<◌, Bool, true, Some, List}
-use Rattle.std.proofs.Common.{[], ◌∷◌, length, refl, sym, ap, subst, ◌∙◌, inl, inr, arith}
+use Rattle.std.proofs.Common.{◌≡◌, ◌≢◌, ℕ, ◌+◌, ◌*◌, ◌≤◌, Bool, true, Some, List, [], ◌∷◌, length}
+use Rattle.std.proofs.Common.{refl, sym, ap, subst, ◌∙◌, inl, inr, arith}
 use Rattle.std.specs.Prelude.{map, slice_get, slice_set}
 use Rattle.std.specs.List.{AllByRecursion}
 use Rattle.std.proofs.lemmas.Bool.{cases_eq, cases_lt}
@@ -17,21 +17,22 @@ use Rattle.server_core.specs.Flushing.{is_reply_of}
 use Rattle.server_core.specs.KeepsPool.{names as slot_names, places as slot_places}
 use Rattle.server_core.specs.Session.{Session as Serving}
 use Rattle.server_core.specs.Shown.{shown as shown_server}
-use Rattle.session_store.specs.declared.side.Side.{Side}
+use Rattle.session_ends.specs.declared.side.Side.{Side}
 use Rattle.session_store.specs.Ends.{Ascends}
-use Rattle.session_store.specs.Sides.{HasPlaces, HasSlots, IsOf, Kept, Rises, ServerHolds}
-use Rattle.session_store.specs.Sides.{ServerKept, ServerQueued, SideAscends, SideKept, SideQueued}
-use Rattle.session_store.specs.Sides.{names_in, numbers_in, places_in, served_names, served_places}
-use Rattle.session_store.specs.Sides.{shown_side, side_handed}
+use Rattle.session_store.specs.Sides.{HasPlaces, HasSlots, IsOf, Kept, ServerHolds, ServerQueued}
+use Rattle.session_store.specs.Sides.{SideAscends, SideQueued, names_in, places_in, served_names}
+use Rattle.session_store.specs.Sides.{served_places, shown_side, side_handed}
+use Rattle.session_ends.specs.Sides.{Rises, ServerKept, SideKept, numbers_in}
 use Rattle.session_store.proofs.ActLemmas.{Acts, apart-then, server-holds, server-kept}
 use Rattle.session_store.proofs.ActLemmas.{server-queued, server-shown, side-kept, side-queued}
 use Rattle.session_store.proofs.ActLemmas.{side-handed, side-shown}
 use Rattle.session_store.proofs.BesideLemmas.{ask-no-reply, ask-other, ask-replies, reply-asks}
 use Rattle.session_store.proofs.BesideLemmas.{reply-no-reply, reply-other}
-use Rattle.session_store.proofs.ListLemmas.{all-from, all-set}
-use Rattle.session_store.proofs.ListLemmas.{map-kept, map-same, map-set, set-own, sum-one, sum-set, sum-two}
+use Rattle.session_ends.proofs.ListLemmas.{all-from, all-set, map-kept, map-same, map-set, set-own}
+use Rattle.session_ends.proofs.ListLemmas.{sum-one, sum-set, sum-two}
 use Rattle.session_store.proofs.PlaceLemmas.{named-full, served-full}
 use Rattle.server_core.proofs.HoldLemmas.{full-not-empty}
+use Rattle.session_ends.proofs.SearchLemmas.{rises-apart}
 
 -- no session names an empty place
 sides-empty : (pool : Pool) (p : ℕ) (sides : List Side) → AllByRecursion (SideKept pool) sides
@@ -60,25 +61,6 @@ servers-empty pool p (v ∷ vs) keeps empty = elim (cases_lt 0 (slot_names p v.s
     none,
   )
 ]
-
--- numbers that rise differ
-pub rises-later : (n : ℕ) (ns : List ℕ) (j m : ℕ) → AllByRecursion (λ x. n < x) ns
-    → slice_get ns j ≡ Some m → n < m
-rises-later n ns j m all e = all-at (λ x. n < x) ns j m all e
-
-pub rises-apart : (ns : List ℕ) (i j n m : ℕ) → Rises ns → slice_get ns i ≡ Some n
-    → slice_get ns j ≡ Some m → j ≢ i → m ≢ n
-rises-apart [] i j n m up e d other = cc
-rises-apart (k ∷ ks) zero zero n m up e d other = absurd (other refl)
-rises-apart (k ∷ ks) zero (suc j) n m up e d other =
-    let same : k ≡ n = cc in
-    let more = rises-later k ks j m up.0 d in
-    λ t. absurd (omega (arith, more, same, t))
-rises-apart (k ∷ ks) (suc i) zero n m up e d other =
-    let same : k ≡ m = cc in
-    let more = rises-later k ks i n up.0 e in
-    λ t. absurd (omega (arith, more, same, t))
-rises-apart (k ∷ ks) (suc i) (suc j) n m up e d other = rises-apart ks i j n m up.1 e d (λ t. other (ap suc t))
 
 -- the number of a session that changed is its place
 pub numbered-set : (sides : List Side) (i : ℕ) (side later : Side) → slice_get sides i ≡ Some side

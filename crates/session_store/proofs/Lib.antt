@@ -8,9 +8,6 @@ mod GoneLemmas
 mod KeptLemmas
 mod HandingLemmas
 pub mod CountLemmas
-pub mod ListLemmas
-mod LeastMapLemmas
-mod JoinLemmas
 mod PutLemmas
 mod UndueLemmas
 mod HandledLemmas
@@ -31,11 +28,9 @@ mod RollLemmas
 mod LoseLemmas
 mod MovedLemmas
 mod FinishLemmas
-mod SearchLemmas
 pub mod ServeLemmas
 mod ReadLemmas
 mod NewestLemmas
 mod ShareLemmas
-mod EndOrderLemmas
 mod WayLemmas
 mod RoomLemmas

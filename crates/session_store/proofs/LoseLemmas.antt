@@ -40,27 +40,26 @@ use Rattle.server_core.specs.KeepsPool.{names as slot_names}
 use Rattle.server_core.specs.Replies.{request_of}
 use Rattle.server_core.specs.Session.{Session as Serving}
 use Rattle.server_core.specs.Shown.{shown as shown_server}
-use Rattle.session_store.specs.declared.side.Side.{Side}
-use Rattle.session_store.specs.declared.stage.Stage.{Stage}
-use Rattle.session_store.specs.declared.stage.Stage.TheVariants.{Connecting, Connected, Closing, Closed}
-use Rattle.session_store.specs.declared.stage.Stage.TheVariants.{Failed, Broken}
+use Rattle.session_ends.specs.declared.side.Side.{Side}
+use Rattle.session_ends.specs.declared.stage.Stage.{Stage}
+use Rattle.session_ends.specs.declared.stage.Stage.TheVariants.{Connecting, Connected, Closing}
+use Rattle.session_ends.specs.declared.stage.Stage.TheVariants.{Closed, Failed, Broken}
 use Rattle.session_store.specs.Changes.{ActiveAt, ChangesAt, IsConnected, IsIdle, IsLost, LosesAt}
-use Rattle.session_store.specs.Changes.{RowAt}
-use Rattle.session_store.specs.Changes.{calls_in, first_number}
+use Rattle.session_store.specs.Changes.{RowAt, calls_in, first_number}
 use Rattle.client_core.specs.Effects.{LosesNext}
-use Rattle.session_store.specs.Effects.{SideLoses}
+use Rattle.session_ends.specs.Effects.{SideLoses}
 use Rattle.session_store.specs.Ends.{progress_of, shown_end}
-use Rattle.session_store.specs.Sides.{HasSlots, IsOf, IsOfOwner, IsOfSide, Kept, ServerHolds, Shown}
-use Rattle.session_store.specs.Sides.{SideAscends, SideKept, SideQueued, places_in, queued_of}
-use Rattle.session_store.specs.Sides.{served_places, shown_of, shown_side}
+use Rattle.session_store.specs.Sides.{HasSlots, IsOf, IsOfOwner, Kept, ServerHolds, Shown}
+use Rattle.session_store.specs.Sides.{SideAscends, SideQueued, places_in, served_places, shown_of}
+use Rattle.session_store.specs.Sides.{shown_side, side_handed}
+use Rattle.session_ends.specs.Sides.{IsOfSide, SideKept}
+use Rattle.session_ends.specs.Joined.{queued_of}
 use Rattle.client_core.specs.Handing.{HandsBack}
 use Rattle.session_store.specs.Handing.{HandsBackIf}
-use Rattle.session_store.specs.Sides.{side_handed}
 use Rattle.session_store.proofs.EndLemmas.{calls-end}
 use Rattle.session_store.proofs.KeptLemmas.{ClientActs, client-kept, client-places, clients-set}
-use Rattle.session_store.proofs.KeptLemmas.{handed-kept, handed-set}
-use Rattle.session_store.proofs.KeptLemmas.{servers-same}
-use Rattle.session_store.proofs.ListLemmas.{set-own, sum-one, sum-two}
+use Rattle.session_store.proofs.KeptLemmas.{handed-kept, handed-set, servers-same}
+use Rattle.session_ends.proofs.ListLemmas.{set-own, sum-one, sum-two}
 use Rattle.session_store.proofs.PlaceLemmas.{names-ask, names-later}
 use Rattle.session_store.proofs.ReplyGoneLemmas.{end-at, named-cases, reply-stands}
 use Rattle.session_store.proofs.ReplyLemmas.{Spends, ended-spends}

@@ -18,19 +18,21 @@ use Rattle.rpc_laws.specs.declared.tables.Client.{Client}
 use Rattle.client_core.specs.Session.{Session}
 use Rattle.client_core.specs.Shown.{shown_active, shown_waiting}
 use Rattle.server_core.specs.Session.{Session as Serving}
-use Rattle.session_store.specs.declared.side.Side.{Side}
-use Rattle.session_store.specs.declared.stage.Stage.{Stage}
-use Rattle.session_store.specs.declared.stage.Stage.TheVariants.{Connecting, Connected, Closing}
-use Rattle.session_store.specs.declared.stage.Stage.TheVariants.{Closed, Failed, Broken}
-use Rattle.session_store.specs.Changes.{ChangesAt, HasNoCalls, HasRequest, IsConnected}
-use Rattle.session_store.specs.Changes.{IsInState, has_request, sent_again}
+use Rattle.session_ends.specs.declared.side.Side.{Side}
+use Rattle.session_ends.specs.declared.stage.Stage.{Stage}
+use Rattle.session_ends.specs.declared.stage.Stage.TheVariants.{Connecting, Connected, Closing}
+use Rattle.session_ends.specs.declared.stage.Stage.TheVariants.{Closed, Failed, Broken}
+use Rattle.session_store.specs.Changes.{ChangesAt, HasNoCalls, HasRequest, IsConnected, IsInState}
+use Rattle.session_store.specs.Changes.{has_request, sent_again}
 use Rattle.session_store.specs.Ends.{shown_end}
-use Rattle.session_store.specs.Sides.{HasSlots, IsOf, IsOfOwner, IsOfSide, Kept, Shown, SideAscends}
-use Rattle.session_store.specs.Sides.{SideKept, SideQueued, places_in, served_places, shown_of}
-use Rattle.session_store.specs.Sides.{shown_side, side_handed}
-use Rattle.session_store.specs.Stages.{asked, sends_at}
+use Rattle.session_store.specs.Sides.{HasSlots, IsOf, IsOfOwner, Kept, Shown, SideAscends}
+use Rattle.session_store.specs.Sides.{SideQueued, places_in, served_places, shown_of, shown_side}
+use Rattle.session_store.specs.Sides.{side_handed}
+use Rattle.session_ends.specs.Sides.{IsOfSide, SideKept}
+use Rattle.session_ends.specs.Stages.{asked, sends_at}
 use Rattle.session_store.proofs.EndLemmas.{calls-end}
-use Rattle.session_store.proofs.KeptLemmas.{ClientActs, client-kept, client-places, clients-set, handed-kept}
+use Rattle.session_store.proofs.KeptLemmas.{ClientActs, client-kept, client-places, clients-set}
+use Rattle.session_store.proofs.KeptLemmas.{handed-kept}
 use Rattle.session_store.proofs.LoseLemmas.{stands-idle}
 use Rattle.session_store.proofs.RollLemmas.{at-connected}
 

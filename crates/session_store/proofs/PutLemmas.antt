@@ -18,7 +18,7 @@ use Rattle.server_core.specs.Flushing.{HoldsReplies, named_by}
 use Rattle.server_core.specs.declared.slot.SlotRequest.{SlotRequest}
 use Rattle.server_core.specs.declared.slot.Stored.{Stored}
 use Rattle.server_core.specs.Session.{Session as Serving, answer_of, owner_of}
-use Rattle.session_store.specs.declared.side.Side.{Side}
+use Rattle.session_ends.specs.declared.side.Side.{Side}
 use Rattle.session_store.specs.Sides.{IsOf, Kept, ServerHolds}
 
 module _ (e : EntryValue) (old new : List EntryValue)

@@ -1,7 +1,7 @@
 -- What a reply that leaves the ring does to its server session, to the pool and to all that always holds.
 use Rattle.std.proofs.Common.{◌≡◌, ◌≢◌, ℕ, zero, suc, ◌+◌, ◌-◌, ◌≤◌, ◌<◌, Bool, true, false, ◌||◌}
-use Rattle.std.proofs.Common.{cond, eqb, ltb, Option, Some, None, List, [], ◌∷◌, length, drop}
-use Rattle.std.proofs.Common.{get_or, refl, sym, ap, subst, ◌∙◌, inl, inr, arith}
+use Rattle.std.proofs.Common.{cond, eqb, ltb, Option, Some, None, List, [], ◌∷◌, length, drop, refl}
+use Rattle.std.proofs.Common.{sym, ap, subst, ◌∙◌, inl, inr, arith}
 use Rattle.std.specs.Prelude.{IsTrue, map, option_map, position, slice_get, slice_set}
 use Rattle.std.specs.List.{AllByRecursion, find, list_any, position_or_len}
 use Rattle.std.proofs.lemmas.List.{length-map}
@@ -13,7 +13,7 @@ use Rattle.rpc_base.specs.declared.owner.Owner.{Owner}
 use Rattle.rpc_base.specs.declared.owner.Owner.TheVariants.{Reply}
 use Rattle.rpc_base.proofs.FindLemmas.{missing-none}
 use Rattle.rpc_base.proofs.FirstLemmas.{found-holds, found-le}
-use Rattle.rpc_base.proofs.TablesLemmas.{any-missing, find-found, find-missing, position-at}
+use Rattle.rpc_base.proofs.TablesLemmas.{any-missing, position-at}
 use Rattle.rpc_base.proofs.TakingLemmas.{find-passes, taken-fewer}
 use Rattle.rpc_base.proofs.PlaceLemmas.{all-at, get-map}
 use Rattle.buffer_pool.specs.Places.{IsHeld, released_at}
@@ -40,18 +40,19 @@ use Rattle.server_core.specs.Replies.{request_of}
 use Rattle.server_core.specs.Serving.{one_left}
 use Rattle.server_core.specs.Session.{Session as Serving, answer_of, owner_of}
 use Rattle.server_core.specs.Shown.{shown as shown_server}
-use Rattle.session_store.specs.declared.side.Side.{Side}
-use Rattle.session_store.specs.Effects.{ServerGone, ServerSpells, SpellsReply}
+use Rattle.session_ends.specs.declared.side.Side.{Side}
+use Rattle.session_ends.specs.Effects.{ServerGone, ServerSpells, SpellsReply}
 use Rattle.session_store.specs.Queue.{packet_in, peer_in}
-use Rattle.session_store.specs.Sides.{HasPlaces, HasReply, IsOf, IsOfOwner, IsOfServer, Kept}
-use Rattle.session_store.specs.Sides.{ServerHolds, ServerQueued, has_number, is_end, numbers_in}
-use Rattle.session_store.specs.Sides.{places_in, served_places, shown_of, shown_side}
+use Rattle.session_store.specs.Sides.{HasPlaces, IsOf, IsOfOwner, Kept, ServerHolds, ServerQueued}
+use Rattle.session_store.specs.Sides.{is_end, places_in, served_places, shown_of, shown_side}
 use Rattle.session_store.specs.Sides.{side_handed}
+use Rattle.session_ends.specs.Sides.{HasReply, IsOfServer, has_number, numbers_in}
 use Rattle.session_store.proofs.BesideLemmas.{rest-taken}
 use Rattle.session_store.proofs.GoneLemmas.{find-map}
-use Rattle.session_store.proofs.KeptLemmas.{ServerActs, clients-same, handed-same, rises-apart, server-acted}
+use Rattle.session_store.proofs.KeptLemmas.{ServerActs, clients-same, handed-same, server-acted}
 use Rattle.session_store.proofs.KeptLemmas.{server-places, servers-set}
-use Rattle.session_store.proofs.ListLemmas.{find-there, get-there, set-own}
+use Rattle.session_ends.proofs.SearchLemmas.{rises-apart, first-found, first-number}
+use Rattle.session_ends.proofs.ListLemmas.{find-there, set-own}
 use Rattle.session_store.proofs.PostedLemmas.{spare-released}
 use Rattle.session_store.proofs.StandLemmas.{all-taken, ends-all, front-taken}
 use Rattle.client_core.proofs.OthersLemmas.{released-buf}
@@ -111,16 +112,6 @@ module _ (pool : Pool) (sides : List Side) (servers : List Serving) (tx : Ring E
     | inl same ↦ (let is : Some w ≡ Some v = sym there ∙ ap (λ n. slice_get servers n) same ∙ at in cc)
     | inr other ↦ absurd (others j w there other its)
   ]
-
--- the first with its number
-module _ (servers : List Serving) (number i : ℕ) (v : Serving)
-    (first : position (has_number number) servers ≡ Some i)
-    (at : slice_get servers i ≡ Some v) where
-  pub first-found : find (has_number number) servers ≡ Some v
-  first-found = find-found (has_number number) servers i first ∙ at
-
-  pub first-number : v.number ≡ number
-  first-number = eqb-true v.number number (find-passes (has_number number) servers v first-found)
 
 -- a reply that the ring has is one of its session's
 own-request : (n r : ℕ) (q : SlotRequest) (o : Owner) → o ≡ Reply n r → is_owner n o q ≡ true
@@ -237,31 +228,6 @@ module _ (pool after : Pool) (sides : List Side) (servers now : List Serving) (t
           there (Some v) at =
               let found = first-found servers number i v first at in
               subst (IsOfServer e) (sym found) (reply-of-end i v at (first-number servers number i v first at))
-
--- the session is looked for by its number
-pub no-first : (number : ℕ) (e : EntryValue) (servers : List Serving) → HasReply number e servers
-    → position (has_number number) servers ≡ None → ⊥
-no-first number e servers h none = subst (IsOfServer e) (find-missing (has_number number) servers none) h
-
-pub first-at : (number : ℕ) (servers : List Serving) (i : ℕ) (x : Serving)
-    → position (has_number number) servers ≡ Some i → x ≡ get_or servers i x
-    → slice_get servers i ≡ Some x
-first-at number servers i x first looked =
-    get-there servers i x (position-at (has_number number) servers i x first).0 looked
-
-pub first-reply : (number : ℕ) (e : EntryValue) (servers : List Serving) (i : ℕ) (x : Serving)
-    → position (has_number number) servers ≡ Some i → x ≡ get_or servers i x
-    → HasReply number e servers → IsReplyTo (request_of x e) e
-first-reply number e servers i x first looked h =
-    subst (IsOfServer e) (first-found servers number i x first (first-at number servers i x first looked)) h
-
-pub first-spells : (number : ℕ) (pool : Pool) (e : EntryValue) (head body : List ℕ)
-    (servers : List Serving) (i : ℕ) (x : Serving) → position (has_number number) servers ≡ Some i
-    → x ≡ get_or servers i x → IsSpelled (reply_of pool x e) head body
-    → ServerSpells number pool e head body servers
-first-spells number pool e head body servers i x first looked h =
-    subst (SpellsReply pool e head body) (sym
-    (first-found servers number i x first (first-at number servers i x first looked))) h
 
 -- it left the ring
 module _ (pool after : Pool) (sides : List Side) (servers now : List Serving) (tx : Ring EntryValue)

@@ -42,23 +42,22 @@ use Rattle.client_core.proofs.CallsLemmas.{length-at_first}
 use Rattle.client_core.proofs.PlacesLemmas.{two-places}
 use Rattle.server_core.specs.Session.{Session as Serving}
 use Rattle.server_core.specs.Shown.{shown as shown_server}
-use Rattle.session_store.specs.declared.side.Side.{Side}
+use Rattle.session_ends.specs.declared.side.Side.{Side}
 use Rattle.client_core.specs.Effects.{RepliesTo}
-use Rattle.session_store.specs.Effects.{SideChanges}
+use Rattle.session_ends.specs.Effects.{SideChanges}
 use Rattle.session_store.specs.Hearing.{RepliesAt}
-use Rattle.session_store.specs.Stages.{is_connected}
-use Rattle.session_store.specs.declared.stage.Stage.TheVariants.{Connected}
-use Rattle.session_store.specs.Sides.{HasSlots, IsOf, Kept, Shown, SideAscends, SideKept}
-use Rattle.session_store.specs.Sides.{SideQueued, places_in, queued_of, served_places, shown_of}
-use Rattle.session_store.specs.Sides.{shown_side}
+use Rattle.session_ends.specs.Stages.{is_connected}
+use Rattle.session_ends.specs.declared.stage.Stage.TheVariants.{Connected}
+use Rattle.session_store.specs.Sides.{HasSlots, IsOf, Kept, Shown, SideAscends, SideQueued}
+use Rattle.session_store.specs.Sides.{places_in, served_places, shown_of, shown_side, side_handed}
+use Rattle.session_ends.specs.Sides.{SideKept}
+use Rattle.session_ends.specs.Joined.{queued_of}
 use Rattle.client_core.specs.Handing.{HandsBack, HandsBackBy}
 use Rattle.session_store.specs.Handing.{HandsBackIf, ended_by}
-use Rattle.session_store.specs.Sides.{side_handed}
 use Rattle.session_store.proofs.EndLemmas.{Replied, facts-end, reply-steps}
 use Rattle.session_store.proofs.KeptLemmas.{ClientActs, client-kept, client-places, clients-set}
-use Rattle.session_store.proofs.KeptLemmas.{handed-kept, handed-set}
-use Rattle.session_store.proofs.KeptLemmas.{servers-same}
-use Rattle.session_store.proofs.ListLemmas.{set-own}
+use Rattle.session_store.proofs.KeptLemmas.{handed-kept, handed-set, servers-same}
+use Rattle.session_ends.proofs.ListLemmas.{set-own}
 use Rattle.session_store.proofs.StageLemmas.{stage-state}
 use Rattle.session_store.proofs.StandLemmas.{stands-all, stands-but}
 use Rattle.session_store.proofs.UnheldLemmas.{entry-queued, next-unheld, none-queued}

@@ -28,17 +28,17 @@ use Rattle.client_core.specs.Timeouts.{call_numbered, is_numbered, rolled_call}
 use Rattle.client_core.proofs.CallsLemmas.{length-at_first}
 use Rattle.client_core.proofs.ShownLemmas.{found-shown}
 use Rattle.server_core.specs.Session.{Session as Serving}
-use Rattle.session_store.specs.declared.side.Side.{Side}
-use Rattle.session_store.specs.declared.stage.Stage.{Stage}
-use Rattle.session_store.specs.declared.stage.Stage.TheVariants.{Connecting, Connected, Closing, Closed}
-use Rattle.session_store.specs.declared.stage.Stage.TheVariants.{Failed, Broken}
+use Rattle.session_ends.specs.declared.side.Side.{Side}
+use Rattle.session_ends.specs.declared.stage.Stage.{Stage}
+use Rattle.session_ends.specs.declared.stage.Stage.TheVariants.{Connecting, Connected, Closing}
+use Rattle.session_ends.specs.declared.stage.Stage.TheVariants.{Closed, Failed, Broken}
 use Rattle.session_store.specs.Changes.{MayRoll, RollsAt}
-use Rattle.session_store.specs.Effects.{SideRolls}
+use Rattle.session_ends.specs.Effects.{SideRolls}
 use Rattle.session_store.specs.Ends.{progress_of, shown_end}
-use Rattle.session_store.specs.Queue.{is_owned}
-use Rattle.session_store.specs.Sides.{HasSlots, Kept, Shown, SideAscends, SideKept, SideQueued}
-use Rattle.session_store.specs.Sides.{places_in, queued_of, served_places, shown_of, shown_side}
-use Rattle.session_store.specs.Sides.{side_handed}
+use Rattle.session_ends.specs.Joined.{is_owned, queued_of}
+use Rattle.session_store.specs.Sides.{HasSlots, Kept, Shown, SideAscends, SideQueued, places_in}
+use Rattle.session_store.specs.Sides.{served_places, shown_of, shown_side, side_handed}
+use Rattle.session_ends.specs.Sides.{SideKept}
 use Rattle.session_store.proofs.EndLemmas.{calls-end}
 use Rattle.session_store.proofs.KeptLemmas.{ClientActs, client-kept, client-places, clients-set}
 use Rattle.session_store.proofs.KeptLemmas.{handed-kept}

@@ -54,20 +54,19 @@ use Rattle.server_core.specs.Shown.{shown as shown_server, shown_request}
 use Rattle.server_core.specs.Steps.{AreServed, IfReply, IsReply, IsStepOf, asked_with}
 use Rattle.server_core.proofs.FlushLemmas.{ring-room}
 use Rattle.server_core.proofs.SpareLemmas.{places-most}
-use Rattle.session_store.specs.declared.side.Side.{Side}
+use Rattle.session_ends.specs.declared.side.Side.{Side}
 use Rattle.session_store.specs.Effects.{ServerStep}
 use Rattle.session_store.specs.Joined.{put_ready}
-use Rattle.session_store.specs.Queue.{is_owned}
-use Rattle.session_store.specs.Serving.{AreServedAt, HandlesAt, IsReplyOf, handled_facts}
-use Rattle.session_store.specs.Serving.{in_store, queue_handled, row_at, without_owned}
+use Rattle.session_ends.specs.Joined.{is_owned, queued_of}
+use Rattle.session_store.specs.Serving.{AreServedAt, HandlesAt, IsReplyOf, handled_facts, in_store}
+use Rattle.session_store.specs.Serving.{queue_handled, row_at, without_owned}
 use Rattle.session_store.specs.Sides.{IsOf, Kept, ServerHolds, ServerQueued, Shown, places_in}
-use Rattle.session_store.specs.Sides.{queued_of, served_places, shown_of, shown_side}
-use Rattle.session_store.specs.Sides.{side_handed}
+use Rattle.session_store.specs.Sides.{served_places, shown_of, shown_side, side_handed}
 use Rattle.session_store.proofs.BesideLemmas.{rest, rest-push}
 use Rattle.session_store.proofs.FinishLemmas.{new-stands, own-reply}
 use Rattle.session_store.proofs.KeptLemmas.{ServerActs, clients-same, handed-same, server-acted}
 use Rattle.session_store.proofs.KeptLemmas.{server-places, servers-set}
-use Rattle.session_store.proofs.ListLemmas.{all-from, get-there}
+use Rattle.session_ends.proofs.ListLemmas.{all-from, get-there}
 use Rattle.session_store.proofs.StandLemmas.{ends-all}
 use Rattle.server_core.proofs.NoteLemmas.{way-of}
 

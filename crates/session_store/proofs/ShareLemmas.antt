@@ -42,23 +42,23 @@ use Rattle.server_core.specs.declared.step.Step.{Step}
 use Rattle.server_core.specs.declared.step.Step.TheVariants.{Took as TookStep, Again, Ran, Give}
 use Rattle.server_core.specs.declared.step.Step.TheVariants.{Dropped as DroppedStep}
 use Rattle.server_core.specs.Shown.{shown as shown_server}
-use Rattle.session_store.specs.declared.side.Side.{Side}
-use Rattle.session_store.specs.declared.stage.Stage.{Stage}
-use Rattle.session_store.specs.declared.stage.Stage.TheVariants.{Connecting, Connected, Closing}
-use Rattle.session_store.specs.declared.stage.Stage.TheVariants.{Closed, Failed, Broken}
+use Rattle.session_ends.specs.declared.side.Side.{Side}
+use Rattle.session_ends.specs.declared.stage.Stage.{Stage}
+use Rattle.session_ends.specs.declared.stage.Stage.TheVariants.{Connecting, Connected, Closing}
+use Rattle.session_ends.specs.declared.stage.Stage.TheVariants.{Closed, Failed, Broken}
 use Rattle.session_store.specs.Changes.{BeginsAt, ChangesAt, HasRequest, IsConnected, IsInState}
-use Rattle.session_store.specs.Changes.{has_request}
-use Rattle.session_store.specs.Changes.{LosesAt, PostsAt, RollsAt}
-use Rattle.session_store.specs.Effects.{ServerFinishes, ServerGone}
+use Rattle.session_store.specs.Changes.{has_request, LosesAt, PostsAt, RollsAt}
+use Rattle.session_store.specs.Effects.{ServerFinishes}
+use Rattle.session_ends.specs.Effects.{ServerGone}
 use Rattle.session_store.specs.Ends.{shown_end}
 use Rattle.session_store.specs.Hearing.{RepliesAt}
 use Rattle.session_store.specs.Queue.{clients_sent}
 use Rattle.session_store.specs.Joined.{shown_with}
-use Rattle.session_store.specs.Sides.{CountsShares, Rises, Shown, numbers_in, shown_side}
-use Rattle.session_store.specs.Stages.{asked}
-use Rattle.session_store.proofs.EndingLemmas.{all-removed, map-removed, sum-less}
-use Rattle.session_store.proofs.ListLemmas.{all-from, all-set, map-kept, map-set}
-use Rattle.session_store.proofs.ListLemmas.{sum-one, sum-set}
+use Rattle.session_store.specs.Sides.{CountsShares, Shown, shown_side}
+use Rattle.session_ends.specs.Sides.{Rises, numbers_in}
+use Rattle.session_ends.specs.Stages.{asked}
+use Rattle.session_ends.proofs.ListLemmas.{all-removed, map-removed, sum-less, all-from, all-set}
+use Rattle.session_ends.proofs.ListLemmas.{map-kept, map-set, sum-one, sum-set}
 
 -- lists with the same numbers
 module _ {A : Type 0} (g : A → ℕ) where

@@ -16,9 +16,10 @@ use Rattle.client_core.specs.Replies.{call_as, is_request}
 use Rattle.client_core.specs.Session.{Session, bytes_in}
 use Rattle.client_core.specs.Shown.{shown_active}
 use Rattle.client_core.proofs.OutcomeLemmas.{active-found}
-use Rattle.session_store.specs.declared.stage.Stage.TheVariants.{Connected}
-use Rattle.session_store.specs.declared.side.Side.{Side}
-use Rattle.session_store.specs.Sides.{SideKept, shown_side}
+use Rattle.session_ends.specs.declared.stage.Stage.TheVariants.{Connected}
+use Rattle.session_ends.specs.declared.side.Side.{Side}
+use Rattle.session_ends.specs.Sides.{SideKept}
+use Rattle.session_store.specs.Sides.{shown_side}
 use Rattle.session_store.proofs.EndLemmas.{calls-end}
 
 size-cases : (pool : Pool) (s : Session) (r k : ℕ) (o : Option ActiveCall) → call_as r s ≡ o

@@ -7,11 +7,11 @@ use Rattle.rpc_base.specs.declared.event.Event.{Event}
 use Rattle.rpc_laws.specs.Posting.{if_connected}
 use Rattle.rpc_laws.specs.Sessions.{is_connected as takes_calls}
 use Rattle.rpc_laws.specs.declared.tables.Client.{Client}
-use Rattle.session_store.specs.declared.stage.Stage.{Stage}
-use Rattle.session_store.specs.declared.stage.Stage.TheVariants.{Connecting, Connected, Closing}
-use Rattle.session_store.specs.declared.stage.Stage.TheVariants.{Closed, Failed, Broken}
+use Rattle.session_ends.specs.declared.stage.Stage.{Stage}
+use Rattle.session_ends.specs.declared.stage.Stage.TheVariants.{Connecting, Connected, Closing}
+use Rattle.session_ends.specs.declared.stage.Stage.TheVariants.{Closed, Failed, Broken}
 use Rattle.session_store.specs.Ends.{shown_end}
-use Rattle.session_store.specs.Stages.{is_connected}
+use Rattle.session_ends.specs.Stages.{is_connected}
 
 pub connected-stage : (stage : Stage) → is_connected stage ≡ true → stage ≡ Connected
 connected-stage (Connecting n t) e = cc

@@ -13,9 +13,10 @@ use Rattle.packet_rings.specs.Entries.{is_of}
 use Rattle.packet_rings.specs.Values.{EntryValue}
 use Rattle.client_core.specs.Posting.{IsPacketOf, call_of}
 use Rattle.server_core.specs.Session.{Session as Serving}
-use Rattle.session_store.specs.declared.side.Side.{Side}
-use Rattle.session_store.specs.Sides.{IsOf, IsOfOwner, IsOfSide, is_end}
-use Rattle.session_store.proofs.ListLemmas.{any-kept}
+use Rattle.session_ends.specs.declared.side.Side.{Side}
+use Rattle.session_store.specs.Sides.{IsOf, IsOfOwner, is_end}
+use Rattle.session_ends.specs.Sides.{IsOfSide}
+use Rattle.session_ends.proofs.ListLemmas.{any-kept}
 
 -- a client session changed, and its peer and its state didn't
 module _ (sides : List Side) (servers : List Serving) (i : ℕ) (side later : Side)

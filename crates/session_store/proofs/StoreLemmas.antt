@@ -34,23 +34,24 @@ use Rattle.server_core.specs.KeepsPool.{places as slot_places}
 use Rattle.server_core.specs.Session.{Session as Serving}
 use Rattle.server_core.specs.Shown.{shown as shown_server}
 use Rattle.session_store.specs.Changes.{BeginsAt, MayPace, MayQueue, PostsAt}
-use Rattle.session_store.specs.declared.stage.Stage.TheVariants.{Connected}
-use Rattle.session_store.specs.declared.side.Side.{Side}
-use Rattle.session_store.specs.Effects.{SideBegins, SidePosts, packet_of_entry, request_in}
+use Rattle.session_ends.specs.declared.stage.Stage.TheVariants.{Connected}
+use Rattle.session_ends.specs.declared.side.Side.{Side}
+use Rattle.session_ends.specs.Effects.{SideBegins, SidePosts}
+use Rattle.session_store.specs.Effects.{packet_of_entry, request_in}
 use Rattle.session_store.specs.Joined.{is_paced as is_queued_paced, shown_with}
-use Rattle.session_store.specs.Stages.{is_connected}
+use Rattle.session_ends.specs.Stages.{is_connected}
 use Rattle.session_store.specs.Sides.{HasPlaces, HasRoom, HasSlots, are_calls, has_calls, IsOf}
-use Rattle.session_store.specs.Sides.{Kept, MayPost, Shown, SideAscends, SideKept, SideQueued}
-use Rattle.session_store.specs.Sides.{places_in, queued_of, served_places, shown_of, shown_side}
-use Rattle.session_store.specs.Sides.{side_handed}
+use Rattle.session_store.specs.Sides.{Kept, Shown, SideAscends, SideQueued, places_in}
+use Rattle.session_store.specs.Sides.{served_places, shown_of, shown_side, side_handed}
+use Rattle.session_ends.specs.Sides.{MayPost, SideKept}
+use Rattle.session_ends.specs.Joined.{queued_of}
 use Rattle.session_store.proofs.BesideLemmas.{rest-push}
 use Rattle.session_store.proofs.EndLemmas.{Steps, ask-owner, begun-next, calls-end, next-owner}
 use Rattle.session_store.proofs.EndLemmas.{none-posted, none-same, post-next, post-steps}
 use Rattle.session_store.proofs.EndLemmas.{some-steps}
 use Rattle.session_store.proofs.KeptLemmas.{ClientActs, client-kept, client-places, clients-set}
-use Rattle.session_store.proofs.KeptLemmas.{handed-kept}
-use Rattle.session_store.proofs.KeptLemmas.{servers-same}
-use Rattle.session_store.proofs.ListLemmas.{all-from, got-same, set-own}
+use Rattle.session_store.proofs.KeptLemmas.{handed-kept, servers-same}
+use Rattle.session_ends.proofs.ListLemmas.{all-from, got-same, set-own}
 use Rattle.session_store.proofs.PostedLemmas.{begun-length, begun-spare, free-slot, posted-free}
 use Rattle.session_store.proofs.PostedLemmas.{posted-length, posted-number, posted-spare}
 use Rattle.session_store.proofs.PostedLemmas.{slot-empty}

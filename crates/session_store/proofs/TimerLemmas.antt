@@ -29,8 +29,8 @@ use Rattle.client_core.specs.Watching.{call_number, is_after}
 use Rattle.client_core.proofs.EndedLemmas.{any-found}
 use Rattle.client_core.proofs.OneCallLemmas.{least-none-of}
 use Rattle.client_core.proofs.ShownLemmas.{found-shown}
-use Rattle.session_store.specs.declared.stage.Stage.{Stage}
-use Rattle.session_store.specs.declared.stage.Stage.TheVariants.{Connected, Broken}
+use Rattle.session_ends.specs.declared.stage.Stage.{Stage}
+use Rattle.session_ends.specs.declared.stage.Stage.TheVariants.{Connected, Broken}
 use Rattle.session_store.specs.Ends.{Ascends, progress_of, shown_end}
 use Rattle.session_store.proofs.AscendsLemmas.{ascends-changed, ascends-without, few-numbered}
 use Rattle.session_store.proofs.AscendsLemmas.{least-first}

@@ -1,6 +1,6 @@
 -- What is queued, looked at as if nothing were paced.
-use Rattle.std.proofs.Common.{◌≡◌, ℕ, ◌+◌, ◌<◌, ◌≤◌, Bool, true, false, cond, Option, Some}
-use Rattle.std.proofs.Common.{None, List, [], ◌∷◌, ◌++◌, length, refl, sym, ap, ◌∙◌, arith}
+use Rattle.std.proofs.Common.{◌≡◌, ℕ, ◌+◌, ◌<◌, ◌≤◌, Bool, true, false, cond, Option, Some, None}
+use Rattle.std.proofs.Common.{List, [], ◌∷◌, ◌++◌, length, refl, sym, ap, ◌∙◌, arith}
 use Rattle.std.specs.Prelude.{IfSome, count_by, map, slice_get}
 use Rattle.std.specs.List.{AllByRecursion, list_any}
 use Rattle.std.proofs.lemmas.List.{length-append, length-map}
@@ -23,13 +23,13 @@ use Rattle.rpc_laws.specs.declared.tables.Queued.{Queued}
 use Rattle.rpc_laws.specs.GoBackN.{row_of, timer_row}
 use Rattle.rpc_laws.specs.Queues.{is_queued, is_reply, replies}
 use Rattle.server_core.specs.Session.{Session as Serving}
-use Rattle.session_store.specs.declared.side.Side.{Side}
+use Rattle.session_ends.specs.declared.side.Side.{Side}
 use Rattle.session_store.specs.Changes.{IsIdle, MayRoll, RowAt}
 use Rattle.session_store.specs.Ends.{progress_of}
-use Rattle.session_store.specs.Joined.{Paces, is_paced, joined, paced_of, queue_of, shown_with, undue}
-use Rattle.session_store.specs.Joined.{without_due}
-use Rattle.session_store.specs.Queue.{SendsFront, is_owned}
-use Rattle.session_store.specs.Sides.{Shown, queued_of, shown_of}
+use Rattle.session_ends.specs.Joined.{Paces, joined, paced_of, queue_of, is_owned, queued_of}
+use Rattle.session_store.specs.Joined.{is_paced, shown_with, undue, without_due}
+use Rattle.session_store.specs.Queue.{SendsFront}
+use Rattle.session_store.specs.Sides.{Shown, shown_of}
 
 -- the ring and the pacer are seen as the ring of both
 undue-paced : (ps : List Paced) → map without_due (map paced_of ps) ≡ map queued_of (map entry_of ps)
@@ -119,11 +119,6 @@ queue-length tx paced =
       length-map tx.items queued_of,
       length-map paced.items paced_of,
     )
-
-pub joined-length : (tx : Ring EntryValue) (paced : Wheel)
-    → length (joined tx paced).items ≡ length tx.items + length paced.items
-joined-length tx paced =
-    omega (arith, length-append tx.items (map entry_of paced.items), length-map paced.items entry_of)
 
 unpaced-ready : (xs : List EntryValue) → count_by is_paced (map queued_of xs) ≡ 0
 unpaced-ready [] = refl

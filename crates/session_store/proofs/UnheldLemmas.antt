@@ -24,7 +24,7 @@ use Rattle.packet_rings.proofs.MentionsLemmas.{mentions-cons, mentions-none, men
 use Rattle.node_laws.specs.Windows.{InWindow, Inside, Stands, Windows}
 use Rattle.pacing_wheel.specs.Wheel.{Wheel}
 use Rattle.rpc_laws.specs.Calls.{is_active}
-use Rattle.session_store.specs.Joined.{joined, queue_of}
+use Rattle.session_ends.specs.Joined.{joined, queue_of, queued_of}
 use Rattle.session_store.proofs.UndueLemmas.{queue-undue, queued-undue}
 use Rattle.rpc_laws.specs.Queues.{is_queued}
 use Rattle.rpc_laws.specs.Sessions.{is_client}
@@ -40,12 +40,11 @@ use Rattle.client_core.proofs.QueuedLemmas.{idle-call}
 use Rattle.server_core.specs.KeepsPool.{names as slot_names}
 use Rattle.server_core.specs.Replies.{request_of}
 use Rattle.server_core.specs.Session.{Session as Serving}
-use Rattle.session_store.specs.declared.side.Side.{Side}
-use Rattle.session_store.specs.Sides.{IsOf, IsOfOwner, Kept, ServerHolds, SideQueued, queued_of}
-use Rattle.session_store.specs.Sides.{shown_side}
+use Rattle.session_ends.specs.declared.side.Side.{Side}
+use Rattle.session_store.specs.Sides.{IsOf, IsOfOwner, Kept, ServerHolds, SideQueued, shown_side}
 use Rattle.session_store.proofs.EndLemmas.{calls-end, same-owners}
 use Rattle.session_store.proofs.GoneLemmas.{find-side}
-use Rattle.session_store.proofs.ListLemmas.{sum-one, sum-two}
+use Rattle.session_ends.proofs.ListLemmas.{sum-one, sum-two}
 use Rattle.session_store.proofs.ReplyGoneLemmas.{end-at, named-cases, reply-stands}
 use Rattle.session_store.proofs.StandLemmas.{of-side, owner-is}
 use Rattle.client_core.proofs.QueuedLemmas.{owner-is as ask-owner}

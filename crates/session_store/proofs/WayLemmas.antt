@@ -16,9 +16,10 @@ use Rattle.server_core.specs.Steps.{Steps, took as took_server}
 use Rattle.server_core.specs.declared.step.Step.{Step}
 use Rattle.server_core.specs.declared.step.Step.TheVariants.{Took as TookStep, Again, Ran, Give}
 use Rattle.server_core.specs.declared.step.Step.TheVariants.{Dropped as DroppedStep}
-use Rattle.session_store.specs.Effects.{ServerFinishes, ServerGone}
-use Rattle.session_store.specs.EndOrder.{EndOrder}
-use Rattle.session_store.proofs.ListLemmas.{map-kept}
+use Rattle.session_store.specs.Effects.{ServerFinishes}
+use Rattle.session_ends.specs.Effects.{ServerGone}
+use Rattle.session_ends.specs.EndOrder.{EndOrder}
+use Rattle.session_ends.proofs.ListLemmas.{map-kept}
 
 pub ends-kept : (ends : List ℕ) (servers now : List Serving)
     → map way_of now ≡ map way_of servers → EndOrder ends (map way_of servers)

@@ -23,11 +23,11 @@ use Rattle.rpc_laws.specs.PollOrder.{is_working}
 use Rattle.rpc_laws.specs.Requests.{answered, is_request}
 use Rattle.server_core.specs.Steps.{gone_on_as}
 use Rattle.node_laws.specs.QueuedPackets.{is_ask_of}
-use Rattle.session_store.specs.declared.server.ServerEnd.{ServerEnd}
-use Rattle.session_store.specs.declared.side.ClientEnd.{ClientEnd}
+use Rattle.session_ends.specs.declared.server.ServerEnd.{ServerEnd}
+use Rattle.session_ends.specs.declared.side.ClientEnd.{ClientEnd}
 use Rattle.session_store.specs.Ends.{begun_event, posted_event, progress_of, told_of}
 use Rattle.session_store.specs.Joined.{is_paced}
-use Rattle.session_store.specs.Queue.{is_owned}
+use Rattle.session_ends.specs.Joined.{is_owned}
 use Rattle.session_store.specs.Sides.{Shown}
 
 -- session i became f of what it was

@@ -1,6 +1,5 @@
 -- What a client end shows of its session, and the conditions of its calls.
-use Rattle.std.specs.Prelude.{ℕ, ◌<◌, nat_lt, ◌&&◌, Bool, true, false, Option, Some, None}
-use Rattle.std.specs.Prelude.{is_some}
+use Rattle.std.specs.Prelude.{ℕ, ◌<◌, nat_lt, ◌&&◌, Bool, true, false, Option, Some, None, is_some}
 use Rattle.std.specs.Prelude.{option_and_then, option_map, List, [], ◌∷◌}
 use Rattle.std.specs.List.{AllByRecursion, find}
 use Rattle.rpc_base.specs.declared.event.Event.{Event}
@@ -18,9 +17,18 @@ use Rattle.rpc_laws.specs.Sessions.{comes_to, no_session}
 use Rattle.rpc_laws.specs.declared.tables.Call.{Call}
 use Rattle.rpc_laws.specs.declared.tables.Client.{Client}
 use Rattle.rpc_laws.specs.declared.tables.Progress.{Progress}
-use Rattle.session_store.specs.declared.stage.Stage.{Stage}
-use Rattle.session_store.specs.declared.stage.Stage.TheVariants.{Connecting, Connected, Closing}
-use Rattle.session_store.specs.declared.stage.Stage.TheVariants.{Closed, Failed, Broken}
+use Rattle.session_ends.specs.declared.stage.Stage.{Stage}
+use Rattle.session_ends.specs.declared.stage.Stage.TheVariants.{Connecting, Connected, Closing}
+use Rattle.session_ends.specs.declared.stage.Stage.TheVariants.{Closed, Failed, Broken}
+
+-- the state of a session at a stage, which may be spent where it is Connected
+abbrev pub named : Stage → SessionState
+named (Connecting sends sent_at) = SessionState.Connecting
+named Connected = SessionState.Connected
+named (Closing sends sent_at) = SessionState.Closing
+named Closed = SessionState.Closed
+named Failed = SessionState.Failed
+named Broken = SessionState.Broken
 
 -- a session that sends requests of its own, and how many it sent
 abbrev pub asking_in : SessionState → (sends sent_at : ℕ) → Client → Client

@@ -1,6 +1,5 @@
 pub mod Changes
 pub mod Effects
-pub mod EndOrder
 pub mod Ends
 pub mod Handing
 pub mod Hearing
@@ -10,4 +9,3 @@ pub mod OwnRequests
 pub mod Queue
 pub mod Serving
 pub mod Sides
-pub mod Stages

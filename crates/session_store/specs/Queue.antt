@@ -1,8 +1,6 @@
 -- The queue of a store, as it is seen: its front, and what is sent and flushed of it.
-use Rattle.std.specs.Prelude.{ℕ, ◌≡◌, Bool, true, Option, Some, None, IfSome, List, option_map}
-use Rattle.std.specs.Prelude.{slice_get}
+use Rattle.std.specs.Prelude.{ℕ, ◌≡◌, true, Option, Some, None, IfSome, List, option_map, slice_get}
 use Rattle.std.specs.List.{find}
-use Rattle.rpc_base.specs.Owners.{same_owner}
 use Rattle.rpc_base.specs.Tables.{at_first}
 use Rattle.rpc_base.specs.declared.owner.Owner.{Owner}
 use Rattle.rpc_base.specs.declared.owner.Owner.TheVariants.{Ask, Reply, Control}
@@ -14,8 +12,9 @@ use Rattle.rpc_laws.specs.declared.tables.Queued.{Queued}
 use Rattle.rpc_laws.specs.Packets.{IsSpelled, ask_packet, reply_packet}
 use Rattle.rpc_laws.specs.Requests.{is_server}
 use Rattle.rpc_laws.specs.Sessions.{is_client, sends}
-use Rattle.session_store.specs.Joined.{is_some_due, without_due}
-use Rattle.session_store.specs.Sides.{Shown, queued_of}
+use Rattle.session_store.specs.Joined.{without_due}
+use Rattle.session_store.specs.Sides.{Shown}
+use Rattle.session_ends.specs.Joined.{is_some_due, queued_of}
 
 -- the packet of an owner, as the definitions over histories have it
 abbrev pub packet_in : Shown → Owner → ℕ → Option Outgoing
@@ -48,10 +47,3 @@ clients_sent now Control k xs = xs
 abbrev pub SendsFront : (now : ℕ) → List Queued → (old new : List Client) → Type 0
 SendsFront now queued old new =
     IfSome (slice_get queued 0) (λ q. new ≡ clients_sent now q.owner q.number old)
-
--- whether a queued packet is an owner's
-abbrev pub is_owned : Owner → Queued → Bool
-is_owned owner q = same_owner q.owner owner
-
-abbrev pub queued_number : Queued → ℕ
-queued_number q = q.number

@@ -28,7 +28,7 @@ use Rattle.server_core.specs.Steps.{IfGiven, IfReply, IsParcel, IsStepOf, NeedsN
 use Rattle.server_core.specs.Steps.{whole_with}
 use Rattle.server_core.specs.declared.step.Step.{Step}
 use Rattle.server_core.specs.declared.step.Step.TheVariants.{Took, Again, Ran, Give, Dropped}
-use Rattle.session_store.specs.Queue.{is_owned}
+use Rattle.session_ends.specs.Joined.{is_owned}
 use Rattle.session_store.specs.Joined.{put_ready}
 use Rattle.session_store.specs.Sides.{HasRoom, Shown}
 

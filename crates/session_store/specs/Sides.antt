@@ -1,9 +1,8 @@
 -- Sessions that share a pool and a transmit ring: what they show, and what always holds of them.
 -- The ring has here all that is queued, also what is paced.
-use Rattle.std.specs.Prelude.{◌≡◌, ℕ, ◌+◌, ◌*◌, ◌<◌, ◌≤◌, ◌==◌, ◌&&◌, nat_lt, Bool, true, false}
-use Rattle.std.specs.Prelude.{Option}
-use Rattle.std.specs.Prelude.{Some, None, List, [], ◌∷◌, count_by, length, map, sum_by, slice_get}
-use Rattle.std.specs.List.{AllByRecursion, find, list_any}
+use Rattle.std.specs.Prelude.{◌≡◌, ℕ, ◌+◌, ◌*◌, ◌<◌, ◌≤◌, ◌==◌, ◌&&◌, Bool, true, false, Some, List}
+use Rattle.std.specs.Prelude.{[], ◌∷◌, count_by, length, map, sum_by, slice_get}
+use Rattle.std.specs.List.{AllByRecursion, list_any}
 use Rattle.rpc_base.specs.declared.owner.Owner.{Owner}
 use Rattle.rpc_base.specs.declared.owner.Owner.TheVariants.{Ask, Reply, Control}
 use Rattle.buffer_pool.specs.Counting.{Counts}
@@ -12,58 +11,30 @@ use Rattle.packet_rings.specs.Rings.{Ring}
 use Rattle.packet_rings.specs.Values.{EntryValue}
 use Rattle.rpc_base.specs.declared.limits.TheConstants.{MOST_CREDITS, MOST_REFERENCES}
 use Rattle.rpc_laws.specs.Groups.{live_credits}
-use Rattle.rpc_laws.specs.Lives.{no_life}
-use Rattle.rpc_laws.specs.Sessions.{no_session}
 use Rattle.rpc_laws.specs.declared.tables.Call.{Call}
 use Rattle.rpc_laws.specs.declared.tables.Client.{Client}
 use Rattle.rpc_laws.specs.declared.tables.Queued.{Queued}
 use Rattle.rpc_laws.specs.declared.tables.Server.{Server}
 use Rattle.client_core.specs.Counting.{CountsQueued}
 use Rattle.client_core.specs.Handing.{Handed, handed_of}
-use Rattle.client_core.specs.KeepsPool.{CanHold, KeepsPool, names}
-use Rattle.client_core.specs.Posting.{IsPacketOf, call_of}
-use Rattle.client_core.specs.Session.{Session}
+use Rattle.client_core.specs.KeepsPool.{names}
 use Rattle.server_core.specs.Counting.{CountsQueued as CountsReplies}
 use Rattle.server_core.specs.Flushing.{HoldsAll}
-use Rattle.server_core.specs.KeepsPool.{KeepsPool as KeepsAnswers, names as slot_names}
-use Rattle.server_core.specs.KeepsPool.{places as slot_places}
-use Rattle.server_core.specs.Replies.{IsReplyTo, request_of}
+use Rattle.server_core.specs.KeepsPool.{names as slot_names, places as slot_places}
 use Rattle.server_core.specs.Session.{Session as Serving}
 use Rattle.server_core.specs.Shown.{shown as shown_server}
 use Rattle.session_store.specs.Ends.{Ascends, shown_end}
-use Rattle.session_store.specs.declared.side.Side.{Side}
-use Rattle.session_store.specs.declared.stage.Stage.{Stage}
-use Rattle.session_store.specs.declared.stage.Stage.TheVariants.{Connecting, Connected, Closing}
-use Rattle.session_store.specs.declared.stage.Stage.TheVariants.{Closed, Failed, Broken}
+use Rattle.session_ends.specs.declared.side.Side.{Side}
+use Rattle.session_ends.specs.Sides.{IsOfSide, Rises, ServerKept, SideKept, numbers_in}
+use Rattle.session_ends.specs.Joined.{queued_of}
 
 -- a client session as the definitions over histories have it
 abbrev pub shown_side : Pool → Side → Client
 shown_side pool s = shown_end s.stage pool s.peer s.session
 
--- the number of its server session, none before it is connected
-abbrev pub server_at : Stage → Session → ℕ
-server_at (Connecting sends sent_at) s = no_session
-server_at Connected s = s.server
-server_at (Closing sends sent_at) s = s.server
-server_at Closed s = s.server
-server_at Failed s = no_session
-server_at Broken s = s.server
-
--- and the life of its server, nobody's before it is connected
-abbrev pub life_at : Stage → Session → ℕ
-life_at (Connecting sends sent_at) s = no_life
-life_at Connected s = s.life
-life_at (Closing sends sent_at) s = s.life
-life_at Closed s = s.life
-life_at Failed s = no_life
-life_at Broken s = s.life
-
 -- and what was handed in with its calls
 abbrev pub side_handed : Pool → Side → List Handed
 side_handed pool s = handed_of pool s.session
-
-abbrev pub queued_of : EntryValue → Queued
-queued_of e = record { owner = e.owner; number = e.number; due = None }
 
 -- how often all client sessions name a place, and how many places they name
 abbrev pub names_in : ℕ → List Side → ℕ
@@ -124,23 +95,9 @@ no_sessions size places = record {
   places = places;
 }
 
--- the entry is a packet that a call of the connected session posted
-abbrev pub IsOfSide : EntryValue → Option Side → Type 0
-IsOfSide e None = ⊥
-IsOfSide e (Some s) =
-    (e.peer ≡ s.peer) × (s.stage ≡ Connected) × IsPacketOf (call_of s.session e) e
-
 -- whether a server session has this number and this peer
 abbrev pub is_end : (number peer : ℕ) → Serving → Bool
 is_end number peer v = v.number == number && v.peer == peer
-
--- whether a server session is the other end of a client session that a peer has in this life
-abbrev pub ends_at : (peer client life : ℕ) → Serving → Bool
-ends_at peer client life v = v.peer == peer && (v.client == client && v.life == life)
-
--- and whether it is of an older life of the peer
-abbrev pub is_of_older : (peer life : ℕ) → Serving → Bool
-is_of_older peer life v = v.peer == peer && nat_lt v.life life
 
 -- the session of an entry is there and its peer is the entry's: that of a call's packet posted it.
 -- That a reply is one of its session's is what HoldsAll says
@@ -152,29 +109,7 @@ IsOfOwner sides servers e Control = ⊥
 abbrev pub IsOf : List Side → List Serving → EntryValue → Type 0
 IsOf sides servers e = IsOfOwner sides servers e e.owner
 
--- the server session with a number has the request that the entry is a reply to
-abbrev pub has_number : ℕ → Serving → Bool
-has_number number v = v.number == number
-
-abbrev pub IsOfServer : EntryValue → Option Serving → Type 0
-IsOfServer e None = ⊥
-IsOfServer e (Some v) = IsReplyTo (request_of v e) e
-
-abbrev pub HasReply : ℕ → EntryValue → List Serving → Type 0
-HasReply number e servers = IsOfServer e (find (has_number number) servers)
-
--- numbers that rise
-abbrev pub Rises : List ℕ → Type 0
-Rises [] = Unit {0}
-Rises (n ∷ ns) = AllByRecursion (λ m. n < m) ns × Rises ns
-
-abbrev pub numbers_in : List Serving → List ℕ
-numbers_in servers = map (λ v. v.number) servers
-
--- what holds of one client session
-abbrev pub SideKept : Pool → Side → Type 0
-SideKept pool s = KeepsPool pool s.session.active
-
+-- what else holds of one client session
 abbrev pub SideQueued : List EntryValue → Side → Type 0
 SideQueued entries s = CountsQueued s.session entries
 
@@ -184,22 +119,7 @@ SideAscends pool s = Ascends (shown_side pool s).calls
 abbrev pub HasSlots : Side → Type 0
 HasSlots s = length s.session.active ≤ 8
 
--- what a session wants to post
-abbrev pub MayPost : Pool → Side → Type 0
-MayPost pool s = KeepsPool pool s.session.active × CanHold pool s.session.active
-
 -- and of one server session
-abbrev pub ServerKept : Pool → Serving → Type 0
-ServerKept pool v = KeepsAnswers pool v.slots
-
--- an entry is a reply of the server session with a number: those of all sessions rise, and the pool
--- keeps each
-pub record IsReplyThere (number : ℕ) (e : EntryValue) (pool : Pool) (servers : List Serving)
-    : Type 0 where
-  pub rises : Rises (numbers_in servers)
-  pub keeps : AllByRecursion (ServerKept pool) servers
-  pub stands : HasReply number e servers
-
 abbrev pub ServerHolds : Pool → List EntryValue → Serving → Type 0
 ServerHolds pool entries v = HoldsAll v pool entries
 

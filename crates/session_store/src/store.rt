@@ -11,8 +11,6 @@ mod servers;
 mod shares;
 mod timers;
 
-use crate::queue::Queue;
-use crate::side::Side;
 use buffer_pool::BufferPool;
 pub use control::OwnRequests;
 use memory_count::{Memory, NoMemory};
@@ -20,6 +18,7 @@ use pacing_wheel::Pacer;
 use packet_rings::TxRing;
 use rpc_base::MOST_REFERENCES;
 use server_core::ServerSession;
+use session_ends::{Queue, Side};
 use std::marker::Model;
 
 /// All sessions, one pool for the buffers of their calls and requests, and one queue for their
@@ -41,8 +40,9 @@ pub struct Store {
 }
 
 impl Model for Store {
-    ghost use Rattle.session_store.specs.EndOrder.{EndOrder};
-    ghost use Rattle.session_store.specs.Joined.{Paces, joined, shown_with};
+    ghost use Rattle.session_ends.specs.EndOrder.{EndOrder};
+    ghost use Rattle.session_ends.specs.Joined.{Paces, joined};
+    ghost use Rattle.session_store.specs.Joined.{shown_with};
     ghost use Rattle.session_store.specs.Sides.{CountsShares, HasSessionRoom, Kept, Shown};
     ghost use Rattle.session_store.specs.Sides.{shown_side};
     ghost use Rattle.server_core.specs.Shown.{shown, way_of};

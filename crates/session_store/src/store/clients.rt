@@ -25,12 +25,10 @@ ghost use Rattle.session_store.specs.Hearing.{RepliesAt};
 ghost use Rattle.session_store.specs.Joined.{put_listed};
 ghost use Rattle.session_store.specs.Leaving.{ChangesCalls, ChangesClients, ChangesQueue};
 ghost use Rattle.session_store.specs.Sides.{HasRoom};
-ghost use Rattle.session_store.specs.Stages.{named};
+ghost use Rattle.session_store.specs.Ends.{named};
 ghost use Rattle.session_store.specs.Leaving.{MakesClient};
 
 use super::Store;
-use crate::side::{Side, begin_at, enqueue_at, heard_at, post_at};
-use crate::stage::Stage;
 use client_core::{Active, ClientSession, Reply};
 use memory_count::{Memory, NoMemory};
 use packet_header::{Life, MessageHeader};
@@ -40,6 +38,7 @@ use rpc_base::{
     MOST_MESSAGE_BYTES, MOST_SESSIONS, Owner, PART_BYTES, Peer, RequestNo, SESSION_NUMBERS,
     SessionNo, SessionState,
 };
+use session_ends::{Side, Stage, begin_at, enqueue_at, heard_at, post_at};
 use session_slots::Waiting;
 
 // The state of a session at this stage, on which so many calls were asked.

@@ -12,12 +12,11 @@ ghost use Rattle.session_store.specs.OwnRequests.{CountsRequests};
 ghost use Rattle.session_store.specs.Leaving.{MakesClient};
 
 use super::Store;
-use crate::side::{ClientEnd, Side};
-use crate::stage::Stage;
 use client_core::ClientSession;
 use memory_count::{Memory, NoMemory};
 use packet_header::{FIRST_LIFE, Life};
 use rpc_base::{MOST_CREDITS, Peer, SESSION_NUMBERS, SessionNo};
+use session_ends::{ClientEnd, Side, Stage};
 
 /// The requests of its own that a client session sent.
 #[derive(Clone, Copy, Debug)]

@@ -7,9 +7,8 @@ ghost use Rattle.session_store.specs.Changes.{IsDrained};
 ghost use Rattle.session_store.specs.Leaving.{EndsServer};
 
 use super::Store;
-use crate::ends::{code_at, place_in};
-use crate::server::end_at;
 use rpc_base::Owner;
+use session_ends::{code_at, end_at, place_in};
 
 impl Store {
     /// Whose packets the replies to the newest request of a slot, 0 to 7, of the server session at

@@ -7,15 +7,15 @@ ghost use Rattle.rpc_laws.specs.Pacing.{line};
 ghost use Rattle.rpc_laws.specs.Queues.{made_ready, replies};
 ghost use Rattle.session_store.specs.Joined.{without_due};
 ghost use Rattle.session_store.specs.Leaving.{ChangesQueue, ChangesQueued};
-ghost use Rattle.session_store.specs.Queue.{IsFront, SendsFront, is_owned, queued_number};
-ghost use Rattle.session_store.specs.Sides.{queued_of};
+ghost use Rattle.session_store.specs.Queue.{IsFront, SendsFront};
+ghost use Rattle.session_ends.specs.Joined.{is_owned, queued_number, queued_of};
 
 use super::Store;
-use crate::queue::Front;
-use crate::server::{reply_at, reply_flushed_at, reply_sent_at};
-use crate::side::{flushed_at, packet_at, sent_at};
 use packet_rings::Entry;
 use rpc_base::{HEAD_BYTES, Owner, RequestNo, SessionNo};
+use session_ends::{
+    Front, flushed_at, packet_at, reply_at, reply_flushed_at, reply_sent_at, sent_at,
+};
 
 impl Store {
     /// The packet in front of the queue where it may be sent at `now`, in microseconds: it is

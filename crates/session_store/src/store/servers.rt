@@ -16,14 +16,13 @@ ghost use Rattle.session_store.specs.Changes.{IsEnd};
 ghost use Rattle.session_store.specs.Leaving.{FinishesServer, MakesServer};
 
 use super::Store;
-use crate::ends::{code_at, end_in, older_in, place_in};
-use crate::server::{ServerEnd, place_of, reply_of};
 use memory_count::{Memory, NoMemory};
 use packet_header::{Life, MessageHeader};
 use packet_rings::Entry;
 use rpc_base::{MOST_CREDITS, NodeId, Peer, SESSION_NUMBERS, SessionNo, Who};
 use rpc_outside::{Recorder, Service};
 use server_core::{ServerSession, Step};
+use session_ends::{ServerEnd, code_at, end_in, older_in, place_in, place_of, reply_of};
 use worker_board::Parcel;
 
 impl Store {

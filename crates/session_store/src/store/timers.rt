@@ -10,11 +10,10 @@ ghost use Rattle.session_store.specs.Handing.{HandsBackIf};
 ghost use Rattle.session_store.specs.Leaving.{ChangesCalls, ChangesClient, ChangesClients};
 
 use super::Store;
-use crate::side::{lose_at, roll_at, told_row};
-use crate::stage::Stage;
 use client_core::{Active, Done, Timer};
 use rpc_base::CallNo;
 use rpc_laws::TimerRow;
+use session_ends::{Stage, lose_at, roll_at, told_row};
 
 impl Store {
     /// Whether the clock of an active call of session `i` says at `now`, with this timeout, both in

@@ -3,7 +3,8 @@ use Rattle.std.specs.Prelude.{option_and_then}
 use Rattle.rpc_base.proofs.PlaceLemmas.{all-at}
 use Rattle.session_store.specs.Ends.{next_above, told_call}
 use Rattle.session_store.specs.Sides.{SideAscends}
-use Rattle.session_store.specs.Joined.{joined, undue}
+use Rattle.session_ends.specs.Joined.{joined}
+use Rattle.session_store.specs.Joined.{undue}
 use Rattle.session_store.proofs.EndLemmas.{next-end}
 use Rattle.session_store.proofs.FlushLemmas.{there-at}
 use Rattle.session_store.proofs.ReadLemmas.{read-at}

@@ -1,4 +1,5 @@
-use Rattle.session_store.specs.Joined.{joined, undue}
+use Rattle.session_ends.specs.Joined.{joined}
+use Rattle.session_store.specs.Joined.{undue}
 use Rattle.session_store.proofs.AskLemmas.{calls-ask, clients-ask, has-turns, kept-ask}
 use Rattle.session_store.proofs.UndueLemmas.{flat}
 use Rattle.std.proofs.Common.{refl, sym, ap}

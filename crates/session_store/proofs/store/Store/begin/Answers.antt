@@ -1,9 +1,9 @@
 use Rattle.std.proofs.Common.{sym, ◌∙◌}
-use Rattle.session_store.specs.Joined.{joined, undue}
+use Rattle.session_ends.specs.Joined.{joined}
+use Rattle.session_store.specs.Joined.{undue}
 use Rattle.session_store.proofs.StoreLemmas.{clients-begin, connected-at, kept-begin, servers-begin}
-use Rattle.session_store.proofs.StoreLemmas.{size-begin, two-spare}
+use Rattle.session_store.proofs.StoreLemmas.{size-begin, two-spare, handed-begin}
 use Rattle.session_store.proofs.UndueLemmas.{flat}
-use Rattle.session_store.proofs.StoreLemmas.{handed-begin}
 use Rattle.session_store.proofs.ShareLemmas.{begins-kept, clients-kept}
 use Rattle.session_store.proofs.ChangesLemmas.{changes-clients}
 use Rattle.session_store.specs.Changes.{BeginsAt}

@@ -1,10 +1,11 @@
-use Rattle.session_store.specs.Joined.{joined, undue}
+use Rattle.session_ends.specs.Joined.{joined}
+use Rattle.session_store.specs.Joined.{undue}
 use Rattle.session_store.proofs.FlushLemmas.{there-at}
 use Rattle.session_store.proofs.MovedLemmas.{moved-closed}
 use Rattle.session_store.proofs.UndueLemmas.{flat}
 use Rattle.rpc_base.specs.declared.state.SessionState.{SessionState}
 use Rattle.std.proofs.Common.{refl, ◌∙◌}
-use Rattle.session_store.specs.declared.stage.Stage.TheVariants.{Closed}
+use Rattle.session_ends.specs.declared.stage.Stage.TheVariants.{Closed}
 use Rattle.session_store.proofs.ShareLemmas.{live-in, share-ended, share-within}
 use Rattle.session_store.proofs.ChangesLemmas.{changes-clients}
 use Rattle.session_store.specs.Changes.{ChangesAt}

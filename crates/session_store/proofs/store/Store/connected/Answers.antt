@@ -1,4 +1,5 @@
-use Rattle.session_store.specs.Joined.{joined, undue}
+use Rattle.session_ends.specs.Joined.{joined}
+use Rattle.session_store.specs.Joined.{undue}
 use Rattle.session_store.proofs.FlushLemmas.{there-at}
 use Rattle.session_store.proofs.MovedLemmas.{moved-connected}
 use Rattle.session_store.proofs.UndueLemmas.{flat}

@@ -3,12 +3,12 @@ use Rattle.std.proofs.lemmas.List.{length-map}
 use Rattle.server_core.specs.Session.{Session as Serving}
 use Rattle.server_core.specs.Shown.{shown}
 use Rattle.session_store.specs.Sides.{Shown}
-use Rattle.session_store.proofs.ListLemmas.{get-there, got-same}
+use Rattle.session_ends.proofs.ListLemmas.{get-there, got-same}
 use Rattle.session_store.proofs.EndingLemmas.{ended, unheld-at}
 use Rattle.session_store.proofs.ShareLemmas.{server-ended, server-within}
 use Rattle.server_core.specs.Shown.{way_of}
-use Rattle.session_store.specs.EndOrder.{code_of}
-use Rattle.session_store.proofs.EndOrderLemmas.{end-left, end-there}
+use Rattle.session_ends.specs.EndOrder.{code_of}
+use Rattle.session_ends.proofs.EndOrderLemmas.{end-left, end-there}
 use Rattle.session_store.proofs.RoomLemmas.{room-stays}
 use Rattle.session_store.proofs.store.Store.end_server.Goals as goal
 

@@ -1,25 +1,21 @@
 use Rattle.std.proofs.Common.{subst, sym, ap, ◌∙◌}
 use Rattle.packet_rings.specs.Rings.{Ring, ring}
-use Rattle.session_store.specs.Sides.{Kept}
+use Rattle.session_store.specs.Sides.{Kept, Shown}
 use Rattle.std.specs.Prelude.{option_map}
 use Rattle.rpc_base.specs.Least.{least, without_least}
 use Rattle.rpc_base.specs.declared.owner.Owner.TheVariants.{Ask}
 use Rattle.packet_rings.specs.Entries.{is_entry}
-use Rattle.session_store.specs.Queue.{is_owned, queued_number}
-use Rattle.session_store.specs.Sides.{queued_of}
-use Rattle.session_store.specs.Joined.{joined, undue}
-use Rattle.session_store.specs.Joined.{queue_of, without_due}
+use Rattle.session_ends.specs.Joined.{is_owned, queued_number, queued_of, joined, queue_of}
+use Rattle.session_store.specs.Joined.{undue, without_due}
 use Rattle.session_store.proofs.FlushLemmas.{taken-seen, least-own, number-at}
 use Rattle.session_store.proofs.GoneLemmas.{flushed-clients, flushed-kept, flushed-places}
-use Rattle.session_store.proofs.GoneLemmas.{gone-held}
+use Rattle.session_store.proofs.GoneLemmas.{gone-held, flushed-handed}
 use Rattle.session_store.proofs.UndueLemmas.{flat}
-use Rattle.session_store.proofs.GoneLemmas.{flushed-handed}
 use Rattle.std.specs.Prelude.{map}
 use Rattle.rpc_laws.specs.Groups.{live_credits}
 use Rattle.session_store.proofs.ShareLemmas.{clients-kept}
 use Rattle.session_store.proofs.ChangesLemmas.{changes-queue, servers-released}
 use Rattle.std.proofs.Common.{◌≡◌, refl}
-use Rattle.session_store.specs.Sides.{Shown}
 use Rattle.packet_rings.specs.Values.{EntryValue}
 use Rattle.session_store.proofs.RoomLemmas.{room-stays}
 use Rattle.session_store.proofs.store.Store.flush.Goals as goal

@@ -1,11 +1,10 @@
 use Rattle.std.proofs.Common.{subst, sym, ap, ◌∙◌}
 use Rattle.packet_rings.specs.Rings.{Ring, ring}
-use Rattle.session_store.specs.Sides.{Kept}
+use Rattle.session_store.specs.Sides.{Kept, Shown}
 use Rattle.std.specs.Prelude.{option_map}
 use Rattle.rpc_base.specs.declared.owner.Owner.TheVariants.{Reply}
 use Rattle.packet_rings.specs.Entries.{is_entry}
-use Rattle.session_store.specs.Sides.{queued_of}
-use Rattle.session_store.specs.Joined.{joined}
+use Rattle.session_ends.specs.Joined.{queued_of, joined, is_owned, queued_number}
 use Rattle.session_store.proofs.FlushLemmas.{taken-seen, least-reply}
 use Rattle.session_store.proofs.ReplyGoneLemmas.{reply-clients, reply-held, reply-kept}
 use Rattle.session_store.proofs.ReplyGoneLemmas.{reply-places, reply-servers, reply-there}
@@ -14,9 +13,7 @@ use Rattle.session_store.proofs.ShareLemmas.{gone-kept, servers-kept}
 use Rattle.session_store.proofs.WayLemmas.{ends-kept, gone-ways}
 use Rattle.session_store.proofs.ChangesLemmas.{changes-queue}
 use Rattle.std.proofs.Common.{◌≡◌, refl}
-use Rattle.session_store.specs.Sides.{Shown}
 use Rattle.packet_rings.specs.Values.{EntryValue}
-use Rattle.session_store.specs.Queue.{is_owned, queued_number}
 use Rattle.rpc_base.specs.Least.{without_least}
 use Rattle.session_store.proofs.RoomLemmas.{room-stays}
 use Rattle.session_store.proofs.store.Store.flush_reply.Goals as goal

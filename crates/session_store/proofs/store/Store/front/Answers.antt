@@ -1,7 +1,7 @@
 use Rattle.std.proofs.Common.{◌≡◌, sym, ap, ◌∙◌}
 use Rattle.rpc_base.specs.declared.owner.Owner.TheVariants.{Ask, Reply}
 use Rattle.packet_rings.specs.Values.{EntryValue}
-use Rattle.session_store.specs.Joined.{joined}
+use Rattle.session_ends.specs.Joined.{joined}
 use Rattle.session_store.proofs.FrontLemmas.{fronts, no-control}
 use Rattle.session_store.proofs.GoneLemmas.{front-spells, front-stands}
 use Rattle.session_store.proofs.ReplyGoneLemmas.{end-reply, end-spells}

@@ -1,7 +1,8 @@
 use Rattle.std.proofs.Common.{◌≡◌, ◌∙◌}
 use Rattle.std.specs.List.{list_any}
 use Rattle.session_store.specs.Ends.{is_late}
-use Rattle.session_store.specs.Joined.{joined, undue}
+use Rattle.session_ends.specs.Joined.{joined}
+use Rattle.session_store.specs.Joined.{undue}
 use Rattle.session_store.proofs.EndLemmas.{late-end}
 use Rattle.session_store.proofs.FlushLemmas.{there-at}
 use Rattle.session_store.proofs.ReadLemmas.{read-at}

@@ -2,7 +2,8 @@ use Rattle.std.proofs.Common.{sym, ap, ◌∙◌}
 use Rattle.std.specs.List.{list_any}
 use Rattle.rpc_base.specs.declared.owner.Owner.TheVariants.{Ask}
 use Rattle.packet_rings.specs.Entries.{is_entry}
-use Rattle.session_store.specs.Joined.{joined, undue}
+use Rattle.session_ends.specs.Joined.{joined}
+use Rattle.session_store.specs.Joined.{undue}
 use Rattle.session_store.proofs.FlushLemmas.{number-at, there-at}
 use Rattle.session_store.proofs.UnheldLemmas.{entry-seen, idle-packet}
 use Rattle.session_store.proofs.UndueLemmas.{flat}

@@ -1,8 +1,8 @@
-use Rattle.session_store.specs.Joined.{joined, undue}
+use Rattle.session_ends.specs.Joined.{joined}
+use Rattle.session_store.specs.Joined.{undue}
 use Rattle.session_store.proofs.LoseLemmas.{lose-clients, lose-kept, lose-places, lose-servers}
-use Rattle.session_store.proofs.LoseLemmas.{lost-as, lost-broken, unheld-at}
+use Rattle.session_store.proofs.LoseLemmas.{lost-as, lost-broken, unheld-at, lose-handed}
 use Rattle.session_store.proofs.UndueLemmas.{flat, idle-undue}
-use Rattle.session_store.proofs.LoseLemmas.{lose-handed}
 use Rattle.std.proofs.Common.{sym, ap, ◌∙◌}
 use Rattle.std.specs.Prelude.{map, option_map}
 use Rattle.rpc_laws.specs.Groups.{live_credits}

@@ -1,9 +1,11 @@
-use Rattle.session_store.specs.Joined.{joined, undue}
+use Rattle.session_ends.specs.Joined.{joined}
+use Rattle.session_store.specs.Joined.{undue}
 use Rattle.session_store.proofs.FlushLemmas.{there-at}
-use Rattle.session_store.proofs.LoseLemmas.{breaks-clients, breaks-handed, breaks-kept, breaks-places}
+use Rattle.session_store.proofs.LoseLemmas.{breaks-clients, breaks-handed, breaks-kept}
+use Rattle.session_store.proofs.LoseLemmas.{breaks-places}
 use Rattle.session_store.proofs.UndueLemmas.{flat, idle-undue}
 use Rattle.std.proofs.Common.{refl, ◌∙◌}
-use Rattle.session_store.specs.declared.stage.Stage.TheVariants.{Broken}
+use Rattle.session_ends.specs.declared.stage.Stage.TheVariants.{Broken}
 use Rattle.session_store.proofs.ShareLemmas.{live-connected, share-ended, share-within}
 use Rattle.session_store.proofs.ChangesLemmas.{changes-clients}
 use Rattle.session_store.specs.Changes.{ChangesAt}

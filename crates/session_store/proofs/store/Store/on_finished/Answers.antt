@@ -3,16 +3,18 @@ use Rattle.std.specs.Prelude.{slice_set}
 use Rattle.rpc_base.proofs.PlaceLemmas.{all-at}
 use Rattle.message_buffer.specs.Buffer.{bytes_of}
 use Rattle.packet_rings.specs.Rings.{ring}
-use Rattle.session_store.specs.Joined.{joined, undue}
-use Rattle.session_store.specs.Sides.{ServerKept, Shown}
+use Rattle.session_ends.specs.Joined.{joined}
+use Rattle.session_store.specs.Joined.{undue}
+use Rattle.session_ends.specs.Sides.{ServerKept}
+use Rattle.session_store.specs.Sides.{Shown}
 use Rattle.session_store.proofs.FinishLemmas.{finish-at, finish-clients, finish-handed, finish-kept}
 use Rattle.session_store.proofs.FinishLemmas.{finish-places, finishes-at, left-at, left-handed}
 use Rattle.session_store.proofs.FinishLemmas.{left-kept, left-places}
 use Rattle.session_store.proofs.ServeLemmas.{seen-own, there-server}
 use Rattle.session_store.proofs.StoreLemmas.{ring-room, two-spare}
-use Rattle.session_store.proofs.JoinLemmas.{put-behind, queue-behind}
+use Rattle.session_ends.proofs.JoinLemmas.{put-behind, queue-behind, joined-length}
 use Rattle.session_store.proofs.PutLemmas.{kept-put}
-use Rattle.session_store.proofs.UndueLemmas.{joined-length, less-undue, flat}
+use Rattle.session_store.proofs.UndueLemmas.{less-undue, flat}
 use Rattle.session_store.proofs.ShareLemmas.{finished-kept, servers-kept}
 use Rattle.session_store.proofs.WayLemmas.{ends-kept, finished-ways}
 use Rattle.session_store.proofs.store.Store.on_finished.Goals as goal

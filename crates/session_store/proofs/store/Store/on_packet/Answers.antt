@@ -12,17 +12,19 @@ use Rattle.server_core.specs.Rows.{row_of}
 use Rattle.server_core.specs.Session.{newest}
 use Rattle.server_core.proofs.FlushLemmas.{newest-holds}
 use Rattle.server_core.proofs.QueuedLemmas.{newest-counted}
-use Rattle.session_store.specs.Joined.{joined, queue_of, undue}
-use Rattle.session_store.specs.Sides.{Kept, ServerHolds, ServerKept, ServerQueued, Shown}
+use Rattle.session_ends.specs.Joined.{joined, queue_of}
+use Rattle.session_store.specs.Joined.{undue}
+use Rattle.session_store.specs.Sides.{Kept, ServerHolds, ServerQueued, Shown}
+use Rattle.session_ends.specs.Sides.{ServerKept}
 use Rattle.session_store.proofs.HandledLemmas.{beside-step, holds-ready, paced-calls, paced-numbers}
 use Rattle.session_store.proofs.HandledLemmas.{queue-none, queue-one, queued-ready}
-use Rattle.session_store.proofs.JoinLemmas.{put-behind}
+use Rattle.session_ends.proofs.JoinLemmas.{put-behind, joined-length}
 use Rattle.session_store.proofs.PutLemmas.{kept-put}
 use Rattle.session_store.proofs.ServeLemmas.{ServerCanHold, final-none, final-one, may-hold}
 use Rattle.session_store.proofs.ServeLemmas.{new-room, newest-can, queue-by, seen-own, serve-at}
 use Rattle.session_store.proofs.ServeLemmas.{serve-kept, served-at, there-server}
 use Rattle.session_store.proofs.StoreLemmas.{ring-room, two-spare}
-use Rattle.session_store.proofs.UndueLemmas.{flat, joined-length, less-undue}
+use Rattle.session_store.proofs.UndueLemmas.{flat, less-undue}
 use Rattle.session_store.proofs.ShareLemmas.{servers-kept, step-kept, steps-credits}
 use Rattle.session_store.proofs.WayLemmas.{ends-kept, step-ways, steps-way}
 use Rattle.session_store.proofs.RoomLemmas.{room-stays}

@@ -2,18 +2,18 @@ use Rattle.std.proofs.Common.{◌≡◌, sym, ap, ◌∙◌}
 use Rattle.std.specs.List.{list_any}
 use Rattle.rpc_base.specs.declared.owner.Owner.TheVariants.{Ask}
 use Rattle.rpc_laws.specs.Queues.{is_queued}
-use Rattle.session_store.specs.declared.side.Side.{Side}
-use Rattle.session_store.specs.Joined.{joined, undue}
+use Rattle.session_ends.specs.declared.side.Side.{Side}
+use Rattle.session_ends.specs.Joined.{joined}
+use Rattle.session_store.specs.Joined.{undue}
 use Rattle.session_store.proofs.FlushLemmas.{there-at}
-use Rattle.session_store.proofs.ListLemmas.{got-same}
+use Rattle.session_ends.proofs.ListLemmas.{got-same}
 use Rattle.session_store.proofs.ReplyLemmas.{unconnected-clients, heard-clients, heard-kept}
 use Rattle.session_store.proofs.ReplyLemmas.{heard-places, heard-servers, other-clients}
 use Rattle.session_store.proofs.ReplyLemmas.{peer-differs, peer-same, seen-unheld, seen-waits}
-use Rattle.session_store.proofs.ReplyLemmas.{seen-windows}
+use Rattle.session_store.proofs.ReplyLemmas.{seen-windows, heard-handed}
 use Rattle.session_store.proofs.StageLemmas.{connected-stage}
 use Rattle.session_store.proofs.StoreLemmas.{connected-at}
 use Rattle.session_store.proofs.UndueLemmas.{flat, queued-undue, windows-undue}
-use Rattle.session_store.proofs.ReplyLemmas.{heard-handed}
 use Rattle.session_store.proofs.ShareLemmas.{clients-kept, replies-kept}
 use Rattle.session_store.proofs.ChangesLemmas.{changes-calls}
 use Rattle.session_store.specs.Hearing.{RepliesAt}

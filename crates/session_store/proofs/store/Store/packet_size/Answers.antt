@@ -4,8 +4,9 @@ use Rattle.rpc_laws.specs.Pacing.{packet_size}
 use Rattle.std.proofs.Common.{Some, ◌+◌}
 use Rattle.rpc_base.proofs.PlaceLemmas.{all-at}
 use Rattle.packet_header.specs.Parts.{part_size}
-use Rattle.session_store.specs.Joined.{joined, undue}
-use Rattle.session_store.specs.Sides.{SideKept}
+use Rattle.session_ends.specs.Joined.{joined}
+use Rattle.session_store.specs.Joined.{undue}
+use Rattle.session_ends.specs.Sides.{SideKept}
 use Rattle.session_store.proofs.FlushLemmas.{there-at}
 use Rattle.session_store.proofs.ReadLemmas.{read-at}
 use Rattle.session_store.proofs.SizeLemmas.{size-shown}

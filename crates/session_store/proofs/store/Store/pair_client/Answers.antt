@@ -1,9 +1,9 @@
 use Rattle.std.proofs.Common.{ℕ, refl, ◌≡◌, length, ap, ◌∙◌, ◌++◌, List, [], ◌∷◌, arith}
 use Rattle.std.specs.Vec.{vec_len}
 use Rattle.client_core.specs.Session.{Session, new_session}
-use Rattle.session_store.specs.declared.side.Side.{Side}
-use Rattle.session_store.specs.declared.stage.Stage.TheVariants.{Connected}
-use Rattle.session_store.specs.Joined.{joined}
+use Rattle.session_ends.specs.declared.side.Side.{Side}
+use Rattle.session_ends.specs.declared.stage.Stage.TheVariants.{Connected}
+use Rattle.session_ends.specs.Joined.{joined}
 use Rattle.session_store.proofs.AskLemmas.{kept-paired}
 use Rattle.session_store.proofs.ShareLemmas.{client-added, paired-share}
 use Rattle.session_store.proofs.store.Store.pair_client.Goals as goal

@@ -1,20 +1,18 @@
 use Rattle.std.proofs.Common.{Some, None, ap, arith, sym, ◌∙◌}
 use Rattle.std.specs.Prelude.{count_by}
 use Rattle.session_store.specs.Effects.{packet_of_entry}
-use Rattle.session_store.specs.Joined.{is_paced, joined, undue}
-use Rattle.session_store.proofs.StoreLemmas.{pace-room, queue-room}
-use Rattle.session_store.proofs.StoreLemmas.{connected-at, kept-posted, may-post}
-use Rattle.session_store.proofs.StoreLemmas.{paced-there, posted-call, posted-clients}
+use Rattle.session_store.specs.Joined.{is_paced, undue, put_listed}
+use Rattle.session_ends.specs.Joined.{joined}
+use Rattle.session_store.proofs.StoreLemmas.{pace-room, queue-room, connected-at, kept-posted}
+use Rattle.session_store.proofs.StoreLemmas.{may-post, paced-there, posted-call, posted-clients}
 use Rattle.session_store.proofs.StoreLemmas.{posted-sum, room-there, unposted-clients}
-use Rattle.session_store.proofs.StoreLemmas.{unposted-kept, unposted-sum}
+use Rattle.session_store.proofs.StoreLemmas.{unposted-kept, unposted-sum, unposted-handed}
+use Rattle.session_store.proofs.StoreLemmas.{posted-handed}
 use Rattle.session_store.proofs.PutLemmas.{kept-put}
 use Rattle.session_store.proofs.UndueLemmas.{paced-counted, room-undue, flat}
-use Rattle.session_store.proofs.StoreLemmas.{unposted-handed}
-use Rattle.session_store.proofs.StoreLemmas.{posted-handed}
 use Rattle.session_store.proofs.ShareLemmas.{clients-kept, posts-kept}
 use Rattle.session_store.proofs.ChangesLemmas.{changes-queue, servers-held}
 use Rattle.session_store.specs.Changes.{PostsAt}
-use Rattle.session_store.specs.Joined.{put_listed}
 use Rattle.std.proofs.Common.{refl}
 use Rattle.session_store.proofs.RoomLemmas.{room-stays}
 use Rattle.session_store.proofs.store.Store.post.Goals as goal

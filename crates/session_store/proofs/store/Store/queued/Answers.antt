@@ -1,5 +1,6 @@
 use Rattle.std.proofs.Common.{arith}
-use Rattle.session_store.proofs.UndueLemmas.{joined-length, queue-length}
+use Rattle.session_ends.proofs.JoinLemmas.{joined-length}
+use Rattle.session_store.proofs.UndueLemmas.{queue-length}
 use Rattle.session_store.proofs.store.Store.queued.Goals as goal
 
 pub overflow_add-result : goal.overflow_add-result

@@ -1,11 +1,11 @@
-use Rattle.session_store.specs.Joined.{joined, undue}
+use Rattle.session_ends.specs.Joined.{joined}
+use Rattle.session_store.specs.Joined.{undue}
 use Rattle.session_store.proofs.FlushLemmas.{there-at}
 use Rattle.session_store.proofs.MovedLemmas.{moved-asked, few-sends}
 use Rattle.session_store.proofs.UndueLemmas.{flat}
 use Rattle.session_store.proofs.ShareLemmas.{live-asking, share-asked}
 use Rattle.session_store.proofs.ChangesLemmas.{changes-clients}
-use Rattle.session_store.specs.Changes.{ChangesAt}
-use Rattle.session_store.specs.Changes.{sent_again}
+use Rattle.session_store.specs.Changes.{ChangesAt, sent_again}
 use Rattle.std.proofs.Common.{refl}
 use Rattle.session_store.proofs.store.Store.request_sent.Goals as goal
 

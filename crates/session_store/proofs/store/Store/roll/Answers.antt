@@ -1,8 +1,8 @@
-use Rattle.session_store.specs.Joined.{joined, undue}
+use Rattle.session_ends.specs.Joined.{joined}
+use Rattle.session_store.specs.Joined.{undue}
 use Rattle.session_store.proofs.RollLemmas.{kept-roll, places-roll, roll-active-at, roll-few-at}
-use Rattle.session_store.proofs.RollLemmas.{roll-idle-at, rolled-clients}
+use Rattle.session_store.proofs.RollLemmas.{roll-idle-at, rolled-clients, handed-roll}
 use Rattle.session_store.proofs.UndueLemmas.{flat, may-undue}
-use Rattle.session_store.proofs.RollLemmas.{handed-roll}
 use Rattle.std.proofs.Common.{sym, ap, ◌∙◌}
 use Rattle.std.specs.Prelude.{map}
 use Rattle.rpc_laws.specs.Groups.{live_credits}

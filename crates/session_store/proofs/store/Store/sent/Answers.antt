@@ -2,22 +2,20 @@ use Rattle.std.proofs.Common.{◌≡◌, false, drop, refl, sym, ap, ◌∙◌}
 use Rattle.rpc_base.specs.declared.owner.Owner.TheVariants.{Ask, Reply}
 use Rattle.packet_rings.specs.Values.{EntryValue}
 use Rattle.std.specs.Prelude.{map}
-use Rattle.session_store.specs.Queue.{clients_sent}
+use Rattle.session_store.specs.Queue.{clients_sent, SendsFront}
 use Rattle.session_store.specs.Sides.{shown_side}
-use Rattle.session_store.specs.Joined.{joined, undue}
+use Rattle.session_ends.specs.Joined.{joined}
+use Rattle.session_store.specs.Joined.{undue}
 use Rattle.session_store.proofs.FrontLemmas.{sends-seen}
-use Rattle.session_store.proofs.GoneLemmas.{sent-clients, sent-kept, sent-places}
+use Rattle.session_store.proofs.GoneLemmas.{sent-clients, sent-kept, sent-places, sent-handed}
 use Rattle.session_store.proofs.ReplyGoneLemmas.{end-reply, reply-clients, reply-kept, reply-places}
-use Rattle.session_store.proofs.ReplyGoneLemmas.{reply-servers}
+use Rattle.session_store.proofs.ReplyGoneLemmas.{reply-servers, reply-handed}
 use Rattle.session_store.proofs.StandLemmas.{front-taken}
 use Rattle.session_store.proofs.UndueLemmas.{flat, sends-undue}
-use Rattle.session_store.proofs.GoneLemmas.{sent-handed}
-use Rattle.session_store.proofs.ReplyGoneLemmas.{reply-handed}
 use Rattle.rpc_laws.specs.Groups.{live_credits}
 use Rattle.session_store.proofs.ShareLemmas.{clients-kept, gone-kept, sends-kept, servers-kept}
 use Rattle.session_store.proofs.WayLemmas.{ends-kept, gone-ways}
 use Rattle.session_store.proofs.ChangesLemmas.{changes-queue, servers-released}
-use Rattle.session_store.specs.Queue.{SendsFront}
 use Rattle.packet_rings.specs.Rings.{Ring}
 use Rattle.session_store.proofs.RoomLemmas.{room-stays}
 use Rattle.session_store.proofs.store.Store.sent.Goals as goal

@@ -1,4 +1,4 @@
-use Rattle.session_store.specs.Joined.{joined}
+use Rattle.session_ends.specs.Joined.{joined}
 use Rattle.session_store.proofs.FinishLemmas.{kept-server}
 use Rattle.std.proofs.Common.{◌≡◌, ◌≤◌, ◌+◌, ℕ, ap, arith, length, rules, sym, ◌∙◌, ◌++◌}
 use Rattle.std.proofs.Common.{List, [], ◌∷◌}
@@ -7,8 +7,8 @@ use Rattle.std.specs.List.{insert}
 use Rattle.std.specs.Vec.{vec_capacity, vec_len}
 use Rattle.server_core.specs.Session.{Session as Serving, new_session}
 use Rattle.server_core.specs.Shown.{shown, way_of}
-use Rattle.session_store.specs.EndOrder.{code_of}
-use Rattle.session_store.proofs.EndOrderLemmas.{end-added, no-more-ends}
+use Rattle.session_ends.specs.EndOrder.{code_of}
+use Rattle.session_ends.proofs.EndOrderLemmas.{end-added, no-more-ends}
 use Rattle.session_store.proofs.ShareLemmas.{server-added}
 use Rattle.session_store.specs.Sides.{Shown}
 use Rattle.session_store.proofs.store.Store.take_server.Goals as goal
