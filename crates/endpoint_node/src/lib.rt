@@ -1,6 +1,6 @@
-//! A node: the sessions of an endpoint with its rings, its inbox and its clock, and what each step
-//! of a poll and each call of an application does to them, over any service, workers, link,
-//! recorder and continuation.
+//! A node: the sessions of an endpoint with its rings, its inbox and its clock, what always holds of
+//! them, and what each call of an application does to them, over any recorder. The steps of a poll
+//! stand in the crates above.
 #![tactic(auto)]
 
 mod continuation;

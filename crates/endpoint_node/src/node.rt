@@ -2,16 +2,18 @@
 ghost use Rattle.std.specs.Prelude.{◌≡◌, ◌≤◌, [], IfOk};
 ghost use Rattle.node_steps.specs.Handed.{holding};
 ghost use Rattle.memory_count.specs.Faults.{HasCause};
+ghost use Rattle.node_laws.specs.Kept.{Kept};
 ghost use Rattle.rpc_base.specs.Limits.{Fits as InRange};
 ghost use Rattle.rpc_laws.specs.Groups.{shares};
 ghost use Rattle.rpc_laws.specs.NodeLists.{new_node};
+ghost use Rattle.session_store.specs.Handing.{AreOfCalls};
 
+mod callers;
 mod calls;
 mod delivery;
 mod due;
 mod pairs;
 mod peers;
-mod poll;
 mod rates;
 mod sessions;
 mod status;
@@ -34,29 +36,44 @@ const PLACES_OF_SESSION: u32 = 16;
 const PLACES_OF_JOB: u32 = 2;
 
 /// The lists of a node, with its sessions on one pool and one transmit ring. Contracts see them as
-/// the definitions over histories have them.
+/// the definitions over histories have them. The steps of a poll, in the crates above, work on its
+/// fields: who changes one proves that what always holds of them still does (`Fits` and `Covers` of
+/// `node_steps`, whose parts are named here). An endpoint has its node in a private field.
 pub struct Node {
-    me: NodeId,
-    life: Life,
-    known: KnownLives,
-    limits: Limits,
-    /// How many calls were accepted.
+    /// Its number. No rule speaks of it.
+    pub me: NodeId,
+    /// 1 or more: `alive`.
+    pub life: Life,
+    /// The greatest known life of each peer. No rule speaks of it.
+    pub known: KnownLives,
+    /// What it was made with. At least one job may be out: `jobs`.
+    pub limits: Limits,
+    // How many calls were accepted: as many as its sessions count, by `kept`.
     asked: u64,
-    /// How many numbers of server sessions were used.
-    server_numbers: u64,
-    counts: Counted,
-    paces: Vec<Pace>,
-    /// How many jobs were given so far.
-    given: u64,
-    /// The jobs that are out, in order of giving.
-    jobs: VecDeque<JobName>,
-    /// In microseconds.
-    clock: u64,
-    rx: RxRing,
-    inbox: Inbox,
-    store: Store,
-    /// Among them is each client session that has calls or a request of its own, so that a poll
-    /// looks at no other.
+    /// How many numbers of server sessions were used: no more than there are, by `server_numbers`.
+    /// No server session has a number that is still to come: `kept`.
+    pub server_numbers: u64,
+    /// Each stops at 2^64 - 1. No rule speaks of them.
+    pub counts: Counted,
+    /// The pace of each client session, in the place of its number: `paces` and `each`. There is
+    /// room for as many as the receive ring is long.
+    pub paces: Vec<Pace>,
+    /// How many jobs were given so far. No rule speaks of it.
+    pub given: u64,
+    /// The jobs that are out, in order of giving, by which no request may run twice: `kept`. There
+    /// is room for as many as the limit says.
+    pub jobs: VecDeque<JobName>,
+    /// In microseconds. No rule speaks of it.
+    pub clock: u64,
+    /// The receive ring. It has packets of calls, by `kept`, and `most` bounds its places.
+    pub rx: RxRing,
+    /// The control packets that wait. No rule speaks of them but the inbox's own.
+    pub inbox: Inbox,
+    /// The sessions and what they have queued, of which `kept` and the other rules speak. It has
+    /// room for the packets and the buffers that they may have: `packets` and `buffers`.
+    pub store: Store,
+    // Among them is each client session that has calls or a request of its own (`Covers`), so that
+    // a poll looks at no other.
     callers: CallingSessions,
 }
 
@@ -157,8 +174,16 @@ impl Node {
         })
     }
 
-    // The credits of its live sessions.
-    pub(crate) fn shares(&self) -> u32
+    /// What always holds of the lists of a node holds of this one's.
+    pub fn sound(&self)
+        ensures kept { Kept self.now.lists }
+        ensures handed { AreOfCalls self.now.handed self.now.lists.clients }
+    {
+        self.store.sound();
+    }
+
+    /// The credits of its live sessions.
+    pub fn shares(&self) -> u32
         ensures shares { result ≡ shares self.now.lists }
         ensures within { result ≤ self.now.lists.room }
     {

@@ -8,6 +8,8 @@ ghost use Rattle.rpc_laws.specs.Deliveries.{inbox_room};
 use crate::endpoint::Endpoint;
 use endpoint_node::{Asking, Continuation, Listening, Sending};
 use memory_count::Memory;
+use node_control::{hear_all, watch};
+use node_poll::{close, finish_all, handle_all, post_sessions, raise_clock, send_all};
 use rpc_base::{MOST_RING, SESSION_NUMBERS};
 use rpc_outside::{Failed, Link, Recorder, Service};
 use std::error::Error;
@@ -97,16 +99,21 @@ impl<V: Service, W: Workers> Endpoint<V, W> {
             (link.old ⟶ link.new) (self.old ⟶ self.new) (rec.old ⟶ rec.new) (k.old ⟶ k.new)
             (memory.old ⟶ memory.new) }
     {
-        self.node.raise_clock(now);
-        self.node.finish_all(&mut self.workers, rec);
-        let heard = self.node.hear_all(memory, link, rec);
-        let handled = self
-            .node
-            .handle_all(memory, &mut self.service, &mut self.workers, k, rec);
-        let asked = self.node.watch(link, k, rec);
-        self.node.post_sessions(rec);
-        let sent = self.node.send_all(link, rec);
-        self.node.close(rec);
+        raise_clock(&mut self.node, now);
+        finish_all(&mut self.node, &mut self.workers, rec);
+        let heard = hear_all(&mut self.node, memory, link, rec);
+        let handled = handle_all(
+            &mut self.node,
+            memory,
+            &mut self.service,
+            &mut self.workers,
+            k,
+            rec,
+        );
+        let asked = watch(&mut self.node, link, k, rec);
+        post_sessions(&mut self.node, rec);
+        let sent = send_all(&mut self.node, link, rec);
+        close(&mut self.node, rec);
         self.node.sound();
         turn_by(handled, heard, asked, sent)
     }

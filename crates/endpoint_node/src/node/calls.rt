@@ -112,6 +112,8 @@ impl Node {
           room = capacity_of resp;
         }) self.old.handed self.new.handed) }
     {
+        let _ask_fits = req.capacity();
+        let _room_fits = resp.capacity();
         let len = req.len();
         if MOST_MESSAGE_BYTES < len {
             rec.note(

@@ -20,8 +20,8 @@ pub invariant_of-self : goal.invariant_of-self
 invariant_of-self g c =
     let h = c.handle_all-handled.ensures.handles in
     let heard = c.hear_all-heard.ensures.step.rest.jobs in
-    still-serving _ _ _ (timed_of c.hear_all-heard.new.self)
-    (timed_of c.handle_all-handled.new.self) (timed_of c.close.new.self) h.gave
+    still-serving _ _ _ (timed_of c.hear_all-heard.new.node)
+    (timed_of c.handle_all-handled.new.node) (timed_of c.close.new.node) h.gave
     c.handle_all-handled.ensures.rest.founded c.self.invariant.works c.handle_all-handled.ensures.rest.served
     (c.close.ensures.rest.servers ∙ c.send_all-sent.ensures.rest.servers
     ∙ c.post_sessions.ensures.rest.servers ∙ c.watch-asked.ensures.step.rest.servers)
@@ -36,10 +36,10 @@ returns g c =
     let inside = makes-poll g.R.Recorder.log g.K.Continuation.given
     g.L.Link
     g.V.Service g.W.Workers c.self.invariant.works c.args.now (timed_of c.self.inside.node)
-    (timed_of c.finish_all.new.self) (timed_of c.hear_all-heard.new.self)
-    (timed_of c.handle_all-handled.new.self) (timed_of c.watch-asked.new.self)
-    (timed_of c.post_sessions.new.self) (timed_of c.send_all-sent.new.self)
-    (timed_of c.close.new.self) c.self.inside.workers c.finish_all.new.workers c.handle_all-handled.new.workers
+    (timed_of c.finish_all.new.node) (timed_of c.hear_all-heard.new.node)
+    (timed_of c.handle_all-handled.new.node) (timed_of c.watch-asked.new.node)
+    (timed_of c.post_sessions.new.node) (timed_of c.send_all-sent.new.node)
+    (timed_of c.close.new.node) c.self.inside.workers c.finish_all.new.workers c.handle_all-handled.new.workers
     c.self.inside.service c.handle_all-handled.new.service c.args.rec.now c.finish_all.new.rec
     c.hear_all-heard.new.rec c.handle_all-handled.new.rec c.watch-asked.new.rec
     c.post_sessions.new.rec c.send_all-sent.new.rec c.close.new.rec c.args.k.now
@@ -57,7 +57,7 @@ returns g c =
     c.close.ensures.makes (turn_of c.turn_by.result) all
     (c.close.ensures.rest.jobs ∙ c.send_all-sent.ensures.rest.jobs
     ∙ c.post_sessions.ensures.rest.jobs ∙ c.watch-asked.ensures.step.rest.jobs) c.sound.ensures.kept counted
-    c.self.inside.node.handed c.close.new.self.handed in
+    c.self.inside.node.handed c.close.new.node.handed in
     record {
       polls = rw (← c.self.view_is) inside;
       goes_on = rw (← c.self.view_is) (goes-polled g.R.Recorder.log g.K.Continuation.given
@@ -76,11 +76,11 @@ returns g c =
       handed =
           let raised = ap (λ v. v.handed) c.raise_clock.ensures in
           let before = gives-same g.K.Continuation.given c.self.inside.node.handed
-          c.hear_all-heard.new.self.handed c.args.k.now c.args.k.now
+          c.hear_all-heard.new.node.handed c.args.k.now c.args.k.now
           (c.hear_all-heard.ensures.step.rest.handed ∙ c.finish_all.ensures.step.rest.handed
           ∙ raised) refl in
-          let after = gives-same g.K.Continuation.given c.watch-asked.new.self.handed
-          c.close.new.self.handed c.watch-asked.new.k c.watch-asked.new.k
+          let after = gives-same g.K.Continuation.given c.watch-asked.new.node.handed
+          c.close.new.node.handed c.watch-asked.new.k c.watch-asked.new.k
           (c.close.ensures.rest.handed ∙ c.send_all-sent.ensures.rest.handed
           ∙ c.post_sessions.ensures.rest.handed)
           refl in
@@ -94,18 +94,18 @@ returns g c =
           omega (arith, heard, handled);
     }
   where
-    all : is_stopped (turn_of c.turn_by.result) ≡ false → line c.send_all-sent.new.self.clock
-        c.send_all-sent.new.self.lists.queued ≡ []
+    all : is_stopped (turn_of c.turn_by.result) ≡ false → line c.send_all-sent.new.node.clock
+        c.send_all-sent.new.node.lists.queued ≡ []
     all = rw c.turn_by.ensures (λ e. (turn-sent _ c.hear_all-heard.result c.watch-asked.result
         c.send_all-sent.result _ c.send_all-sent.ensures.all e).0)
 
     counted : IfSome (turn_of c.turn_by.result) (IsCounted c.hear_all-heard.result
-        c.watch-asked.result (timed_of c.hear_all-heard.new.self)
-        (timed_of c.handle_all-handled.new.self) (timed_of c.post_sessions.new.self)
-        (timed_of c.send_all-sent.new.self))
+        c.watch-asked.result (timed_of c.hear_all-heard.new.node)
+        (timed_of c.handle_all-handled.new.node) (timed_of c.post_sessions.new.node)
+        (timed_of c.send_all-sent.new.node))
     counted = rw c.turn_by.ensures (turn-counted c.handle_all-handled.result
         c.hear_all-heard.result c.watch-asked.result c.send_all-sent.result
-        (timed_of c.hear_all-heard.new.self)
-        (timed_of c.handle_all-handled.new.self) (timed_of c.post_sessions.new.self)
-        (timed_of c.send_all-sent.new.self) c.handle_all-handled.ensures.count
+        (timed_of c.hear_all-heard.new.node)
+        (timed_of c.handle_all-handled.new.node) (timed_of c.post_sessions.new.node)
+        (timed_of c.send_all-sent.new.node) c.handle_all-handled.ensures.count
         c.send_all-sent.ensures.count)

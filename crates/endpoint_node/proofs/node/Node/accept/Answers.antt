@@ -117,7 +117,8 @@ returns-clause-makes g c =
     c.self.inside.clock c.self.inside.rx c.self.inside.store
     c.ask.new.self (asking_in c.args.waiting) c.from-i.result c.self.invariant.0 place
     asked.clients asked.servers asked.queued asked.size asked.places next
-    (c.next.inside.0 + 1) number c.newest_ask.result.now c.newest_ask.ensures) few c.note.ensures)
+    (c.next.inside.0 + 1) number c.newest_ask.result.now c.newest_ask.ensures) few
+    c.capacity.ensures.most c.note.ensures)
 
 pub returns-clause-handed : goal.returns-clause-handed
 returns-clause-handed g c =

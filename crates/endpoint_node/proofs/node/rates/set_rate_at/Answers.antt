@@ -1,4 +1,4 @@
-use Rattle.session_store.proofs.ListLemmas.{get-there}
+use Rattle.session_ends.proofs.ListLemmas.{get-there}
 use Rattle.node_steps.proofs.SessionRates.{set-at}
 use Rattle.endpoint_node.proofs.node.rates.set_rate_at.Goals as goal
 
