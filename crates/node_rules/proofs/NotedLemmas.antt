@@ -1,5 +1,5 @@
 -- What is noted outside a poll is a group of its own.
-use Rattle.std.proofs.Common.{◌≡◌, ◌<◌, ℕ, Bool, true, false, not, ◌&&◌, ◌||◌, cond}
+use Rattle.std.proofs.Common.{◌≡◌, ◌<◌, ◌≤◌, ℕ, Bool, true, false, not, ◌&&◌, ◌||◌, cond}
 use Rattle.std.proofs.Common.{Option, Some, None, List, [], ◌∷◌, length, replicate, refl, sym, ap}
 use Rattle.std.proofs.Common.{◌∙◌, ◌⊎◌, subst, inl, inr, arith, ltb, leb, lit≤}
 use Rattle.std.proofs.lemmas.List.{length-replicate}
@@ -15,8 +15,8 @@ use Rattle.rpc_base.specs.declared.event.Event.TheVariants.{Rated, Worked}
 use Rattle.rpc_base.specs.declared.fact.Fact.{Fact}
 use Rattle.rpc_base.specs.declared.fact.Who.{Who}
 use Rattle.rpc_base.specs.declared.fact.Who.TheVariants.{Node}
-use Rattle.rpc_base.specs.declared.limits.TheConstants.{MOST_CREDITS, MOST_MESSAGE_BYTES}
-use Rattle.rpc_base.specs.declared.limits.TheConstants.{SESSION_NUMBERS}
+use Rattle.rpc_base.specs.declared.limits.TheConstants.{MOST_CAPACITY, MOST_CREDITS}
+use Rattle.rpc_base.specs.declared.limits.TheConstants.{MOST_MESSAGE_BYTES, SESSION_NUMBERS}
 use Rattle.rpc_base.specs.declared.state.SessionState.{SessionState}
 use Rattle.rpc_base.specs.declared.state.SessionState.TheVariants.{Unknown, Connecting, Connected}
 use Rattle.rpc_base.specs.declared.state.SessionState.TheVariants.{Closing, Closed, Failed, Broken}
@@ -46,6 +46,9 @@ alone false e = cc
 pub no-bytes : (xs : List ℕ) → (length xs == 0) ≡ true → xs ≡ []
 no-bytes [] e = refl
 no-bytes (x ∷ xs) e = let n : length (x ∷ xs) ≡ 0 = eqb-true (length (x ∷ xs)) 0 e in absurd (omega (arith, n))
+
+few-bytes : (n : ℕ) → n ≤ MOST_MESSAGE_BYTES → n ≤ MOST_CAPACITY
+few-bytes n h = omega (arith, h)
 
 credits-of : (n : ℕ) → are_credits n ≡ true → IsCredits n
 credits-of n e =
@@ -228,25 +231,40 @@ module _ (mode : ℕ → Mode) (s : Timed) where
   unrated n state first e h k = sets_rate n 0 (record { facts = rw (e, h, k) refl; goes = refl })
 
   asked : (c n y room : ℕ) (first : List ℕ) → c ≡ s.lists.asked
-      → leb (length first) MOST_MESSAGE_BYTES ≡ true → is_open (state_in n s.lists) ≡ true
-      → Grouped (Asked c n y room) first
-  asked c n y room first e h o =
-      let small : ltb MOST_MESSAGE_BYTES (length first) ≡ false =
-      le-ltb MOST_MESSAGE_BYTES (length first) (leb-true (length first) MOST_MESSAGE_BYTES h) in
+      → leb (length first) MOST_MESSAGE_BYTES ≡ true → leb room MOST_CAPACITY ≡ true
+      → is_open (state_in n s.lists) ≡ true → Grouped (Asked c n y room) first
+  asked c n y room first e h r o =
+      let few = leb-true (length first) MOST_MESSAGE_BYTES h in
+      let small = le-ltb MOST_MESSAGE_BYTES (length first) few in
       asks n y first room
-      (record { facts = rw (small, open-state (state_in n s.lists) o, e) refl; goes = refl })
+      (record {
+        facts = rw (small, open-state (state_in n s.lists) o, e) refl;
+        goes = refl;
+        ask_fits = few-bytes (length first) few;
+        room_fits = leb-true room MOST_CAPACITY r;
+      })
 
-  too-large : (n len : ℕ) (first : List ℕ) → ltb MOST_MESSAGE_BYTES len ≡ true → first ≡ []
-      → Grouped (NcallTooLarge n len) first
-  too-large n len first e k =
+  too-large : (n len : ℕ) (first : List ℕ) → ltb MOST_MESSAGE_BYTES len ≡ true
+      → leb len MOST_CAPACITY ≡ true → first ≡ [] → Grouped (NcallTooLarge n len) first
+  too-large n len first e h k =
       asks n 0 (replicate len 0) 0
-      (record { facts = rw (length-replicate {A = ℕ} len 0, e, k) refl; goes = refl })
+      (record {
+        facts = rw (length-replicate {A = ℕ} len 0, e, k) refl;
+        goes = refl;
+        ask_fits = rw (length-replicate {A = ℕ} len 0) (leb-true len MOST_CAPACITY h);
+        room_fits = omega arith;
+      })
 
   unasked : (n : ℕ) (state : SessionState) (first : List ℕ) → is_open (state_in n s.lists) ≡ false
       → state ≡ state_in n s.lists → first ≡ [] → Grouped (NcallState n state) first
   unasked n state first e h k =
       asks n 0 [] 0
-      (record { facts = rw (shut-state (state_in n s.lists) n 0 0 [] s.lists e, h, k) refl; goes = refl })
+      (record {
+        facts = rw (shut-state (state_in n s.lists) n 0 0 [] s.lists e, h, k) refl;
+        goes = refl;
+        ask_fits = omega arith;
+        room_fits = omega arith;
+      })
 
   delivered : (e : Event) (p : ℕ) (first : List ℕ) → delivery s.lists p first ≡ e → Grouped e first
   delivered e p first h = delivers p first (record { facts = rw h refl; goes = refl })
@@ -296,11 +314,16 @@ module _ (mode : ℕ → Mode) (s : Timed) where
       unrated n state first (not-true (is_live (state_in n s.lists)) parts.0)
       (same-state state (state_in n s.lists) parts.1) (no-bytes first b)
   told (Asked c n y room) first h b =
+      let fits = nat_le room MOST_CAPACITY && is_open (state_in n s.lists) in
       let parts = and_parts (c == s.lists.asked)
-      (nat_le (length first) MOST_MESSAGE_BYTES && is_open (state_in n s.lists)) (alone _ h) in
-      let rest = and_parts (nat_le (length first) MOST_MESSAGE_BYTES) (is_open (state_in n s.lists)) parts.1 in
-      asked c n y room first (eqb-true c s.lists.asked parts.0) rest.0 rest.1
-  told (NcallTooLarge n len) first h b = too-large n len first (alone _ h) (no-bytes first b)
+      (nat_le (length first) MOST_MESSAGE_BYTES && fits) (alone _ h) in
+      let rest = and_parts (nat_le (length first) MOST_MESSAGE_BYTES) fits parts.1 in
+      let last = and_parts (nat_le room MOST_CAPACITY) (is_open (state_in n s.lists)) rest.1 in
+      asked c n y room first (eqb-true c s.lists.asked parts.0) rest.0 last.0 last.1
+  told (NcallTooLarge n len) first h b =
+      let parts = and_parts (nat_lt MOST_MESSAGE_BYTES len)
+      (nat_le len MOST_CAPACITY) (alone _ h) in
+      too-large n len first parts.0 parts.1 (no-bytes first b)
   told (NcallState n state) first h b =
       let parts = and_parts (not (is_open (state_in n s.lists))) (is_state state (state_in n s.lists)) (alone _ h) in
       unasked n state first (not-true (is_open (state_in n s.lists)) parts.0)
@@ -485,16 +508,17 @@ module _ (l : Lists) where
       })
 
   noted-asked : (n y room : ℕ) (ask : List ℕ) (b : Bool) → is_open (state_in n l) ≡ b
-      → leb (length ask) MOST_MESSAGE_BYTES ≡ true
+      → leb (length ask) MOST_MESSAGE_BYTES ≡ true → leb room MOST_CAPACITY ≡ true
       → Noted (ask_by_state (state_in n l) n y room ask l)
-  noted-asked n y room ask true e h =
+  noted-asked n y room ask true e h r =
       rw (open-state (state_in n l) e) (record {
         own = refl;
-        answer = or_left _ _ (and_from _ _ (eq-eqb l.asked l.asked refl) (and_from _ _ h e));
+        answer = or_left _ _ (and_from _ _ (eq-eqb l.asked l.asked refl)
+            (and_from _ _ h (and_from _ _ r e)));
         first = refl;
         second = refl;
       })
-  noted-asked n y room ask false e h =
+  noted-asked n y room ask false e h r =
       rw (shut-state (state_in n l) n y room ask l e) (record {
         own = refl;
         answer = or_left _ _ (and_from _ _ (not_from_false (is_open (state_in n l)) e) (own-state (state_in n l)));
@@ -503,13 +527,19 @@ module _ (l : Lists) where
       })
 
   noted-ask : (n y room : ℕ) (ask : List ℕ) (b : Bool) → ltb MOST_MESSAGE_BYTES (length ask) ≡ b
-      → Noted (ask_fact n y room ask l)
-  noted-ask n y room ask true e =
-      rw e (record { own = refl; answer = or_left _ _ e; first = refl; second = refl })
-  noted-ask n y room ask false e =
+      → length ask ≤ MOST_CAPACITY → room ≤ MOST_CAPACITY → Noted (ask_fact n y room ask l)
+  noted-ask n y room ask true e h r =
+      rw e (record {
+        own = refl;
+        answer = or_left _ _ (and_from _ _ e (le-leb (length ask) MOST_CAPACITY h));
+        first = refl;
+        second = refl;
+      })
+  noted-ask n y room ask false e h r =
       let few : leb (length ask) MOST_MESSAGE_BYTES ≡ true =
       le-leb (length ask) MOST_MESSAGE_BYTES (ltb-false MOST_MESSAGE_BYTES (length ask) e) in
-      rw e (noted-asked n y room ask (is_open (state_in n l)) refl few)
+      rw e (noted-asked n y room ask (is_open (state_in n l)) refl few
+      (le-leb room MOST_CAPACITY r))
 
   noted-delivery : (p : ℕ) (bytes : List ℕ) (m c r i : Bool) → is_message bytes ≡ m → is_control bytes ≡ c
       → ltb (length l.ring) l.room ≡ r → ltb (length l.inbox) inbox_room ≡ i
@@ -544,7 +574,8 @@ group-noted mode s f r t (sets_rate n rate h) =
     (noted-rate s.lists n rate (is_live (state_in n s.lists)) refl))
 group-noted mode s f r t (asks n y ask room h) =
     inr (as-noted s.lists f _ (first-is f _ r h.facts)
-    (noted-ask s.lists n y room ask (ltb MOST_MESSAGE_BYTES (length ask)) refl))
+    (noted-ask s.lists n y room ask (ltb MOST_MESSAGE_BYTES (length ask)) refl
+    h.ask_fits h.room_fits))
 group-noted mode s f r t (delivers p bytes h) =
     inr (as-noted s.lists f _ (first-is f _ r h.facts)
     (noted-delivery s.lists p bytes (is_message bytes) (is_control bytes) (ltb (length s.lists.ring) s.lists.room)
