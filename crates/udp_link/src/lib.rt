@@ -4,6 +4,7 @@
 
 mod address;
 mod arrived;
+mod balance;
 mod buffers;
 mod fates;
 mod link;

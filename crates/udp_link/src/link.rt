@@ -5,6 +5,7 @@ ghost use Rattle.memory_count.specs.Faults.{HasCause, HasRisen};
 
 use crate::address::Address;
 use crate::arrived::Arrived;
+use crate::balance::Balance;
 use crate::buffers::enlarge;
 use crate::fates::{Fate, is_lost, is_passing};
 use crate::lives::connect_life;
@@ -64,6 +65,8 @@ pub struct UdpLink<'a, N: Net> {
     sender: Address,
     /// Whether the system just said that no datagram is there, so that it needn't be asked again.
     is_vain: bool,
+    /// Whether none is likely to be there, so that the system isn't asked.
+    balance: Balance,
     /// What failed in a call that tells of no fault shows at the next one that does.
     hidden: Option<Trouble>,
     /// What failed last.
@@ -84,6 +87,7 @@ impl<'a, N: Net> Drop for UdpLink<'a, N> {
             from: _,
             sender: _sender,
             is_vain: _,
+            balance: _,
             hidden: _,
             trouble: _,
         } = self;
@@ -135,6 +139,7 @@ impl<'a, N: Net> UdpLink<'a, N> {
             from: Peer(0),
             sender: Address::none(),
             is_vain: false,
+            balance: Balance::new(),
             hidden: None,
             trouble: None,
         }
@@ -285,6 +290,7 @@ impl<'a, N: Net> UdpLink<'a, N> {
         if let Some(life) = connect_life(&out[..len]) {
             self.peers.tell(self.from, life);
         }
+        self.balance.note_given();
         Some(len)
     }
 
@@ -373,6 +379,7 @@ impl<'a, N: Net> Link for UdpLink<'a, N> {
                 return self.fail(Trouble::NoWay);
             }
         }
+        self.balance.note_sent();
         if self.peers.most(to) > 0 {
             return Ok(Taken::Whole);
         }
@@ -392,11 +399,15 @@ impl<'a, N: Net> Link for UdpLink<'a, N> {
             self.is_vain = false;
             return Ok(Got::Nothing);
         }
+        if self.balance.is_even() {
+            return Ok(Got::Nothing);
+        }
         let Some(open) = &mut self.open else {
             return self.fail(Trouble::NoWay);
         };
         match open.came.receive(open.socket.as_raw_fd(), &mut self.sender) {
             Ok(()) => {
+                self.balance.note_one();
                 self.take_in();
                 let peer = self.from;
                 match self.give(out) {
@@ -404,7 +415,10 @@ impl<'a, N: Net> Link for UdpLink<'a, N> {
                     None => Ok(Got::Nothing),
                 }
             }
-            Err(error) if is_lost(error.kind()) || is_passing(error.kind()) => Ok(Got::Nothing),
+            Err(error) if is_lost(error.kind()) || is_passing(error.kind()) => {
+                self.balance.note_none();
+                Ok(Got::Nothing)
+            }
             Err(error) => self.fail(Trouble::NotReceived(error.kind())),
         }
     }
@@ -422,6 +436,9 @@ impl<'a, N: Net> Link for UdpLink<'a, N> {
         if let Some(open) = &self.open {
             if open.came.is_done() {
                 self.is_vain = !wait(open.socket.as_raw_fd(), micros);
+                if self.is_vain {
+                    self.balance.note_wait();
+                }
             }
         }
     }
