@@ -6,7 +6,8 @@ use Rattle.endpoint_loop.specs.declared.endpoint.poll.Turn.{Turn}
 use Rattle.node_steps.specs.Due.{RestsAt}
 use Rattle.node_steps.specs.Status.{IsQuiet}
 use Rattle.rpc_turns.specs.declared.rest.Rest.{Rest}
-use Rattle.rpc_turns.specs.declared.rest.TheConstants.{EMPTY_TURNS}
+use Rattle.rpc_turns.specs.declared.rest.TheConstants.{EMPTY_TURNS, SHORT_SLEEPS, SHORT_SLEEP}
+use Rattle.rpc_turns.specs.declared.rest.TheConstants.{LONG_SLEEP}
 use Rattle.rpc_laws.specs.declared.tables.Lists.{Lists}
 use Rattle.rpc_laws.specs.declared.tables.Timed.{Timed}
 use Rattle.rpc_outside.specs.Linking.{KeepsAddresses, NoneComes}
@@ -20,10 +21,18 @@ resting sleeps = record { sleeps = sleeps; empty = 0 }
 abbrev pub is_asleep : Rest → Bool
 is_asleep rest = rest.sleeps && nat_le EMPTY_TURNS rest.empty
 
--- a turn that did nothing is counted, and one that did something ends the count
+-- the microseconds of its longest sleep: behind 1,000 sleeps in a row it is a longer one
+abbrev pub longest_sleep : Rest → ℕ
+longest_sleep rest =
+    if nat_le (EMPTY_TURNS + SHORT_SLEEPS) rest.empty then LONG_SLEEP else SHORT_SLEEP
+
+-- a turn that did nothing is counted, up to the last of the short sleeps, and one that did something
+-- ends the count
 abbrev pub counted : (nothing : Bool) → Rest → Rest
 counted nothing rest =
-    record rest { empty = if nothing then min (rest.empty + 1) EMPTY_TURNS else 0 }
+    record rest {
+      empty = if nothing then min (rest.empty + 1) (EMPTY_TURNS + SHORT_SLEEPS) else 0;
+    }
 
 -- for so many microseconds from its clock on nothing is due at a node, and then something is, where
 -- they are fewer than were asked for, and the clock goes further

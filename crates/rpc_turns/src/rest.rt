@@ -1,7 +1,8 @@
 //! What a run does where nothing comes.
 ghost use Rattle.std.specs.Prelude.{◌≡◌, ◌≤◌, ◌↔◌, IsTrue};
 ghost use Rattle.endpoint_loop.specs.Polls.{turn_of};
-ghost use Rattle.rpc_turns.specs.Rests.{CountsIf, IsIdle, Rests, RestsFor, is_asleep, resting};
+ghost use Rattle.rpc_turns.specs.Rests.{CountsIf, IsIdle, Rests, RestsFor, is_asleep};
+ghost use Rattle.rpc_turns.specs.Rests.{longest_sleep, resting};
 
 use endpoint_loop::{Endpoint, LinkFault, Turn};
 use rpc_outside::{Link, Service};
@@ -10,15 +11,21 @@ use worker_crew::Workers;
 /// A run that may sleep does so after this many turns in a row that did nothing.
 pub const EMPTY_TURNS: u32 = 256;
 
-/// The microseconds of the longest sleep.
-pub const LONGEST_SLEEP: u32 = 1_000;
+/// So many sleeps in a row are short: a second of them at most.
+pub const SHORT_SLEEPS: u32 = 1_000;
+
+/// The microseconds of the longest of these.
+pub const SHORT_SLEEP: u32 = 1_000;
+
+/// The microseconds of the longest sleep behind them.
+pub const LONG_SLEEP: u32 = 10_000;
 
 /// What a run does where nothing comes.
 #[derive(Clone, Copy, Debug, PartialEq, Eq)]
 pub struct Rest {
     /// Whether it may sleep then.
     pub sleeps: bool,
-    /// How many turns in a row did nothing; it stops at 256.
+    /// How many turns in a row did nothing; it stops at 1,256, behind the last of the short sleeps.
     pub empty: u32,
 }
 
@@ -60,13 +67,32 @@ impl Rest {
         self.sleeps && self.empty >= EMPTY_TURNS
     }
 
+    // The microseconds of its longest sleep by its count.
+    fn longest_sleep(&self) -> u32
+        ensures { result ≡ longest_sleep self.now }
+    {
+        if self.empty >= EMPTY_TURNS + SHORT_SLEEPS {
+            LONG_SLEEP
+        } else {
+            SHORT_SLEEP
+        }
+    }
+
+    // For how many microseconds it sleeps, where it does: as long as nothing is due.
+    fn sleeps_for<V: Service, W: Workers>(&self, endpoint: &Endpoint<V, W>) -> u32
+        ensures { RestsFor endpoint.now.timed (longest_sleep self.now) result }
+    {
+        rests_for(endpoint, self.longest_sleep())
+    }
+
     /// Waits for the next datagram, where 256 turns in a row did nothing and it may sleep: as long
-    /// as nothing is due, and no longer than 1,000 microseconds.
+    /// as nothing is due, and no longer than 1,000 microseconds, or, behind 1,000 such sleeps in a
+    /// row, than 10,000.
     pub fn sleep<V: Service, W: Workers, L: Link>(&self, endpoint: &Endpoint<V, W>, link: &mut L)
         ensures { Rests L.Link (is_asleep self.now) link.old link.new }
     {
         if self.is_asleep() {
-            link.wait(rests_for(endpoint, LONGEST_SLEEP));
+            link.wait(self.sleeps_for(endpoint));
         }
     }
 
@@ -75,7 +101,7 @@ impl Rest {
         ensures { CountsIf (turn_of turned) is_quiet self.old self.new }
     {
         if is_idle(turned) && is_quiet {
-            self.empty = self.empty.saturating_add(1).min(EMPTY_TURNS);
+            self.empty = self.empty.saturating_add(1).min(EMPTY_TURNS + SHORT_SLEEPS);
         } else {
             self.empty = 0;
         }
