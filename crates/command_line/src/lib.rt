@@ -4,6 +4,7 @@
 
 mod forms;
 mod idle;
+mod near;
 mod number;
 mod row;
 mod subcommand;

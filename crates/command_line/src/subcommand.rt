@@ -4,6 +4,9 @@ ghost use Rattle.command_line.specs.Subcommands.{named};
 
 use crate::forms::{AUDIT, DRILL, LOAD, SERVE, SIM};
 
+/// The names of the subcommands.
+pub const NAMES: [&str; 5] = ["sim", "drill", "serve", "load", "audit"];
+
 /// What the program can be told to do.
 #[derive(Clone, Copy)]
 pub enum Subcommand {

@@ -2,6 +2,7 @@
 ghost use Rattle.memory_count.specs.Faults.{HasReason};
 
 use crate::forms::FORMS;
+use crate::near::{question, question_of_name};
 use crate::number::{Number, TYPES, request_type, workers_of};
 use crate::row::command_of;
 use crate::subcommand::Subcommand;
@@ -26,14 +27,11 @@ fn add(memory: &mut Memory, text: &mut String, part: &str) -> Result<(), NoMemor
     memory.of(pushed)
 }
 
-/// What `clap` says of words, in one line: its lines up to an empty one.
-fn first_paragraph(memory: &mut Memory, error: &Error) -> Result<String, NoMemory>
+/// The lines of an error of `clap` up to an empty one, in one line.
+fn first_paragraph(memory: &mut Memory, text: &str) -> Result<String, NoMemory>
     ensures cause { HasReason memory.old memory.new result }
 {
-    let text = error.to_string(memory.alloc());
-    let text = memory.of(text)?;
-    let whole = text.as_str();
-    let front = whole.strip_prefix("error: ").unwrap_or(whole);
+    let front = text.strip_prefix("error: ").unwrap_or(text);
     let mut line = String::new(memory.alloc());
     'parts: for part in front.lines().take_while(|part| !part.is_empty()) {
         if !line.is_empty() {
@@ -41,6 +39,18 @@ fn first_paragraph(memory: &mut Memory, error: &Error) -> Result<String, NoMemor
         }
         add(memory, &mut line, part.trim())?;
     }
+    Ok(line)
+}
+
+/// What `clap` says of words, and whether a near name was meant, in one line.
+fn in_one_line(memory: &mut Memory, error: &Error) -> Result<String, NoMemory>
+    ensures cause { HasReason memory.old memory.new result }
+{
+    let text = error.to_string(memory.alloc());
+    let text = memory.of(text)?;
+    let mut line = first_paragraph(memory, text.as_str())?;
+    let question = question(memory, text.as_str())?;
+    add(memory, &mut line, question.as_str())?;
     Ok(line)
 }
 
@@ -139,7 +149,7 @@ fn wrong_in(memory: &mut Memory, of: Subcommand, words: &[String]) -> Result<Str
     let command = command_of(memory, of)?;
     match command.try_get_matches_from(words) {
         Ok(matches) => wrong_value_of(memory, of, &matches),
-        Err(error) => first_paragraph(memory, &error),
+        Err(error) => in_one_line(memory, &error),
     }
 }
 
@@ -153,13 +163,14 @@ fn wrong_words(memory: &mut Memory, of: Subcommand, words: &[String]) -> Result<
     memory.of(format!(in alloc; "{wrong}; usage: {form}"))
 }
 
-/// That a word is no subcommand.
+/// That a word is no subcommand, and whether a near name was meant.
 fn wrong_name(memory: &mut Memory, name: &str) -> Result<String, NoMemory>
     ensures cause { HasReason memory.old memory.new result }
 {
+    let question = question_of_name(memory, name)?;
     let alloc = memory.alloc();
     memory.of(format!(in alloc;
-        "{name:?} is no subcommand; those are sim, drill, serve, load and audit"
+        "{name:?} is no subcommand{question}; those are sim, drill, serve, load and audit"
     ))
 }
 
