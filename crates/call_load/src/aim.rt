@@ -18,6 +18,20 @@ const TALLY_BYTES: u32 = 8;
 /// The bytes of the number that a call of type 4 or 132 asks.
 const FILL_BYTES: u32 = 4;
 
+/// So many bytes are compared at once.
+const WORD_BYTES: usize = 8;
+
+// Whether two messages are the same, word by word.
+fn are_same(one: &[u8], other: &[u8]) -> bool {
+    let (ones, one_rest) = one.as_chunks::<WORD_BYTES>();
+    let (others, other_rest) = other.as_chunks::<WORD_BYTES>();
+    if ones.len() != others.len() || one_rest != other_rest {
+        return false;
+    }
+    let mut words = ones.iter().zip(others);
+    words.all(|(a, b)| u64::from_ne_bytes(*a) == u64::from_ne_bytes(*b))
+}
+
 /// What is asked of a server that offers the plain service, and how.
 #[derive(Clone, Copy, Debug, PartialEq, Eq)]
 pub struct Aim {
@@ -81,7 +95,7 @@ impl Aim {
         match self.req_type {
             2 | 130 | 4 | 132 => answer.len() == self.size as usize,
             3 => answer.len() == TALLY_BYTES as usize,
-            _ => answer == asked,
+            _ => are_same(answer, asked),
         }
     }
 }

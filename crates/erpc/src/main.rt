@@ -33,6 +33,14 @@ fn words_of(rt: &(impl Env + AllocGlobal)) -> io::Result<Vec<String>> {
     Ok(words)
 }
 
+// A load calls one server, and hears nobody else.
+fn link_for<'a>(rt: &'a HostRuntime, words: &[String]) -> UdpLink<'a, HostRuntime> {
+    match words.first() {
+        Some(command) if command.as_str() == "load" => UdpLink::of_one(rt.alloc(), rt),
+        _ => UdpLink::new(rt.alloc(), rt),
+    }
+}
+
 // Makes the link and the recorder, and calls the top call over them and a sink.
 fn run_linked<H: Wait + Drop, S: Source, P: Spawner<Hand<PlainDuty>>>(
     rt: &HostRuntime,
@@ -44,7 +52,7 @@ fn run_linked<H: Wait + Drop, S: Source, P: Spawner<Hand<PlainDuty>>>(
 ) -> Ended
     requires none { P.hands_out spawner.old ≡ [] }
 {
-    let mut link = UdpLink::new(rt.alloc(), rt);
+    let mut link = link_for(rt, words);
     let mut record = LossRecord::new();
     let status = run(
         &mut Memory::new(rt.alloc()),

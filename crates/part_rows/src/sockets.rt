@@ -1,8 +1,8 @@
 //! Links over sockets of this machine. Each line of a file is a call of one of them, `here`,
-//! `there` or `yonder`: `bind ADDRESS`, `peer ADDRESS`, `send PEER TEXT`, `connect LIFE`, which
-//! asks peer 0 to connect, `forget PEER`, `recv`, or `await`, which receives until a datagram is
-//! there. It is told with what it answers, a datagram by what stands behind its header. A further
-//! call costs no proof.
+//! `there`, `yonder`, or `alone`, which hears only the peer that it names first: `bind ADDRESS`,
+//! `peer ADDRESS`, `send PEER TEXT`, `connect LIFE`, which asks peer 0 to connect, `forget PEER`,
+//! `recv`, or `await`, which receives until a datagram is there. It is told with what it answers, a
+//! datagram by what stands behind its header. A further call costs no proof.
 use packet_header::{ControlHeader, ControlKind, Life, MAGIC, Packet, encode};
 use rpc_base::{HEAD_BYTES, Peer, SessionNo};
 use rpc_outside::{Failed, Got, Link, MOST_LINK_BYTES};
@@ -114,6 +114,7 @@ fn call_all(
     here: &mut impl Link,
     there: &mut impl Link,
     yonder: &mut impl Link,
+    alone: &mut impl Link,
     calls: &str,
 ) -> io::Result<()> {
     for line in calls.lines() {
@@ -122,16 +123,18 @@ fn call_all(
             Some(("here", step)) => call(rt, here, step)?,
             Some(("there", step)) => call(rt, there, step)?,
             Some(("yonder", step)) => call(rt, yonder, step)?,
+            Some(("alone", step)) => call(rt, alone, step)?,
             _ => println!(rt; "no such link")?,
         }
     }
     Ok(())
 }
 
-/// Makes three links, and tells what these calls answer.
+/// Makes four links, and tells what these calls answer.
 pub fn drive<R: Print + Net>(rt: &R, alloc: Global, calls: &str) -> io::Result<()> {
     let mut here = UdpLink::new(alloc, rt);
     let mut there = UdpLink::new(alloc, rt);
     let mut yonder = UdpLink::new(alloc, rt);
-    call_all(rt, &mut here, &mut there, &mut yonder, calls)
+    let mut alone = UdpLink::of_one(alloc, rt);
+    call_all(rt, &mut here, &mut there, &mut yonder, &mut alone, calls)
 }

@@ -46,7 +46,8 @@ fn over_sockets(rt: &HostRuntime, options: &Options) -> Result<Tally, Fault> {
     let aim = options.aim()?;
     let mut memory = Memory::new(rt.alloc());
     let caller = Caller::new(&mut memory, aim)?;
-    let mut run = Run::new(memory, caller, UdpLink::new(rt.alloc(), rt), Elsewhere, rt);
+    let link = UdpLink::of_one(rt.alloc(), rt);
+    let mut run = Run::new(memory, caller, link, Elsewhere, rt);
     run.go(rt, options)
 }
 

@@ -10,7 +10,7 @@ use crate::buffers::enlarge;
 use crate::fates::{Fate, is_lost, is_passing};
 use crate::lives::connect_life;
 use crate::peers::Peers;
-use crate::socket::{send, wait};
+use crate::socket::{hear_only, send, wait};
 use crate::trouble::Trouble;
 use memory_count::{Memory, NoMemory};
 use packet_frames::{Frame, is_frame, next_packet};
@@ -20,6 +20,17 @@ use rpc_outside::{Failed, Got, Link, MOST_LINK_BYTES, Taken};
 use std::alloc::Global;
 use std::net::{Net, SocketAddr, UdpSocket};
 use std::os::fd::AsRawFd;
+
+/// Whom a link hears.
+#[derive(Clone, Copy, Debug, PartialEq, Eq)]
+enum Hears {
+    /// Whoever sends to it.
+    Anybody,
+    /// The peer that is named next, and nobody else from then on.
+    NextNamed,
+    /// The peer that was named first.
+    FirstNamed,
+}
 
 /// A bound socket, the packets that wait to be handed over to it, and the datagram that came last.
 #[derive(Drop)]
@@ -58,6 +69,7 @@ pub struct UdpLink<'a, N: Net> {
     peers: Peers,
     faults: u64,
     busies: u64,
+    hears: Hears,
     /// Whose packets are in the frame.
     to: Peer,
     /// Whose datagram came last, and the address that it came from.
@@ -83,6 +95,7 @@ impl<'a, N: Net> Drop for UdpLink<'a, N> {
             peers: _peers,
             faults: _,
             busies: _,
+            hears: _,
             to: _,
             from: _,
             sender: _sender,
@@ -128,6 +141,22 @@ impl<'a, N: Net> UdpLink<'a, N> {
         ensures faults { result.faults ≡ 0 }
         ensures busies { result.busies ≡ 0 }
     {
+        UdpLink::hearing(alloc, net, Hears::Anybody)
+    }
+
+    /// The same for who calls one peer alone: from when it is bound and names a peer it hears
+    /// nobody but the first that it named. Each datagram there and back costs the system less so.
+    pub fn of_one(alloc: Global, net: &'a N) -> UdpLink<'a, N>
+        ensures faults { result.faults ≡ 0 }
+        ensures busies { result.busies ≡ 0 }
+    {
+        UdpLink::hearing(alloc, net, Hears::NextNamed)
+    }
+
+    fn hearing(alloc: Global, net: &'a N, hears: Hears) -> UdpLink<'a, N>
+        ensures faults { result.faults ≡ 0 }
+        ensures busies { result.busies ≡ 0 }
+    {
         UdpLink {
             net,
             memory: Memory::new(alloc),
@@ -135,6 +164,7 @@ impl<'a, N: Net> UdpLink<'a, N> {
             peers: Peers::new(alloc),
             faults: 0,
             busies: 0,
+            hears,
             to: Peer(0),
             from: Peer(0),
             sender: Address::none(),
@@ -178,6 +208,20 @@ impl<'a, N: Net> UdpLink<'a, N> {
         };
         self.hidden = None;
         self.fail(trouble)
+    }
+
+    // Hears nobody else from now on, where this peer is the first that a link of one names.
+    fn hear(&mut self, peer: Peer)
+        ensures faults { self.new.faults ≡ self.old.faults }
+        ensures busies { self.new.busies ≡ self.old.busies }
+    {
+        if self.hears != Hears::NextNamed {
+            return;
+        }
+        if let (Some(open), Some(address)) = (&self.open, self.peers.address(peer)) {
+            hear_only(open.socket.as_raw_fd(), address);
+            self.hears = Hears::FirstNamed;
+        }
     }
 
     // A packet wasn't taken.
@@ -356,7 +400,10 @@ impl<'a, N: Net> Link for UdpLink<'a, N> {
             return self.fail(Trouble::NoPeerAddress);
         };
         match self.peers.named(&mut self.memory, &Address::of(addr)) {
-            Some(peer) => Ok(peer),
+            Some(peer) => {
+                self.hear(peer);
+                Ok(peer)
+            }
             None => self.fail(Trouble::NoNumber(addr)),
         }
     }

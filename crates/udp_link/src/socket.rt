@@ -3,7 +3,7 @@ ghost use Rattle.std.specs.Prelude.{◌≤◌, length, IfOk};
 
 use crate::address::Address;
 use libc::nanosleep;
-use libc::net::{_SS_SIZE, MSG_NOSIGNAL, POLLIN, poll, recvfrom, sendto};
+use libc::net::{_SS_SIZE, MSG_NOSIGNAL, POLLIN, connect, poll, recvfrom, sendto};
 use libc::types::{pollfd, timespec};
 use std::io::{self, Error};
 
@@ -18,6 +18,12 @@ const NAP: u32 = 100;
 
 fn last_error() -> Error {
     Error::from_raw_os_error(os::errno())
+}
+
+/// From now on the socket hears this address alone, and the system keeps the way there. Where it
+/// doesn't grant that all goes on as it was: no fault.
+pub fn hear_only(fd: i32, address: &Address) {
+    let _status = unsafe { connect(fd, &address.bytes, address.len) };
 }
 
 /// Sends one datagram.
