@@ -67,7 +67,7 @@ fn over_two_sockets(rt: &HostRuntime, options: &Options) -> Result<Tally, Fault>
     let mut memory = Memory::new(rt.alloc());
     let server = Server::new(&mut memory, link)?;
     let caller = Caller::new(&mut memory, aim)?;
-    let mut run = Run::new(memory, caller, UdpLink::new(rt.alloc(), rt), server, rt);
+    let mut run = Run::new(memory, caller, UdpLink::of_one(rt.alloc(), rt), server, rt);
     run.go(rt, options)
 }
 
